@@ -1,0 +1,317 @@
+-- What one call does, from the ending that it takes.
+use Rattle.std.proofs.Common.{◌≡◌, ◌≢◌, ℕ, ◌+◌, ◌≤◌, Bool, true, false, cond, eqb, List, [], ◌∷◌, ◌++◌, length, refl, sym, ap, ◌∙◌, subst, arith, Option, Some, None, Result, Ok, Err, ◌⊎◌, inl, inr, eqb-true, eq-eqb}
+use Rattle.std.proofs.lemmas.Bool.{cases_Bool, eqb-false}
+use Rattle.std.proofs.lemmas.Bool.Decides.{nat_tests}
+use Rattle.std.proofs.lemmas.List.{length_push, append-nil}
+use Rattle.pfr_flash.specs.Operation.{Operation, play, torn_by}
+use Rattle.pfr_flash.specs.FlashState.{FlashState, Due, op_count_of, now, size_of, raised_by, Ending, Off, Full, Cut, Broken, Done, due_at, due_after, ending, with_op, after, after_ending, answer, answer_at}
+use Rattle.pfr_flash.specs.Moved.{IsWhole, IsTornAt, passed, was_done, meets, tear_of_fault, ReadFaulted, FaultCause, none, at_operation, at_read, no_room, Worked}
+use Rattle.pfr_flash.specs.Flash.{Does, Reads, with_taken}
+use Rattle.pfr_flash.specs.declared.flash.FlashFail.{FlashFail}
+use Rattle.pfr_flash.specs.declared.flash.FlashFail.TheVariants.{Fault, Lost}
+use Rattle.pfr_flash.proofs.EndingLemmas.{EndingOf, is_off, is_full, is_cut, is_broken, is_done, ending_of}
+use Rattle.pfr_flash.proofs.TearLemmas.{FitsIn, torn_by-torn}
+use Rattle.pfr_flash.proofs.PlayLemmas.{length-play}
+
+-- no operation, no arm done
+pub passed_same : (n : ℕ) (due : Option Due) → passed n n due ≡ false
+passed_same n None = refl
+passed_same n (Some due) = grind (arith, nat_tests)
+
+pub passed_one_none : (n : ℕ) (due : Option Due) → due_at (n + 1) due ≡ None → passed n (n + 1) due ≡ false
+passed_one_none n None h = refl
+passed_one_none n (Some due) h = passed_one-cases (cases_Bool (eqb due.number (n + 1)))
+  where
+    passed_one-cases : ((eqb due.number (n + 1) ≡ true) ⊎ (eqb due.number (n + 1) ≡ false)) → passed n (n + 1) (Some due) ≡ false
+    passed_one-cases (inl same) = let t = rw same at h in cc
+    passed_one-cases (inr other) = let ne = eqb-false due.number (n + 1) other in grind (arith, nat_tests)
+
+pub passed_one_some : (n : ℕ) (tear : List ℕ) → passed n (n + 1) (Some (record { number = n + 1; tear = tear })) ≡ true
+passed_one_some n tear = grind (arith, nat_tests)
+
+-- a call that does no operation
+pub worked_still : (old : FlashState) (faults taken : ℕ) (read_due : Bool) → old.faults ≤ faults → old.taken ≤ taken
+    → ((read_due ≡ old.read_due) ⊎ ReadFaulted old (record old { faults = faults; taken = taken; read_due = read_due }))
+    → FaultCause old (record old { faults = faults; taken = taken; read_due = read_due })
+    → (old.powered ≡ false → (faults ≡ old.faults) × (read_due ≡ old.read_due))
+    → Worked old (record old { faults = faults; taken = taken; read_due = read_due })
+worked_still old faults taken read_due f t due cause off = record {
+  moved = record {
+    start = refl;
+    ops = record { more = []; is = sym (append-nil old.ops) };
+    full = λ _. refl;
+    arms = refl;
+    room = refl;
+    cut_due = rw passed_same refl;
+    cut_torn = λ cut is done. absurd (let e = passed_same (op_count_of old) old.cut_due in cc);
+    fault_due = rw passed_same refl;
+    fault_torn = λ fault is done. absurd (let e = passed_same (op_count_of old) old.fault_due in cc);
+    read_due = due;
+    losses = rw passed_same refl;
+    faults = f;
+    fault_counted = λ done. absurd (let e = passed_same (op_count_of old) old.fault_due in cc);
+    fault_cause = cause;
+  };
+  powered = rw passed_same refl;
+  taken = t;
+  off = λ h. rw ((off h).0, (off h).1) refl;
+}
+
+-- a call that does its operation
+pub worked_done : (old : FlashState) (op : Operation) → old.powered ≡ true → op_count_of old ≢ old.room
+    → due_at (op_count_of old + 1) old.cut_due ≡ None → due_at (op_count_of old + 1) old.fault_due ≡ None → Worked old (with_op old op)
+worked_done old op on room c f =
+    let n = op_count_of old in
+    let cut : was_done old (with_op old op) old.cut_due ≡ false = rw length_push (passed_one_none n old.cut_due c) in
+    let fault : was_done old (with_op old op) old.fault_due ≡ false = rw length_push (passed_one_none n old.fault_due f) in
+    record {
+      moved = record {
+        start = refl;
+        ops = record { more = op ∷ []; is = refl };
+        full = λ e. absurd (room e);
+        arms = refl;
+        room = refl;
+        cut_due = rw cut refl;
+        cut_torn = λ d is done. absurd cc;
+        fault_due = rw fault refl;
+        fault_torn = λ d is done. absurd cc;
+        read_due = inl refl;
+        losses = rw cut refl;
+        faults = omega arith;
+        fault_counted = λ done. absurd cc;
+        fault_cause = none refl;
+      };
+      powered = rw cut refl;
+      taken = omega arith;
+      off = λ h. absurd cc;
+    }
+
+-- the last operation was torn by this tear
+torn_last : (old new : FlashState) (op : Operation) (tear : List ℕ) → IsWhole op → new.start ≡ old.start
+    → new.ops ≡ old.ops ++ torn_by tear (now old) op ∷ [] → IsTornAt new (op_count_of old + 1) tear
+torn_last old new op tear whole start is = record {
+  before = old.ops;
+  asked = op;
+  rest = [];
+  whole = whole;
+  place = refl;
+  is = is ∙ ap (λ (first : List ℕ). old.ops ++ torn_by tear (play first old.ops) op ∷ []) (sym start);
+}
+
+-- what is left of a fault's arm once an operation is done
+passed_left : (n : ℕ) (due : Option Due) → due_after (n + 1) due ≡ cond (passed n (n + 1) due) None due
+passed_left n None = refl
+passed_left n (Some due) = passed_left-cases (cases_Bool (eqb due.number (n + 1)))
+  where
+    passed_left-cases : ((eqb due.number (n + 1) ≡ true) ⊎ (eqb due.number (n + 1) ≡ false)) → due_after (n + 1) (Some due) ≡ cond (passed n (n + 1) (Some due)) None (Some due)
+    passed_left-cases (inl same) =
+        let e = eqb-true due.number (n + 1) same in
+        let p : passed n (n + 1) (Some due) ≡ true = grind (arith, nat_tests) in
+        rw (same, p) refl
+    passed_left-cases (inr other) =
+        let ne = eqb-false due.number (n + 1) other in
+        let p : passed n (n + 1) (Some due) ≡ false = grind (arith, nat_tests) in
+        rw (other, p) refl
+
+-- a fault whose operation is done next is due at the next number
+passed_number : (n : ℕ) (due : Due) → passed n (n + 1) (Some due) ≡ true → due.number ≡ n + 1
+passed_number n due h = grind (arith, nat_tests)
+
+-- where the cut's operation is the fault's, the tear is the cut's
+tear_meets : (n : ℕ) (tear : List ℕ) (fault : Due) → fault.number ≡ n → tear_of_fault (Some (record { number = n; tear = tear })) fault ≡ tear
+tear_meets n tear fault h = let e = eq-eqb n fault.number (sym h) in rw e refl
+
+meets_next : (n : ℕ) (tear : List ℕ) (fault : Option Due) → passed n (n + 1) fault ≡ true → meets (Some (record { number = n + 1; tear = tear })) fault ≡ true
+meets_next n tear None h = cc
+meets_next n tear (Some fault) h = eq-eqb (n + 1) fault.number (sym (passed_number n fault h))
+
+-- and otherwise the fault's
+tear_apart : (cut : Option Due) (fault : Due) → due_at fault.number cut ≡ None → tear_of_fault cut fault ≡ fault.tear
+tear_apart None fault h = refl
+tear_apart (Some cut) fault h = tear_apart-cases (cases_Bool (eqb cut.number fault.number))
+  where
+    tear_apart-cases : ((eqb cut.number fault.number ≡ true) ⊎ (eqb cut.number fault.number ≡ false)) → tear_of_fault (Some cut) fault ≡ fault.tear
+    tear_apart-cases (inl same) = let t = rw same at h in cc
+    tear_apart-cases (inr other) = rw other refl
+
+meets_apart : (cut : Option Due) (fault : Due) → due_at fault.number cut ≡ None → meets cut (Some fault) ≡ false
+meets_apart None fault h = refl
+meets_apart (Some cut) fault h = meets_apart-cases (cases_Bool (eqb cut.number fault.number))
+  where
+    meets_apart-cases : ((eqb cut.number fault.number ≡ true) ⊎ (eqb cut.number fault.number ≡ false)) → meets (Some cut) (Some fault) ≡ false
+    meets_apart-cases (inl same) = let t = rw same at h in cc
+    meets_apart-cases (inr other) = other
+
+-- a call that a cut tears
+pub worked_cut : (old : FlashState) (op : Operation) (tear : List ℕ) → IsWhole op → old.powered ≡ true → op_count_of old ≢ old.room
+    → old.cut_due ≡ Some (record { number = op_count_of old + 1; tear = tear }) → Worked old (after_ending op old (Cut tear))
+worked_cut old op tear whole on room c =
+    let n = op_count_of old in
+    let new = after_ending op old (Cut tear) in
+    let due : Due = record { number = n + 1; tear = tear } in
+    let cut : was_done old new old.cut_due ≡ true = rw (length_push, c) (passed_one_some n tear) in
+    let left : new.fault_due ≡ cond (was_done old new old.fault_due) None old.fault_due = rw length_push (passed_left n old.fault_due) in
+    let torn = torn_last old new op tear whole refl refl in
+    record {
+      moved = record {
+        start = refl;
+        ops = record { more = torn_by tear (now old) op ∷ []; is = refl };
+        full = λ e. absurd (room e);
+        arms = refl;
+        room = refl;
+        cut_due = rw cut refl;
+        cut_torn = λ d is done.
+            let same : due ≡ d = cc in
+            subst (λ (x : Due). IsTornAt new x.number x.tear) same torn;
+        fault_due = left;
+        fault_torn = λ d is done.
+            let number : d.number ≡ n + 1 = passed_number n d (rw (length_push, is) at done) in
+            let by : tear_of_fault old.cut_due d ≡ tear = rw c (tear_meets (n + 1) tear d number) in
+            subst (λ (t : List ℕ). IsTornAt new d.number t) (sym by) (subst (λ (k : ℕ). IsTornAt new k tear) (sym number) torn);
+        read_due = inl refl;
+        losses = rw cut refl;
+        faults = omega arith;
+        fault_counted = λ done apart. absurd (
+            let together : meets old.cut_due old.fault_due ≡ true = rw c (meets_next n tear old.fault_due (rw length_push at done)) in
+            cc);
+        fault_cause = none refl;
+      };
+      powered = rw cut refl;
+      taken = omega arith;
+      off = λ h. absurd cc;
+    }
+
+-- a call that a fault tears
+pub worked_broken : (old : FlashState) (op : Operation) (tear : List ℕ) → IsWhole op → old.powered ≡ true → op_count_of old ≢ old.room
+    → due_at (op_count_of old + 1) old.cut_due ≡ None
+    → old.fault_due ≡ Some (record { number = op_count_of old + 1; tear = tear }) → Worked old (after_ending op old (Broken tear))
+worked_broken old op tear whole on room c f =
+    let n = op_count_of old in
+    let new = after_ending op old (Broken tear) in
+    let cut : was_done old new old.cut_due ≡ false = rw length_push (passed_one_none n old.cut_due c) in
+    let fault : was_done old new old.fault_due ≡ true = rw (length_push, f) (passed_one_some n tear) in
+    let due : Due = record { number = n + 1; tear = tear } in
+    let torn = torn_last old new op tear whole refl refl in
+    record {
+      moved = record {
+        start = refl;
+        ops = record { more = torn_by tear (now old) op ∷ []; is = refl };
+        full = λ e. absurd (room e);
+        arms = refl;
+        room = refl;
+        cut_due = rw cut refl;
+        cut_torn = λ d is done. absurd cc;
+        fault_due = rw fault refl;
+        fault_torn = λ d is done.
+            let same : due ≡ d = cc in
+            let by : tear_of_fault old.cut_due due ≡ tear = tear_apart old.cut_due due c in
+            subst (λ (x : Due). IsTornAt new x.number (tear_of_fault old.cut_due x)) same (rw by torn);
+        read_due = inl refl;
+        losses = rw cut refl;
+        faults = omega arith;
+        fault_counted = λ done apart. omega arith;
+        fault_cause = at_operation fault (rw f (meets_apart old.cut_due due c));
+      };
+      powered = rw cut refl;
+      taken = omega arith;
+      off = λ h. absurd cc;
+    }
+
+-- ---- an erase or a program
+fits_now : (old : FlashState) (op : Operation) → FitsIn (size_of old) op → FitsIn (length (now old)) op
+fits_now old op h = subst (λ (n : ℕ). FitsIn n op) (sym (length-play old.start old.ops)) h
+
+does_at : (op : Operation) (old : FlashState) (t : Ending) → EndingOf old t → IsWhole op → FitsIn (size_of old) op
+    → after op old ≡ after_ending op old t → answer old ≡ answer_at t → Does op old (after_ending op old t) (answer_at t)
+does_at op old Off (is_off off) whole fits a r = record {
+  leaves = sym a;
+  answers = sym r;
+  ok = tt;
+  err = inl refl;
+  fault = λ h. cc;
+  lost = (λ _. off, λ _. refl);
+  worked = worked_still old old.faults old.taken old.read_due (omega arith) (omega arith) (inl refl) (none refl) (λ _. (refl, refl));
+}
+does_at op old Full (is_full on full) whole fits a r = record {
+  leaves = sym a;
+  answers = sym r;
+  ok = tt;
+  err = inl refl;
+  fault = λ h. omega arith;
+  lost = (λ h. cc, λ h. cc);
+  worked = worked_still old (raised_by old.faults 1) old.taken old.read_due (omega arith) (omega arith) (inl refl) (no_room full) (λ off. absurd cc);
+}
+does_at op old (Cut tear) (is_cut on room c) whole fits a r = record {
+  leaves = sym a;
+  answers = sym r;
+  ok = tt;
+  err = inr (record { done = torn_by tear (now old) op; torn = torn_by-torn (now old) tear op (fits_now old op fits); is = refl });
+  fault = λ h. cc;
+  lost = (λ _. refl, λ _. refl);
+  worked = worked_cut old op tear whole on room c;
+}
+does_at op old (Broken tear) (is_broken on room c f) whole fits a r = record {
+  leaves = sym a;
+  answers = sym r;
+  ok = tt;
+  err = inr (record { done = torn_by tear (now old) op; torn = torn_by-torn (now old) tear op (fits_now old op fits); is = refl });
+  fault = λ h. omega arith;
+  lost = (λ h. cc, λ h. cc);
+  worked = worked_broken old op tear whole on room c f;
+}
+does_at op old Done (is_done on room c f) whole fits a r = record {
+  leaves = sym a;
+  answers = sym r;
+  ok = refl;
+  err = tt;
+  fault = λ h. cc;
+  lost = (λ h. cc, λ h. cc);
+  worked = worked_done old op on room c f;
+}
+
+-- what an implementation shows: what it leaves and what it answers
+pub does : (op : Operation) (old new : FlashState) (result : Result (Unit {0}) FlashFail) → IsWhole op → FitsIn (size_of old) op
+    → new ≡ after_ending op old (ending old) → result ≡ answer_at (ending old) → Does op old new result
+unfolding after answer
+does op old new result whole fits n r =
+    rw (n, r) (does_at op old (ending old) (ending_of old) whole fits refl refl)
+
+-- ---- a read
+pub reads_ok : (old : FlashState) (count : ℕ) → old.powered ≡ true → Reads count old (with_taken old count) (Ok tt)
+reads_ok old count on = record {
+  ok = refl;
+  off = λ h. cc;
+  ops = refl;
+  due = λ h. cc;
+  failed = λ h. cc;
+  fault = λ h. cc;
+  lost = (λ h. cc, λ h. cc);
+  worked = worked_still old old.faults (raised_by old.taken count) old.read_due (omega arith) (omega arith) (inl refl) (none refl) (λ _. (refl, refl));
+}
+
+pub reads_lost : (old : FlashState) (count : ℕ) → old.powered ≡ false → Reads count old (with_taken old count) (Err Lost)
+reads_lost old count off = record {
+  ok = tt;
+  off = λ _. refl;
+  ops = refl;
+  due = λ h. cc;
+  failed = λ h. cc;
+  fault = λ h. cc;
+  lost = (λ _. off, λ _. refl);
+  worked = worked_still old old.faults (raised_by old.taken count) old.read_due (omega arith) (omega arith) (inl refl) (none refl) (λ _. (refl, refl));
+}
+
+pub reads_fault : (old : FlashState) (count : ℕ) → old.powered ≡ true → old.read_due ≡ true
+    → Reads count old (record (with_taken old count) { read_due = false; faults = raised_by old.faults 1 }) (Err Fault)
+reads_fault old count on due =
+    let faulted : ReadFaulted old (record (with_taken old count) { read_due = false; faults = raised_by old.faults 1 }) = record { was = due; is = refl; counted = omega arith } in
+    record {
+      ok = tt;
+      off = λ h. cc;
+      ops = refl;
+      due = λ _. due;
+      failed = λ _. refl;
+      fault = λ _. omega arith;
+      lost = (λ h. cc, λ h. cc);
+      worked = worked_still old (raised_by old.faults 1) (raised_by old.taken count) false (omega arith) (omega arith) (inr faulted) (at_read faulted) (λ off. absurd cc);
+    }

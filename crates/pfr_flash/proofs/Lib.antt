@@ -1,0 +1,12 @@
+pub mod BytesLemmas
+pub mod PlayLemmas
+pub mod CellsLemmas
+pub mod EndingLemmas
+pub mod TearLemmas
+pub mod DoesLemmas
+pub mod MemLemmas
+pub mod MovedLemmas
+pub mod RangeLemmas
+pub mod PlanLemmas
+pub mod FuseLemmas
+pub mod StateLemmas

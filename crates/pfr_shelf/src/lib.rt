@@ -1,0 +1,17 @@
+//! Files and output as a program of the controller meets them: as traits whose faults are counted, over
+//! memory for tests, and over the host's files and standard output.
+#![tactic(auto)]
+
+mod fault;
+mod host;
+mod mem_shelf;
+mod mem_sink;
+mod outside;
+mod write;
+
+pub use fault::{ShelfFail, SinkFail};
+pub use host::{FileShelf, OutSink};
+pub use mem_shelf::MemShelf;
+pub use mem_sink::MemSink;
+pub use outside::{Shelf, Sink};
+pub use write::write_pieces;
