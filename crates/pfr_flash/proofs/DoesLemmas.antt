@@ -7,6 +7,7 @@ use Rattle.pfr_flash.specs.Operation.{Operation, play, torn_by}
 use Rattle.pfr_flash.specs.FlashState.{FlashState, Due, op_count_of, now, size_of, raised_by, Ending, Off, Full, Cut, Broken, Done, due_at, due_after, ending, with_op, after, after_ending, answer, answer_at}
 use Rattle.pfr_flash.specs.Moved.{IsWhole, IsTornAt, passed, was_done, meets, tear_of_fault, ReadFaulted, FaultCause, none, at_operation, at_read, no_room, Worked}
 use Rattle.pfr_flash.specs.Flash.{Does, Reads, with_taken}
+use Rattle.pfr_flash.specs.Reading.{OnlyReads}
 use Rattle.pfr_flash.specs.declared.flash.FlashFail.{FlashFail}
 use Rattle.pfr_flash.specs.declared.flash.FlashFail.TheVariants.{Fault, Lost}
 use Rattle.pfr_flash.proofs.EndingLemmas.{EndingOf, is_off, is_full, is_cut, is_broken, is_done, ending_of}
@@ -277,6 +278,28 @@ does op old new result whole fits n r =
     rw (n, r) (does_at op old (ending old) (ending_of old) whole fits refl refl)
 
 -- ---- a read
+only_still : (old : FlashState) (faults taken : ℕ) (read_due : Bool) → old.faults ≤ faults → old.taken ≤ taken
+    → ((read_due ≡ old.read_due) ⊎ ReadFaulted old (record old { faults = faults; taken = taken; read_due = read_due }))
+    → FaultCause old (record old { faults = faults; taken = taken; read_due = read_due })
+    → (old.powered ≡ false → (faults ≡ old.faults) × (read_due ≡ old.read_due))
+    → (old.read_due ≡ false → (read_due ≡ false) × (faults ≡ old.faults))
+    → OnlyReads old (record old { faults = faults; taken = taken; read_due = read_due })
+only_still old faults taken read_due f t due cause off calm = record {
+  content = refl;
+  start = refl;
+  ops = refl;
+  powered = refl;
+  losses = refl;
+  arms = refl;
+  room = refl;
+  cut_due = refl;
+  fault_due = refl;
+  taken = t;
+  faults = f;
+  calm = calm;
+  worked = worked_still old faults taken read_due f t due cause off;
+}
+
 pub reads_ok : (old : FlashState) (count : ℕ) → old.powered ≡ true → Reads count old (with_taken old count) (Ok tt)
 reads_ok old count on = record {
   ok = refl;
@@ -286,7 +309,8 @@ reads_ok old count on = record {
   failed = λ h. cc;
   fault = λ h. cc;
   lost = (λ h. cc, λ h. cc);
-  worked = worked_still old old.faults (raised_by old.taken count) old.read_due (omega arith) (omega arith) (inl refl) (none refl) (λ _. (refl, refl));
+  reads = only_still old old.faults (raised_by old.taken count) old.read_due (omega arith) (omega arith) (inl refl) (none refl) (λ _. (refl, refl)) (λ h. (h, refl));
+  cause = tt;
 }
 
 pub reads_lost : (old : FlashState) (count : ℕ) → old.powered ≡ false → Reads count old (with_taken old count) (Err Lost)
@@ -298,7 +322,8 @@ reads_lost old count off = record {
   failed = λ h. cc;
   fault = λ h. cc;
   lost = (λ _. off, λ _. refl);
-  worked = worked_still old old.faults (raised_by old.taken count) old.read_due (omega arith) (omega arith) (inl refl) (none refl) (λ _. (refl, refl));
+  reads = only_still old old.faults (raised_by old.taken count) old.read_due (omega arith) (omega arith) (inl refl) (none refl) (λ _. (refl, refl)) (λ h. (h, refl));
+  cause = off;
 }
 
 pub reads_fault : (old : FlashState) (count : ℕ) → old.powered ≡ true → old.read_due ≡ true
@@ -313,5 +338,6 @@ reads_fault old count on due =
       failed = λ _. refl;
       fault = λ _. omega arith;
       lost = (λ h. cc, λ h. cc);
-      worked = worked_still old (raised_by old.faults 1) (raised_by old.taken count) false (omega arith) (omega arith) (inr faulted) (at_read faulted) (λ off. absurd cc);
+      reads = only_still old (raised_by old.faults 1) (raised_by old.taken count) false (omega arith) (omega arith) (inr faulted) (at_read faulted) (λ off. absurd cc) (λ off. absurd cc);
+      cause = faulted;
     }

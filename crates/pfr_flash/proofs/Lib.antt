@@ -6,7 +6,9 @@ pub mod TearLemmas
 pub mod DoesLemmas
 pub mod MemLemmas
 pub mod MovedLemmas
+pub mod ReadingLemmas
 pub mod RangeLemmas
 pub mod PlanLemmas
 pub mod FuseLemmas
+pub mod LayoutLemmas
 pub mod StateLemmas
