@@ -1,2 +1,10 @@
 pub mod Curves
 pub mod Acceptance
+pub mod Judging
+pub mod LongAsk
+pub mod Why
+pub mod Words
+pub mod ShortRow
+pub mod LongRow
+pub mod Rows
+pub mod Accepting

@@ -1,0 +1,84 @@
+-- Reading lines one after the other.
+use Rattle.std.proofs.Common.{◌≡◌, ℕ, zero, suc, ◌+◌, ◌<◌, ◌≤◌, ◌==◌, Bool, true, false, nat_lt, List, [], ◌∷◌, ◌++◌, length, take, drop, get_or, Option, Some, None, Result, Ok, Err, position, cond, refl, sym, ◌∙◌, ap, subst, arith, append_assoc}
+use Rattle.std.specs.List.{slice_split, position_or_len}
+use Rattle.std.proofs.lemmas.List.Splits.{slice_split_first, slice_split_none, length-slice_split}
+use Rattle.std.proofs.lemmas.List.Sums.{fails_before_first}
+use Rattle.std.proofs.lemmas.Bool.Decides.{nat_tests, Decides-ltb}
+use Rattle.pfr_engine.specs.declared.row.Row.{Row}
+use Rattle.pfr_engine.specs.declared.engine_fail.EngineFail.{EngineFail}
+use Rattle.pfr_engine.specs.declared.engine_fail.EngineFail.TheVariants.{NoMemory, Text}
+use Rattle.pfr_engine.specs.declared.engine_why.EngineWhy.TheVariants as causes
+use Rattle.pfr_engine.specs.Judging.{◌>>=◌, ◌>>◌, require}
+use Rattle.pfr_engine.specs.Rows.{judge_line, judge_lines, Refuses}
+
+abbrev pub lines_in : List ℕ → List (List ℕ)
+lines_in text = slice_split (λ byte. byte == 10) text
+
+-- rows that were read, and those that are to be read
+abbrev pub with_front : List Row → Result (List Row) EngineFail → Result (List Row) EngineFail
+with_front front read = read >>= λ rows. Ok (front ++ rows)
+
+-- one line, with others behind it
+one_line : (line : ℕ) (text : List ℕ) (others : List (List ℕ)) → 0 < length others →
+    judge_lines line (text ∷ others) ≡ (judge_line line text >>= λ row. judge_lines (line + 1) others >>= λ rows. Ok (row ∷ rows))
+one_line line text [] h = absurd (omega arith)
+one_line line text (next ∷ others) h = refl
+
+pushed : (front : List Row) (row : Row) (read : Result (List Row) EngineFail) → with_front front (read >>= λ rows. Ok (row ∷ rows)) ≡ with_front (front ++ row ∷ []) read
+pushed front row (Ok rows) = ap Ok (sym (append_assoc front (row ∷ []) rows))
+pushed front row (Err e) = refl
+
+some_lines : (text : List ℕ) → 0 < length (lines_in text)
+some_lines text = rw (length-slice_split (λ byte. byte == 10) text) (omega arith)
+
+found : (b : Bool) (n end : ℕ) → cond b (Some n) None ≡ Some end → (b ≡ true) × (n ≡ end)
+found true n end h = (refl, cc)
+found false n end h = cc
+
+not_found : (b : Bool) (n : ℕ) → cond b (Some n) None ≡ None → b ≡ false
+not_found true n h = cc
+not_found false n h = refl
+
+-- the first line of a text and what stands behind its newline
+first_line : (text : List ℕ) (end : ℕ) → position (λ byte. byte == 10) text ≡ Some end →
+    lines_in text ≡ take end text ∷ lines_in (drop (end + 1) text)
+first_line text end h =
+    let newline : ℕ → Bool = λ byte. byte == 10 in
+    let f = found (nat_lt (position_or_len newline text) (length text)) (position_or_len newline text) end h in
+    let within : position_or_len newline text < length text = (Decides-ltb (position_or_len newline text) (length text)).0 f.0 in
+    let P : ℕ → Type 0 = λ n. lines_in text ≡ take n text ∷ lines_in (drop (n + 1) text) in
+    subst P f.1 (slice_split_first newline text 0 within)
+
+-- a text without a newline is one line
+last_line : (text : List ℕ) → position (λ byte. byte == 10) text ≡ None → lines_in text ≡ text ∷ []
+last_line text h =
+    let newline : ℕ → Bool = λ byte. byte == 10 in
+    let f = not_found (nat_lt (position_or_len newline text) (length text)) (position_or_len newline text) h in
+    let past : length text ≤ position_or_len newline text = grind (arith, nat_tests) in
+    slice_split_none newline text (λ k d i. fails_before_first newline text k d (omega arith))
+
+pub advance : (line end : ℕ) (text : List ℕ) (front front' : List Row) (row : Row) (all : Result (List Row) EngineFail) →
+    position (λ byte. byte == 10) text ≡ Some end → judge_line line (take end text) ≡ Ok row → front' ≡ front ++ row ∷ [] →
+    with_front front (judge_lines line (lines_in text)) ≡ all →
+    with_front front' (judge_lines (line + 1) (lines_in (drop (end + 1) text))) ≡ all
+advance line end text front front' row all found is pushes so_far =
+    let split = first_line text end found in
+    let rest = lines_in (drop (end + 1) text) in
+    let read : judge_lines line (lines_in text) ≡ (judge_lines (line + 1) rest >>= λ rows. Ok (row ∷ rows)) = ap (judge_lines line) split ∙ one_line line (take end text) rest (some_lines (drop (end + 1) text)) ∙ ap (λ r. r >>= λ row. judge_lines (line + 1) rest >>= λ rows. Ok (row ∷ rows)) is in
+    rw pushes (sym (pushed front row (judge_lines (line + 1) rest)) ∙ ap (with_front front) (sym read) ∙ so_far)
+
+-- a refusal of a line is that of the text
+pub refuses : (line end : ℕ) (text : List ℕ) (front : List Row) (cause : EngineFail) (all : Result (List Row) EngineFail) →
+    position (λ byte. byte == 10) text ≡ Some end → with_front front (judge_lines line (lines_in text)) ≡ all →
+    Refuses cause (judge_line line (take end text)) → Refuses cause all
+refuses line end text front NoMemory all found so_far refused = tt
+refuses line end text front (Text number why) all found so_far refused =
+    let split = first_line text end found in
+    let rest = lines_in (drop (end + 1) text) in
+    let read : judge_lines line (lines_in text) ≡ Err (Text number why) = ap (judge_lines line) split ∙ one_line line (take end text) rest (some_lines (drop (end + 1) text)) ∙ ap (λ r. r >>= λ row. judge_lines (line + 1) rest >>= λ rows. Ok (row ∷ rows)) refused in
+    sym so_far ∙ ap (with_front front) read
+
+-- what stands behind the last newline
+pub ends : (line : ℕ) (text : List ℕ) (front : List Row) → position (λ byte. byte == 10) text ≡ None →
+    with_front front (judge_lines line (lines_in text)) ≡ with_front front (require (Text line causes.Newline) (length text == 0) >> Ok [])
+ends line text front h = ap (λ parts. with_front front (judge_lines line parts)) (last_line text h)

@@ -1,0 +1,85 @@
+// Reads the rows of a text.
+ghost use Rattle.std.specs.Prelude.{◌≡◌, ◌-◌, ◌^◌, ◌<◌, ◌==◌, length, position};
+ghost use Rattle.pfr_engine.specs.Words.{words_in};
+ghost use Rattle.pfr_engine.specs.ShortRow.{judge_short};
+ghost use Rattle.pfr_engine.specs.LongRow.{judge_long};
+ghost use Rattle.pfr_engine.specs.Rows.{Gives, at_line, judge_row, judge_line, judge_text};
+
+use crate::engine::Ask;
+use crate::engine_fail::{EngineFail, at_line};
+use crate::engine_why::EngineWhy;
+use crate::long_row::{LongRow, read_long};
+use crate::row::Row;
+use crate::short_row::read_short;
+use crate::words::first_words;
+use std::alloc::Global;
+
+#[tactic(auto, using(crate::proofs::WordLemmas::short_front))]
+fn short_row(alloc: Global, line: u32, text: &[u8]) -> Result<Ask, EngineFail>
+    ensures { Gives (λ ask. ask) result (at_line line (judge_short (words_in text.now))) }
+{
+    let words = first_words(alloc, text, 7)?;
+    at_line(line, read_short(&words))
+}
+
+#[tactic(auto, using(crate::proofs::WordLemmas::long_front))]
+fn long_row(alloc: Global, line: u32, text: &[u8]) -> Result<LongRow, EngineFail>
+    ensures { Gives (λ row. row) result (at_line line (judge_long (words_in text.now))) }
+{
+    let words = first_words(alloc, text, 5)?;
+    read_long(alloc, line, &words)
+}
+
+#[tactic(auto, unfolding(crate::specs::Rows::judge_row))]
+fn row_of(alloc: Global, line: u32, text: &[u8]) -> Result<Row, EngineFail>
+    ensures { Gives (λ row. row) result (at_line line (judge_row text.now)) }
+{
+    match text.strip_prefix(b"long ") {
+        Some(rest) => Ok(Row::Long(long_row(alloc, line, rest)?)),
+        None => Ok(Row::Short(short_row(alloc, line, text)?)),
+    }
+}
+
+#[tactic(auto, unfolding(crate::specs::Rows::judge_line))]
+fn line_row(alloc: Global, line: u32, text: &[u8]) -> Result<Row, EngineFail>
+    ensures { Gives (λ row. row) result (judge_line line text.now) }
+{
+    if line > 4096 {
+        return Err(EngineFail::Text {
+            line,
+            why: EngineWhy::TooMany,
+        });
+    }
+    row_of(alloc, line, text)
+}
+
+/// Where the first line of a text ends, if it does.
+fn line_end(text: &[u8]) -> Option<usize>
+    ensures { result ≡ position (λ byte. byte == 10) text.now }
+{
+    text.iter().position(|byte| *byte == b'\n')
+}
+
+/// The rows of a text, each a line with a newline at its end.
+#[tactic(auto, unfolding(crate::specs::Rows::judge_text))]
+pub fn read_rows(alloc: Global, text: &[u8]) -> Result<Vec<Row>, EngineFail>
+    requires { length text.now < 2 ^ 32 - 1 }
+    ensures { Gives (λ rows. rows.items) result (judge_text text.now) }
+{
+    let mut rows = Vec::new(alloc);
+    let mut rest = text;
+    let mut line = 1;
+    'lines: while let Some(end) = line_end(rest) {
+        let row = line_row(alloc, line, &rest[0..end])?;
+        rows.push(row)?;
+        rest = &rest[end + 1..];
+        line += 1;
+    }
+    if !rest.is_empty() {
+        return Err(EngineFail::Text {
+            line,
+            why: EngineWhy::Newline,
+        });
+    }
+    Ok(rows)
+}
