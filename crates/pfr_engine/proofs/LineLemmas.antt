@@ -1,6 +1,7 @@
 -- Reading lines one after the other.
-use Rattle.std.proofs.Common.{◌≡◌, ℕ, zero, suc, ◌+◌, ◌<◌, ◌≤◌, ◌==◌, Bool, true, false, nat_lt, List, [], ◌∷◌, ◌++◌, length, take, drop, get_or, Option, Some, None, Result, Ok, Err, position, cond, refl, sym, ◌∙◌, ap, subst, arith, append_assoc}
+use Rattle.std.proofs.Common.{◌≡◌, ℕ, zero, suc, ◌+◌, ◌-◌, ◌<◌, ◌≤◌, ◌==◌, Bool, true, false, nat_lt, List, [], ◌∷◌, ◌++◌, length, take, drop, get_or, Option, Some, None, Result, Ok, Err, position, cond, refl, sym, ◌∙◌, ap, subst, arith, append_assoc, length-drop}
 use Rattle.std.specs.List.{slice_split, position_or_len}
+use Rattle.std.proofs.lemmas.List.{take_all}
 use Rattle.std.proofs.lemmas.List.Splits.{slice_split_first, slice_split_none, length-slice_split}
 use Rattle.std.proofs.lemmas.List.Sums.{fails_before_first}
 use Rattle.std.proofs.lemmas.Bool.Decides.{nat_tests, Decides-ltb}
@@ -9,10 +10,7 @@ use Rattle.pfr_engine.specs.declared.engine_fail.EngineFail.{EngineFail}
 use Rattle.pfr_engine.specs.declared.engine_fail.EngineFail.TheVariants.{NoMemory, Text}
 use Rattle.pfr_engine.specs.declared.engine_why.EngineWhy.TheVariants as causes
 use Rattle.pfr_engine.specs.Judging.{◌>>=◌, ◌>>◌, require}
-use Rattle.pfr_engine.specs.Rows.{judge_line, judge_lines, Refuses}
-
-abbrev pub lines_in : List ℕ → List (List ℕ)
-lines_in text = slice_split (λ byte. byte == 10) text
+use Rattle.pfr_engine.specs.Rows.{judge_line, judge_lines, lines_in, Refuses}
 
 -- rows that were read, and those that are to be read
 abbrev pub with_front : List Row → Result (List Row) EngineFail → Result (List Row) EngineFail
@@ -49,36 +47,46 @@ first_line text end h =
     let P : ℕ → Type 0 = λ n. lines_in text ≡ take n text ∷ lines_in (drop (n + 1) text) in
     subst P f.1 (slice_split_first newline text 0 within)
 
+-- the same, as slices have the two parts
+pub first_parts : (text : List ℕ) (end : ℕ) → position (λ byte. byte == 10) text ≡ Some end →
+    lines_in text ≡ take (end - 0) text ∷ lines_in (take (length text - (end + 1)) (drop (end + 1) text))
+first_parts text end h =
+    let a : end - 0 ≡ end = omega arith in
+    let b : take (length text - (end + 1)) (drop (end + 1) text) ≡ drop (end + 1) text =
+    take_all (length text - (end + 1)) (drop (end + 1) text) (omega (arith, length-drop (end + 1) text)) in
+    rw (a, b) (first_line text end h)
+
 -- a text without a newline is one line
-last_line : (text : List ℕ) → position (λ byte. byte == 10) text ≡ None → lines_in text ≡ text ∷ []
+pub last_line : (text : List ℕ) → position (λ byte. byte == 10) text ≡ None → lines_in text ≡ text ∷ []
 last_line text h =
     let newline : ℕ → Bool = λ byte. byte == 10 in
     let f = not_found (nat_lt (position_or_len newline text) (length text)) (position_or_len newline text) h in
     let past : length text ≤ position_or_len newline text = grind (arith, nat_tests) in
     slice_split_none newline text (λ k d i. fails_before_first newline text k d (omega arith))
 
-pub advance : (line end : ℕ) (text : List ℕ) (front front' : List Row) (row : Row) (all : Result (List Row) EngineFail) →
-    position (λ byte. byte == 10) text ≡ Some end → judge_line line (take end text) ≡ Ok row → front' ≡ front ++ row ∷ [] →
+pub advance : (line : ℕ) (text first others : List ℕ) (front front' : List Row) (row : Row) (all : Result (List Row) EngineFail) →
+    lines_in text ≡ first ∷ lines_in others → judge_line line first ≡ Ok row → front' ≡ front ++ row ∷ [] →
     with_front front (judge_lines line (lines_in text)) ≡ all →
-    with_front front' (judge_lines (line + 1) (lines_in (drop (end + 1) text))) ≡ all
-advance line end text front front' row all found is pushes so_far =
-    let split = first_line text end found in
-    let rest = lines_in (drop (end + 1) text) in
-    let read : judge_lines line (lines_in text) ≡ (judge_lines (line + 1) rest >>= λ rows. Ok (row ∷ rows)) = ap (judge_lines line) split ∙ one_line line (take end text) rest (some_lines (drop (end + 1) text)) ∙ ap (λ r. r >>= λ row. judge_lines (line + 1) rest >>= λ rows. Ok (row ∷ rows)) is in
-    rw pushes (sym (pushed front row (judge_lines (line + 1) rest)) ∙ ap (with_front front) (sym read) ∙ so_far)
+    with_front front' (judge_lines (line + 1) (lines_in others)) ≡ all
+advance line text first others front front' row all split is pushes so_far =
+    let read : judge_lines line (lines_in text) ≡ (judge_lines (line + 1) (lines_in others) >>= λ rows. Ok (row ∷ rows)) =
+    ap (judge_lines line) split ∙ one_line line first (lines_in others) (some_lines others)
+    ∙ ap (λ r. r >>= λ row. judge_lines (line + 1) (lines_in others) >>= λ rows. Ok (row ∷ rows)) is in
+    rw pushes (sym (pushed front row (judge_lines (line + 1) (lines_in others))) ∙ ap (with_front front) (sym read) ∙ so_far)
 
 -- a refusal of a line is that of the text
-pub refuses : (line end : ℕ) (text : List ℕ) (front : List Row) (cause : EngineFail) (all : Result (List Row) EngineFail) →
-    position (λ byte. byte == 10) text ≡ Some end → with_front front (judge_lines line (lines_in text)) ≡ all →
-    Refuses cause (judge_line line (take end text)) → Refuses cause all
-refuses line end text front NoMemory all found so_far refused = tt
-refuses line end text front (Text number why) all found so_far refused =
-    let split = first_line text end found in
-    let rest = lines_in (drop (end + 1) text) in
-    let read : judge_lines line (lines_in text) ≡ Err (Text number why) = ap (judge_lines line) split ∙ one_line line (take end text) rest (some_lines (drop (end + 1) text)) ∙ ap (λ r. r >>= λ row. judge_lines (line + 1) rest >>= λ rows. Ok (row ∷ rows)) refused in
+pub refuses : (line : ℕ) (text first others : List ℕ) (front : List Row) (cause : EngineFail) (all : Result (List Row) EngineFail) →
+    lines_in text ≡ first ∷ lines_in others → with_front front (judge_lines line (lines_in text)) ≡ all →
+    Refuses cause (judge_line line first) → Refuses cause all
+refuses line text first others front NoMemory all split so_far refused = tt
+refuses line text first others front (Text number why) all split so_far refused =
+    let read : judge_lines line (lines_in text) ≡ Err (Text number why) =
+    ap (judge_lines line) split ∙ one_line line first (lines_in others) (some_lines others)
+    ∙ ap (λ r. r >>= λ row. judge_lines (line + 1) (lines_in others) >>= λ rows. Ok (row ∷ rows)) refused in
     sym so_far ∙ ap (with_front front) read
 
 -- what stands behind the last newline
-pub ends : (line : ℕ) (text : List ℕ) (front : List Row) → position (λ byte. byte == 10) text ≡ None →
-    with_front front (judge_lines line (lines_in text)) ≡ with_front front (require (Text line causes.Newline) (length text == 0) >> Ok [])
-ends line text front h = ap (λ parts. with_front front (judge_lines line parts)) (last_line text h)
+pub last : (line : ℕ) (text : List ℕ) (front : List Row) (all : Result (List Row) EngineFail) → lines_in text ≡ text ∷ [] →
+    with_front front (judge_lines line (lines_in text)) ≡ all →
+    all ≡ with_front front (require (Text line causes.Newline) (length text == 0) >> Ok [])
+last line text front all split so_far = sym so_far ∙ ap (λ parts. with_front front (judge_lines line parts)) split

@@ -43,9 +43,13 @@ judge_lines line (text ∷ next ∷ others) = do
   rows ← judge_lines (line + 1) (next ∷ others)
   Ok (row ∷ rows)
 
+-- what stands between the newlines of a text
+abbrev pub lines_in : List ℕ → List (List ℕ)
+lines_in text = slice_split (λ byte. byte == 10) text
+
 -- the rows of a text
 unfoldable pub judge_text : List ℕ → Result (List Row) EngineFail
-judge_text text = judge_lines 1 (slice_split (λ byte. byte == 10) text)
+judge_text text = judge_lines 1 (lines_in text)
 
 -- a refusal is that of the judgement, unless memory ran out
 abbrev pub Refuses : {Y : Type 0} → EngineFail → Result Y EngineFail → Type 0

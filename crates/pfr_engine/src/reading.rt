@@ -1,9 +1,9 @@
 // Reads the rows of a text.
-ghost use Rattle.std.specs.Prelude.{◌≡◌, ◌-◌, ◌^◌, ◌<◌, ◌==◌, length, position};
+ghost use Rattle.std.specs.Prelude.{◌≡◌, ◌-◌, ◌^◌, ◌<◌, ◌==◌, length, position, [], ◌∷◌, MatchOption, IfSome};
 ghost use Rattle.pfr_engine.specs.Words.{words_in};
 ghost use Rattle.pfr_engine.specs.ShortRow.{judge_short};
 ghost use Rattle.pfr_engine.specs.LongRow.{judge_long};
-ghost use Rattle.pfr_engine.specs.Rows.{Gives, at_line, judge_row, judge_line, judge_text};
+ghost use Rattle.pfr_engine.specs.Rows.{Gives, at_line, judge_row, judge_line, lines_in, judge_text};
 
 use crate::engine::Ask;
 use crate::engine_fail::{EngineFail, at_line};
@@ -53,11 +53,19 @@ fn line_row(alloc: Global, line: u32, text: &[u8]) -> Result<Row, EngineFail>
     row_of(alloc, line, text)
 }
 
-/// Where the first line of a text ends, if it does.
-fn line_end(text: &[u8]) -> Option<usize>
+fn newline_at(text: &[u8]) -> Option<usize>
     ensures { result ≡ position (λ byte. byte == 10) text.now }
 {
     text.iter().position(|byte| *byte == b'\n')
+}
+
+/// The first line of a text, without its newline, and what stands behind it.
+fn split_line(text: &[u8]) -> Option<(&[u8], &[u8])>
+    ensures lines { MatchOption result (lines_in text.now ≡ text.now ∷ []) (λ parts. lines_in text.now ≡ parts.0.now ∷ lines_in parts.1.now) }
+    ensures shorter { IfSome result (λ parts. length parts.1.now < length text.now) }
+{
+    let end = newline_at(text)?;
+    Some((&text[0..end], &text[end + 1..]))
 }
 
 /// The rows of a text, each a line with a newline at its end.
@@ -69,10 +77,10 @@ pub fn read_rows(alloc: Global, text: &[u8]) -> Result<Vec<Row>, EngineFail>
     let mut rows = Vec::new(alloc);
     let mut rest = text;
     let mut line = 1;
-    'lines: while let Some(end) = line_end(rest) {
-        let row = line_row(alloc, line, &rest[0..end])?;
+    'lines: while let Some((first, others)) = split_line(rest) {
+        let row = line_row(alloc, line, first)?;
         rows.push(row)?;
-        rest = &rest[end + 1..];
+        rest = others;
         line += 1;
     }
     if !rest.is_empty() {

@@ -1,6 +1,6 @@
 use Rattle.std.proofs.Common.{◌≡◌, ◌+◌, ◌≤◌, length}
-use Rattle.pfr_engine.specs.Rows.{judge_lines, judge_text}
-use Rattle.pfr_engine.proofs.LineLemmas.{lines_in, with_front}
+use Rattle.pfr_engine.specs.Rows.{judge_lines, lines_in, judge_text}
+use Rattle.pfr_engine.proofs.LineLemmas.{with_front}
 use Rattle.pfr_engine.proofs.reading.read_rows.Given as goal
 
 abbrev pub invariant-lines : goal.invariant-lines

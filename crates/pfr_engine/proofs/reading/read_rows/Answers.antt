@@ -1,0 +1,21 @@
+use Rattle.std.proofs.Common.{◌≡◌, ◌∙◌, ◌+◌, ◌≤◌, length, refl, arith}
+use Rattle.std.proofs.lemmas.Result.{err_from_is_err_and}
+use Rattle.pfr_engine.specs.Rows.{judge_text}
+use Rattle.pfr_engine.proofs.LineLemmas.{advance, refuses, last}
+use Rattle.pfr_engine.proofs.reading.read_rows.Goals as goal
+
+pub lines-preserved : goal.lines-preserved
+lines-preserved c = (
+  advance c.lines.line c.lines.rest.now c.in-Some.first.now c.in-Some.others.now _ _ _ _ c.in-Some.ensures.lines c.in_ok-row.ensures c.in_ok-push.ensures.items c.lines.invariant.0,
+  omega (arith, c.in-Some.ensures.shorter),
+)
+
+pub returns-in_err-row : goal.returns-in_err-row
+returns-in_err-row c =
+    let p = err_from_is_err_and c.from_residual.result c.from_residual.ensures.1 in
+    rw (p.1, p.2) (refuses c.lines.line c.lines.rest.now c.in-Some.first.now c.in-Some.others.now _ _ _ c.in-Some.ensures.lines c.lines.invariant.0 c.in_err-row.ensures)
+
+pub returns-then-not-is_empty : goal.returns-then-not-is_empty
+returns-then-not-is_empty c =
+    let l = last c.lines.line c.lines.rest.now _ _ c.in_default.ensures.lines c.lines.invariant.0 in
+    l ∙ rw (← c.if-not-is_empty.ensures) refl
