@@ -11,14 +11,14 @@ pub enum Curve {
 }
 
 /// The digest of a message, by the curve that signs it.
-#[derive(Clone, Copy, Debug)]
+#[derive(Clone, Copy, Debug, PartialEq, Eq)]
 pub enum Digest {
     D256([u8; 32]),
     D384([u8; 48]),
 }
 
 /// A signature of a digest under a public key.
-#[derive(Clone, Copy, Debug)]
+#[derive(Clone, Copy, Debug, PartialEq, Eq)]
 pub struct Ask {
     pub curve: Curve,
     pub x: [u8; 48],

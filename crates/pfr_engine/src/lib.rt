@@ -4,6 +4,7 @@
 mod engine;
 mod engine_fail;
 mod engine_why;
+mod list_engine;
 mod long_row;
 mod reading;
 mod row;
@@ -13,3 +14,4 @@ mod words;
 pub use engine::{Ask, Curve, Digest, Engine, curve_from};
 pub use engine_fail::EngineFail;
 pub use engine_why::EngineWhy;
+pub use list_engine::ListEngine;

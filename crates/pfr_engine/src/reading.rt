@@ -1,5 +1,5 @@
 // Reads the rows of a text.
-ghost use Rattle.std.specs.Prelude.{◌≡◌, ◌-◌, ◌^◌, ◌<◌, ◌==◌, length, position, [], ◌∷◌, MatchOption, IfSome};
+ghost use Rattle.std.specs.Prelude.{◌≡◌, ◌-◌, ◌^◌, ◌<◌, ◌≤◌, ◌==◌, length, position, [], ◌∷◌, vec_len, MatchOption, IfSome, IfOk};
 ghost use Rattle.pfr_engine.specs.Words.{words_in};
 ghost use Rattle.pfr_engine.specs.ShortRow.{judge_short};
 ghost use Rattle.pfr_engine.specs.LongRow.{judge_long};
@@ -42,7 +42,8 @@ fn row_of(alloc: Global, line: u32, text: &[u8]) -> Result<Row, EngineFail>
 
 #[tactic(auto, unfolding(crate::specs::Rows::judge_line))]
 fn line_row(alloc: Global, line: u32, text: &[u8]) -> Result<Row, EngineFail>
-    ensures { Gives (λ row. row) result (judge_line line text.now) }
+    ensures exact { Gives (λ row. row) result (judge_line line text.now) }
+    ensures few { IfOk result (λ _. line ≤ 4096) }
 {
     if line > 4096 {
         return Err(EngineFail::Text {
@@ -72,7 +73,8 @@ fn split_line(text: &[u8]) -> Option<(&[u8], &[u8])>
 #[tactic(auto, unfolding(crate::specs::Rows::judge_text))]
 pub fn read_rows(alloc: Global, text: &[u8]) -> Result<Vec<Row>, EngineFail>
     requires { length text.now < 2 ^ 32 - 1 }
-    ensures { Gives (λ rows. rows.items) result (judge_text text.now) }
+    ensures exact { Gives (λ rows. rows.items) result (judge_text text.now) }
+    ensures few { IfOk result (λ rows. vec_len rows ≤ 4096) }
 {
     let mut rows = Vec::new(alloc);
     let mut rest = text;
