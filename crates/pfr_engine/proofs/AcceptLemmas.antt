@@ -1,10 +1,11 @@
 -- What rows accept: exactly the questions that stand in them.
-use Rattle.std.proofs.Common.{◌≡◌, ◌==◌, Bool, true, false, ◌&&◌, List, refl, ap, arith}
+use Rattle.std.proofs.Common.{◌≡◌, ◌==◌, Bool, true, false, ◌&&◌, List, ℕ, ◌<◌, length, slice_index_or, refl, ap, subst, arith}
 use Rattle.std.specs.Bool.{Decides}
 use Rattle.std.specs.Str.{bytes_eq}
 use Rattle.std.specs.List.{list_any}
-use Rattle.std.specs.Prelude.{Contains}
+use Rattle.std.specs.Prelude.{Contains, IsTrue, ◌↔◌}
 use Rattle.std.proofs.lemmas.Bool.Decides.{Decides-eqb, nat_tests}
+use Rattle.std.proofs.lemmas.List.Folds.{Any-from_list_any, list_any_at}
 use Rattle.std.proofs.lemmas.Slice.Eq.{bytes_eq-Decides}
 use Rattle.pfr_engine.specs.LongAsk.{LongAsk}
 use Rattle.pfr_engine.specs.declared.row.Row.{Row}
@@ -88,3 +89,20 @@ short-true ask (Long row) h = cc
 long-true : (ask : LongAsk) (row : Row) → is_long_of ask row ≡ true → row ≡ Long ask
 long-true ask (Short row) h = cc
 long-true ask (Long row) h = ap Long (same_long-true row ask h)
+
+-- a test that one value alone passes finds that value
+found_is : {X : Type 0} (p : X → Bool) (y : X) (xs : List X) → ((x : X) → p x ≡ true → x ≡ y) → p y ≡ true →
+    (IsTrue (list_any p xs) ↔ Contains xs y)
+found_is {X} p y xs only self = (
+  λ h.
+      let a = Any-from_list_any p xs h in
+      let P : X → Type 0 = λ x. (k : ℕ) × (k < length xs) × (slice_index_or xs k x ≡ x) in
+      subst P (only a.1 a.4) (a.0, a.2, a.3),
+  λ h. list_any_at p xs h.0 y h.1 (rw h.2 self),
+)
+
+pub accepts_short : (ask : Ask) (rows : List Row) → IsTrue (list_any (is_short_of ask) rows) ↔ Contains rows (Short ask)
+accepts_short ask rows = found_is (is_short_of ask) (Short ask) rows (short-true ask) (same_ask-self ask)
+
+pub accepts_long : (ask : LongAsk) (rows : List Row) → IsTrue (list_any (is_long_of ask) rows) ↔ Contains rows (Long ask)
+accepts_long ask rows = found_is (is_long_of ask) (Long ask) rows (long-true ask) (same_long-self ask)

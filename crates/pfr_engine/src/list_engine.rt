@@ -5,7 +5,7 @@ ghost use Rattle.pfr_engine.specs.Rows.{Gives, judge_text};
 use crate::engine::{Ask, Engine};
 use crate::engine_fail::EngineFail;
 use crate::reading::read_rows;
-use crate::row::Row;
+use crate::row::{Row, has_long, has_short};
 use sha2::{Digest, Sha384};
 use std::alloc::Global;
 use std::marker::Model;
@@ -57,18 +57,24 @@ impl ListEngine {
 }
 
 impl Engine for ListEngine {
-    ghost use Rattle.pfr_engine.specs.Accepting.{acceptance};
+    ghost use Rattle.std.specs.Prelude.{◌↔◌, IsTrue, Contains};
+    ghost use Rattle.pfr_engine.specs.declared.row.Row.TheVariants.{Short, Long};
+    ghost use Rattle.pfr_engine.specs.Accepting.{acceptance, long_ask};
 
     ghost accepts = { acceptance };
 
-    fn check(&self, ask: &Ask) -> bool {
-        self.rows.iter().any(|row| row.is_short_of(ask))
+    fn check(&self, ask: &Ask) -> bool
+        ensures answer { result ≡ (acceptance self.now).ask ask.now }
+        ensures row { IsTrue result ↔ Contains self.now (Short ask.now) }
+    {
+        has_short(&self.rows, ask)
     }
 
-    fn check_long(&self, scheme: u32, key: &[u8], message: &[u8], signature: &[u8]) -> bool {
+    fn check_long(&self, scheme: u32, key: &[u8], message: &[u8], signature: &[u8]) -> bool
+        ensures answer { result ≡ (acceptance self.now).long scheme key.now message.now signature.now }
+        ensures row { IsTrue result ↔ Contains self.now (Long (long_ask scheme key.now message.now signature.now)) }
+    {
         let digest = Sha384::digest(message);
-        self.rows
-            .iter()
-            .any(|row| row.is_long_of(scheme, key, &digest, signature))
+        has_long(&self.rows, scheme, key, &digest, signature)
     }
 }
