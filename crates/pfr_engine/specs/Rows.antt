@@ -56,7 +56,11 @@ abbrev pub Refuses : {Y : Type 0} → EngineFail → Result Y EngineFail → Typ
 Refuses fails.NoMemory judged = Unit {0}
 Refuses (fails.Text line why) judged = judged ≡ Err (fails.Text line why)
 
--- what was read is the judgement, as it is seen through a view, unless memory ran out
+-- what was read, as it is seen through a view, is the judgement, unless memory ran out
 abbrev pub Gives : {X Y : Type 0} → (X → Y) → Result X EngineFail → Result Y EngineFail → Type 0
 Gives view (Ok x) judged = judged ≡ Ok (view x)
 Gives view (Err cause) judged = Refuses cause judged
+
+-- what was read is the judgement, unless memory ran out
+abbrev pub Answers : {Y : Type 0} → Result Y EngineFail → Result Y EngineFail → Type 0
+Answers result judged = Gives (λ x. x) result judged

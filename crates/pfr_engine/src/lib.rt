@@ -1,4 +1,4 @@
-//! What says which signatures are right, and one that is read from a text.
+//! Engines, which say which signatures are right, and one that is read from a text.
 #![tactic(auto)]
 
 mod engine;

@@ -1,6 +1,6 @@
 // An engine that accepts the rows of a text.
 ghost use Rattle.std.specs.Prelude.{◌≡◌, ◌-◌, ◌^◌, ◌<◌, ◌≤◌, length, IfOk};
-ghost use Rattle.pfr_engine.specs.Rows.{Gives, judge_text};
+ghost use Rattle.pfr_engine.specs.Rows.{Answers, judge_text};
 
 use crate::engine::{Ask, Engine};
 use crate::engine_fail::EngineFail;
@@ -41,7 +41,7 @@ impl ListEngine {
     /// The first thing that is wrong with the first bad line, or want of memory.
     pub fn parse(alloc: Global, text: &[u8]) -> Result<ListEngine, EngineFail>
         requires { length text.now < 2 ^ 32 - 1 }
-        ensures exact { Gives (λ rows. rows) result (judge_text text.now) }
+        ensures exact { Answers result (judge_text text.now) }
         ensures few { IfOk result (λ rows. length rows ≤ 4096) }
     {
         let rows = read_rows(alloc, text)?;

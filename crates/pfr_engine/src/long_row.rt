@@ -2,7 +2,7 @@
 ghost use Rattle.std.specs.Prelude.{◌≡◌, map};
 ghost use Rattle.pfr_engine.specs.Accepting.{same_long};
 ghost use Rattle.pfr_engine.specs.LongRow.{long_ask_of, long_ask_of_list, judge_long};
-ghost use Rattle.pfr_engine.specs.Rows.{at_line, Gives};
+ghost use Rattle.pfr_engine.specs.Rows.{at_line, Answers};
 
 use crate::engine_fail::{EngineFail, at_line};
 use crate::engine_why::EngineWhy;
@@ -49,7 +49,7 @@ fn long_ask_of(
     digest: &[u8],
     signature: &[u8],
 ) -> Result<LongRow, EngineFail>
-    ensures { Gives (λ row. row) result (at_line line (long_ask_of scheme.now key.now digest.now signature.now)) }
+    ensures { Answers result (at_line line (long_ask_of scheme.now key.now digest.now signature.now)) }
 {
     let number = at_line(line, bytes_of::<4>(scheme))?;
     let key = long_bytes_of(alloc, line, key, 256)?;
@@ -64,7 +64,7 @@ fn long_ask_of(
 }
 
 fn long_ask_of_list(alloc: Global, line: u32, words: &[&[u8]]) -> Result<LongRow, EngineFail>
-    ensures { Gives (λ row. row) result (at_line line (long_ask_of_list (map (λ word. word.now) words.now))) }
+    ensures { Answers result (at_line line (long_ask_of_list (map (λ word. word.now) words.now))) }
 {
     match words {
         [scheme, key, digest, signature] => {
@@ -80,7 +80,7 @@ fn long_ask_of_list(alloc: Global, line: u32, words: &[&[u8]]) -> Result<LongRow
 /// What four words say: scheme, key, the SHA-384 of the message, and signature.
 #[tactic(auto, unfolding(crate::specs::LongRow::judge_long))]
 pub fn read_long(alloc: Global, line: u32, words: &[&[u8]]) -> Result<LongRow, EngineFail>
-    ensures { Gives (λ row. row) result (at_line line (judge_long (map (λ word. word.now) words.now))) }
+    ensures { Answers result (at_line line (judge_long (map (λ word. word.now) words.now))) }
 {
     if !are_words(words, 4) {
         return Err(EngineFail::Text {

@@ -3,7 +3,7 @@ ghost use Rattle.std.specs.Prelude.{◌≡◌, ◌-◌, ◌^◌, ◌<◌, ◌≤
 ghost use Rattle.pfr_engine.specs.Words.{words_in};
 ghost use Rattle.pfr_engine.specs.ShortRow.{judge_short};
 ghost use Rattle.pfr_engine.specs.LongRow.{judge_long};
-ghost use Rattle.pfr_engine.specs.Rows.{Gives, at_line, judge_row, judge_line, lines_in, judge_text};
+ghost use Rattle.pfr_engine.specs.Rows.{Answers, Gives, at_line, judge_row, judge_line, lines_in, judge_text};
 
 use crate::engine::Ask;
 use crate::engine_fail::{EngineFail, at_line};
@@ -16,7 +16,7 @@ use std::alloc::Global;
 
 #[tactic(auto, using(crate::proofs::WordLemmas::short_front))]
 fn short_row(alloc: Global, line: u32, text: &[u8]) -> Result<Ask, EngineFail>
-    ensures { Gives (λ ask. ask) result (at_line line (judge_short (words_in text.now))) }
+    ensures { Answers result (at_line line (judge_short (words_in text.now))) }
 {
     let words = first_words(alloc, text, 7)?;
     at_line(line, read_short(&words))
@@ -24,7 +24,7 @@ fn short_row(alloc: Global, line: u32, text: &[u8]) -> Result<Ask, EngineFail>
 
 #[tactic(auto, using(crate::proofs::WordLemmas::long_front))]
 fn long_row(alloc: Global, line: u32, text: &[u8]) -> Result<LongRow, EngineFail>
-    ensures { Gives (λ row. row) result (at_line line (judge_long (words_in text.now))) }
+    ensures { Answers result (at_line line (judge_long (words_in text.now))) }
 {
     let words = first_words(alloc, text, 5)?;
     read_long(alloc, line, &words)
@@ -32,7 +32,7 @@ fn long_row(alloc: Global, line: u32, text: &[u8]) -> Result<LongRow, EngineFail
 
 #[tactic(auto, unfolding(crate::specs::Rows::judge_row))]
 fn row_of(alloc: Global, line: u32, text: &[u8]) -> Result<Row, EngineFail>
-    ensures { Gives (λ row. row) result (at_line line (judge_row text.now)) }
+    ensures { Answers result (at_line line (judge_row text.now)) }
 {
     match text.strip_prefix(b"long ") {
         Some(rest) => Ok(Row::Long(long_row(alloc, line, rest)?)),
@@ -42,7 +42,7 @@ fn row_of(alloc: Global, line: u32, text: &[u8]) -> Result<Row, EngineFail>
 
 #[tactic(auto, unfolding(crate::specs::Rows::judge_line))]
 fn line_row(alloc: Global, line: u32, text: &[u8]) -> Result<Row, EngineFail>
-    ensures exact { Gives (λ row. row) result (judge_line line text.now) }
+    ensures exact { Answers result (judge_line line text.now) }
     ensures few { IfOk result (λ _. line ≤ 4096) }
 {
     if line > 4096 {
