@@ -1,5 +1,5 @@
 -- The rows of a text: one line is one row, and each has a newline at its end.
-use Rattle.std.specs.Prelude.{◌≡◌, ℕ, ◌+◌, ◌==◌, Bool, nat_le, if◌then◌else◌, codes, List, [], ◌∷◌, length, take, drop, Result, Ok, Err}
+use Rattle.std.specs.Prelude.{◌≡◌, ℕ, ◌+◌, ◌==◌, nat_le, if◌then◌else◌, codes, List, [], ◌∷◌, length, take, drop, Result, Ok, Err}
 use Rattle.std.specs.List.{slice_split}
 use Rattle.std.specs.Str.{bytes_eq}
 use Rattle.pfr_engine.specs.declared.row.Row.{Row}

@@ -2,7 +2,6 @@
 use Rattle.std.specs.Prelude.{ℕ, ◌%◌, ◌==◌, List, [], ◌∷◌, length, Result, Ok, Err}
 use Rattle.std.specs.Int.{w32, from_be_bytes}
 use Rattle.hex.specs.Hex.{decode_sized}
-use Rattle.hex.specs.declared.error.FromHexError.{FromHexError}
 use Rattle.pfr_engine.specs.Curves.{curve_of}
 use Rattle.pfr_engine.specs.declared.engine.Ask.{Ask}
 use Rattle.pfr_engine.specs.declared.engine.Curve.{Curve}
@@ -12,7 +11,7 @@ use Rattle.pfr_engine.specs.declared.engine.Digest.TheVariants.{D256, D384}
 use Rattle.pfr_engine.specs.declared.engine_why.EngineWhy.{EngineWhy}
 use Rattle.pfr_engine.specs.declared.engine_why.EngineWhy.TheVariants as causes
 use Rattle.pfr_engine.specs.Judging.{◌>>=◌, ◌>>◌, require, known}
-use Rattle.pfr_engine.specs.Words.{words_in, are_words, are_hex, decoded, bytes_of}
+use Rattle.pfr_engine.specs.Words.{are_words, are_hex, decoded, bytes_of}
 
 -- a digest of the length that goes with the curve
 unfoldable pub digest_of : Curve → List ℕ → Result Digest EngineWhy

@@ -3,21 +3,22 @@ ghost use Rattle.std.specs.Prelude.{◌≡◌};
 ghost use Rattle.pfr_engine.specs.Curves.{curve_of, signature_magic};
 ghost use Rattle.pfr_engine.specs.Acceptance.{Acceptance};
 
-/// An elliptic curve.
+/// An elliptic curve, of 256 or of 384 bits.
 #[derive(Clone, Copy, Debug, PartialEq, Eq)]
 pub enum Curve {
     C256,
     C384,
 }
 
-/// The digest of a message, by the curve that signs it.
+/// The digest of a message: SHA-256 where the curve has 256 bits, SHA-384 where it has 384.
 #[derive(Clone, Copy, Debug, PartialEq, Eq)]
 pub enum Digest {
     D256([u8; 32]),
     D384([u8; 48]),
 }
 
-/// A signature of a digest under a public key.
+/// A digest and its signature, the numbers R and S, under the public key with the coordinates X
+/// and Y. A number has 48 bytes on either curve.
 #[derive(Clone, Copy, Debug, PartialEq, Eq)]
 pub struct Ask {
     pub curve: Curve,
@@ -28,15 +29,16 @@ pub struct Ask {
     pub s: [u8; 48],
 }
 
-/// Says which signatures are right.
+/// Says which signatures are right. It does no input or output, and has no faults.
 pub trait Engine {
     ghost accepts: { Self → Acceptance };
 
-    /// Whether the signature of a digest, a pair of numbers, is right.
+    /// Whether a signature of a digest on an elliptic curve is right.
     fn check(&self, ask: &Ask) -> bool
         ensures { result ≡ (accepts self.now).ask ask.now };
 
-    /// Whether the signature of a whole message, in a scheme of long keys, is right.
+    /// Whether a signature of a message, in a scheme that is named by its number, is right. The
+    /// message is the signed bytes themselves.
     fn check_long(&self, scheme: u32, key: &[u8], message: &[u8], signature: &[u8]) -> bool
         ensures { result ≡ (accepts self.now).long scheme key.now message.now signature.now };
 }

@@ -1,6 +1,5 @@
-use Rattle.std.proofs.Common.{◌≡◌, ◌∙◌, ◌+◌, ◌≤◌, length, refl, arith, length-append}
+use Rattle.std.proofs.Common.{◌∙◌, refl, arith, length-append}
 use Rattle.std.proofs.lemmas.Result.{err_from_is_err_and}
-use Rattle.pfr_engine.specs.Rows.{judge_text}
 use Rattle.pfr_engine.proofs.LineLemmas.{advance, refuses, last}
 use Rattle.pfr_engine.proofs.reading.read_rows.Goals as goal
 

@@ -1,4 +1,4 @@
-use Rattle.std.proofs.Common.{◌≡◌, ◌∙◌, sym}
+use Rattle.std.proofs.Common.{◌∙◌, sym}
 use Rattle.pfr_engine.proofs.LineLemmas.{first_parts, last_line}
 use Rattle.pfr_engine.proofs.reading.split_line.Goals as goal
 

@@ -1,4 +1,4 @@
-use Rattle.std.proofs.Common.{◌≡◌, ◌∙◌}
+use Rattle.std.proofs.Common.{◌∙◌}
 use Rattle.pfr_engine.proofs.WordLemmas.{hex_behind}
 use Rattle.pfr_engine.proofs.words.are_hex.Goals as goal
 

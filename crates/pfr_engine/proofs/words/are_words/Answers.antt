@@ -1,4 +1,4 @@
-use Rattle.std.proofs.Common.{◌≡◌, ◌∙◌}
+use Rattle.std.proofs.Common.{◌∙◌}
 use Rattle.pfr_engine.proofs.WordLemmas.{words_behind}
 use Rattle.pfr_engine.proofs.words.are_words.Goals as goal
 

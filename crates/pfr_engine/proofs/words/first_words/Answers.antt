@@ -1,5 +1,5 @@
-use Rattle.std.proofs.Common.{rules, ◌≡◌, ◌==◌}
-use Rattle.std.proofs.lemmas.Iterator.{YieldsList, YieldsList-from_take}
+use Rattle.std.proofs.Common.{rules, ◌==◌}
+use Rattle.std.proofs.lemmas.Iterator.{YieldsList-from_take}
 use Rattle.std.proofs.lemmas.Iterator.Consumers.{map_from_collect, YieldsList-at}
 use Rattle.std.proofs.lemmas.Iterator.Splits.{YieldsList-from_slice_split}
 use Rattle.pfr_engine.proofs.words.first_words.Goals as goal

@@ -1,4 +1,4 @@
-use Rattle.std.proofs.Common.{◌≡◌, ◌∙◌}
+use Rattle.std.proofs.Common.{◌∙◌}
 use Rattle.pfr_engine.proofs.AcceptLemmas.{ask_is}
 use Rattle.pfr_engine.proofs.row.Row.is_short_of.Goals as goal
 
