@@ -1,0 +1,4 @@
+pub mod FloorLemmas
+pub mod SlotLemmas
+pub mod StandsLemmas
+pub mod FrameLemmas

@@ -1,0 +1,130 @@
+// The rows of fuses, read from a store of either profile.
+ghost use Rattle.std.specs.Prelude.{◌≡◌, ◌+◌, ◌≤◌, IfOk, IfErr};
+ghost use Rattle.pfr_flash.specs.Bytes.{bytes_at, continued};
+ghost use Rattle.pfr_flash.specs.FlashState.{now, size_of};
+ghost use Rattle.pfr_flash.specs.Reading.{OnlyReads, FailsReading};
+ghost use Rattle.pfr_fuses.specs.FuseMap.{IsSigning, profile_of};
+ghost use Rattle.pfr_fuses.specs.FusesOf.{floor_fuses, row_fuses};
+ghost use Rattle.pfr_fuses.specs.FusesState.{floor_in};
+ghost use Rattle.pfr_fuses.specs.FuseRows.{FloorsOf, RowsOf, fuses_of_floor};
+
+use crate::profile::Profile;
+use pfr_flash::{Bank, ContentType, Flash, FlashFail, FuseRow};
+
+// A row of so many bytes at a place, gone on with fuses that are not cleared.
+fn read_fuses<F: Flash, const BYTES: usize>(
+    nv: &mut F,
+    at: u32,
+    width: u32,
+) -> Result<FuseRow<BYTES>, FlashFail>
+    requires within { at + width ≤ size_of (F.device nv.old) }
+    requires size { BYTES ≤ 4096 }
+    requires width { width ≤ BYTES }
+    ensures found { IfOk result
+        (λ row. row ≡ continued (bytes_at (now (F.device nv.old)) at width) BYTES) }
+    ensures reads { OnlyReads (F.device nv.old) (F.device nv.new) }
+    ensures failed { IfErr result (λ f. FailsReading f (F.device nv.old) (F.device nv.new)) }
+{
+    let mut bytes = [0xFF; BYTES];
+    let kept = &mut bytes[..];
+    nv.read(at, &mut kept[0..width as usize])?;
+    Ok(FuseRow::new(bytes))
+}
+
+#[tactic(auto, unfolding(crate::specs::FusesOf::floor_fuses))]
+fn read_floor<F: Flash>(nv: &mut F, profile: Profile, bank: Bank) -> Result<FuseRow<16>, FlashFail>
+    requires size { size_of (F.device nv.old) ≡ 32768 }
+    requires profile { profile ≡ profile_of (now (F.device nv.old)) }
+    ensures found { IfOk result (λ row. row ≡ floor_fuses (now (F.device nv.old)) bank) }
+    ensures reads { OnlyReads (F.device nv.old) (F.device nv.new) }
+    ensures failed { IfErr result (λ f. FailsReading f (F.device nv.old) (F.device nv.new)) }
+{
+    read_fuses(nv, profile.floor_at(bank), profile.floor_width())
+}
+
+#[tactic(auto, unfolding(crate::specs::FusesOf::row_fuses))]
+fn read_row<F: Flash>(
+    nv: &mut F,
+    profile: Profile,
+    ty: ContentType,
+) -> Result<FuseRow<32>, FlashFail>
+    requires size { size_of (F.device nv.old) ≡ 32768 }
+    requires profile { profile ≡ profile_of (now (F.device nv.old)) }
+    requires signing { IsSigning ty }
+    ensures found { IfOk result (λ row. row ≡ row_fuses (now (F.device nv.old)) ty) }
+    ensures reads { OnlyReads (F.device nv.old) (F.device nv.new) }
+    ensures failed { IfErr result (λ f. FailsReading f (F.device nv.old) (F.device nv.new)) }
+{
+    read_fuses(nv, profile.row_at(ty), profile.row_width())
+}
+
+/// The fuses of both banks' floors.
+#[derive(Drop)]
+pub struct Floors {
+    pub bmc: FuseRow<16>,
+    pub pch: FuseRow<16>,
+}
+
+/// One plus the number of the highest cleared fuse, or 0.
+#[tactic(auto, using(crate::proofs::FloorLemmas::floors))]
+pub fn floor_of(row: &FuseRow<16>) -> u32
+    ensures { result ≡ floor_in 128 row.now }
+{
+    match row.highest() {
+        Some(bit) => bit + 1,
+        None => 0,
+    }
+}
+
+impl Floors {
+    pub fn of(&self, bank: Bank) -> &FuseRow<16>
+        ensures { result.now ≡ fuses_of_floor self.now bank }
+    {
+        match bank {
+            Bank::Bmc => &self.bmc,
+            Bank::Pch => &self.pch,
+        }
+    }
+
+    pub fn read<F: Flash>(nv: &mut F, profile: Profile) -> Result<Floors, FlashFail>
+        requires size { size_of (F.device nv.old) ≡ 32768 }
+        requires profile { profile ≡ profile_of (now (F.device nv.old)) }
+        ensures found { IfOk result (FloorsOf (now (F.device nv.old))) }
+        ensures reads { OnlyReads (F.device nv.old) (F.device nv.new) }
+        ensures failed { IfErr result (λ f. FailsReading f (F.device nv.old) (F.device nv.new)) }
+    {
+        let bmc = read_floor(nv, profile, Bank::Bmc)?;
+        let pch = read_floor(nv, profile, Bank::Pch)?;
+        Ok(Floors { bmc, pch })
+    }
+}
+
+/// The cancelled keys of each signing type.
+#[derive(Drop)]
+pub struct CancelRows {
+    pub pch_manifest: FuseRow<32>,
+    pub pch_capsule: FuseRow<32>,
+    pub bmc_manifest: FuseRow<32>,
+    pub bmc_capsule: FuseRow<32>,
+}
+
+impl CancelRows {
+    pub fn read<F: Flash>(nv: &mut F, profile: Profile) -> Result<CancelRows, FlashFail>
+        requires size { size_of (F.device nv.old) ≡ 32768 }
+        requires profile { profile ≡ profile_of (now (F.device nv.old)) }
+        ensures found { IfOk result (RowsOf (now (F.device nv.old))) }
+        ensures reads { OnlyReads (F.device nv.old) (F.device nv.new) }
+        ensures failed { IfErr result (λ f. FailsReading f (F.device nv.old) (F.device nv.new)) }
+    {
+        let pch_manifest = read_row(nv, profile, ContentType::PchManifest)?;
+        let pch_capsule = read_row(nv, profile, ContentType::PchCapsule)?;
+        let bmc_manifest = read_row(nv, profile, ContentType::BmcManifest)?;
+        let bmc_capsule = read_row(nv, profile, ContentType::BmcCapsule)?;
+        Ok(CancelRows {
+            pch_manifest,
+            pch_capsule,
+            bmc_manifest,
+            bmc_capsule,
+        })
+    }
+}

@@ -1,0 +1,65 @@
+// What a platform is provisioned with.
+ghost use Rattle.std.specs.Prelude.{◌≡◌, ◌+◌, ◌≤◌, length};
+ghost use Rattle.pfr_fuses.specs.RootSlot.{number_at, layout_at, slot_of, layout_of};
+
+use byteorder::{ByteOrder, LittleEndian};
+use pfr_flash::{Bank, Layout};
+
+/// The hash of the root key, and the layouts of both banks.
+#[derive(Clone, Copy, Debug, PartialEq, Eq)]
+pub struct RootSlot {
+    pub root: [u8; 32],
+    pub bmc: Layout,
+    pub pch: Layout,
+}
+
+// the number in the four bytes at a place
+#[tactic(auto, unfolding(crate::specs::RootSlot::number_at))]
+fn number_at(bytes: &[u8], at: usize) -> u32
+    requires { at + 4 ≤ length bytes.now }
+    ensures { result ≡ number_at bytes.now at }
+{
+    LittleEndian::read_u32(&bytes[at..at + 4])
+}
+
+// the layout whose five numbers stand at a place
+#[tactic(auto, unfolding(crate::specs::RootSlot::layout_at))]
+fn layout_at(bytes: &[u8], at: usize) -> Layout
+    requires { at + 20 ≤ length bytes.now }
+    ensures { result ≡ layout_at bytes.now at }
+{
+    Layout {
+        manifest_at: number_at(bytes, at),
+        manifest_len: number_at(bytes, at + 4),
+        recovery_at: number_at(bytes, at + 8),
+        staging_at: number_at(bytes, at + 12),
+        area_len: number_at(bytes, at + 16),
+    }
+}
+
+impl RootSlot {
+    /// What the bytes of a provision slot before its gate say: the root's 32 bytes, then the
+    /// layouts of the BMC's and the PCH's bank, each as five little-endian numbers in the order
+    /// of `Layout`.
+    #[tactic(auto, unfolding(crate::specs::RootSlot::slot_of))]
+    pub fn from_slot(bytes: &[u8; 72]) -> RootSlot
+        ensures { result ≡ slot_of bytes.now }
+    {
+        let mut root = [0; 32];
+        root.copy_from_slice(&bytes[0..32]);
+        RootSlot {
+            root,
+            bmc: layout_at(bytes, 32),
+            pch: layout_at(bytes, 52),
+        }
+    }
+
+    pub fn layout(&self, bank: Bank) -> &Layout
+        ensures { result.now ≡ layout_of self.now bank }
+    {
+        match bank {
+            Bank::Bmc => &self.bmc,
+            Bank::Pch => &self.pch,
+        }
+    }
+}

@@ -1,0 +1,11 @@
+pub mod RegionLemmas
+pub mod Pieces
+pub mod AnswerLemmas
+pub mod EntryLemmas
+pub mod LoopLemmas
+pub mod Numbers
+pub mod Tests
+pub mod PartLaws
+pub mod SpellingLaws
+pub mod ReadingLaw
+pub mod FindingLaw

@@ -1,0 +1,31 @@
+use Rattle.std.proofs.Common.{◌≡◌, ◌∙◌, sym, ap, ℕ, List, length, drop, arith}
+use Rattle.std.proofs.lemmas.Result.{err_from_is_err_and}
+use Rattle.pfr_flash.specs.Bytes.{bytes_at}
+use Rattle.pfr_flash.specs.FlashState.{FlashState, now, size_of}
+use Rattle.pfr_flash.proofs.RangeLemmas.{length-now}
+use Rattle.pfr_flash.proofs.ReadingLemmas.{then_reads}
+use Rattle.pfr_manifest.specs.Judge.{turns_left, judge_entries}
+use Rattle.pfr_manifest.proofs.Pieces.{length-bytes_at}
+use Rattle.pfr_manifest.proofs.AnswerLemmas.{refuses_whole, answers_later}
+use Rattle.pfr_manifest.proofs.EntryLemmas.{header_refused, header_passed}
+use Rattle.pfr_manifest.proofs.reading.judged.Goals as goal
+
+pub returns-in_err-header-clause-exact : goal.returns-in_err-header-clause-exact
+returns-in_err-header-clause-exact g c =
+    let p = err_from_is_err_and c.from_residual.result c.from_residual.ensures.1 in
+    let old : FlashState = g.F.Flash.device c.args.flash.now in
+    let long : length (bytes_at (now old) c.args.place c.args.size) ≡ c.args.size = length-bytes_at (now old) c.args.place c.args.size (omega (arith, length-now old)) in
+    rw (p.1, p.2) (refuses_whole old (g.F.Flash.device c.header_at.new.flash) c.in_err-header.field-0.0 _ _ (λ e. header_refused _ c.args.size c.args.layout.now (size_of old) _ long e) c.in_err-header.ensures.exact)
+
+pub returns-clause-exact : goal.returns-clause-exact
+returns-clause-exact g c =
+    let old : FlashState = g.F.Flash.device c.args.flash.now in
+    let bytes : List ℕ = bytes_at (now old) c.args.place c.args.size in
+    let long : length bytes ≡ c.args.size = length-bytes_at (now old) c.args.place c.args.size (omega (arith, length-now old)) in
+    let whole = header_passed bytes c.args.size c.args.layout.now (size_of old) c.in_ok-header.header long c.in_ok-header.ensures.exact in
+    let same = ap (λ image. judge_entries (turns_left c.in_ok-header.header) (drop 32 (bytes_at image c.args.place c.args.size)) 32 c.in_ok-header.header c.args.layout.now c.size-bank.result) c.header_at.ensures.reads.content in
+    let sized = ap (λ bank. judge_entries (turns_left c.in_ok-header.header) (drop 32 bytes) 32 c.in_ok-header.header c.args.layout.now bank) c.size-bank.ensures in
+    answers_later old _ _ _ _ _ c.header_at.ensures.reads (same ∙ sized ∙ sym whole) c.entries_at.ensures.exact
+
+pub returns-clause-reads : goal.returns-clause-reads
+returns-clause-reads g c = then_reads c.header_at.ensures.reads c.entries_at.ensures.reads

@@ -1,0 +1,23 @@
+-- A judgement goes through its tests in order, and names the first that fails.
+use Rattle.std.specs.Prelude.{Bool, true, false, Option, Some, None, Result, Ok, Err}
+use Rattle.pfr_manifest.specs.declared.fail.ManifestFail.{ManifestFail}
+
+infixl 10 ◌>>=◌
+abbrev pub ◌>>=◌ : {A B : Type 0} → Result A ManifestFail → (A → Result B ManifestFail) → Result B ManifestFail
+(Ok x) >>= f = f x
+(Err cause) >>= f = Err cause
+
+infixl 10 ◌>>◌
+abbrev pub ◌>>◌ : {B : Type 0} → Result (Unit {0}) ManifestFail → Result B ManifestFail → Result B ManifestFail
+(Ok x) >> rest = rest
+(Err cause) >> rest = Err cause
+
+-- go on where the test holds
+abbrev pub require : ManifestFail → Bool → Result (Unit {0}) ManifestFail
+require cause true = Ok tt
+require cause false = Err cause
+
+-- go on with the value that is there
+abbrev pub known : {A : Type 0} → ManifestFail → Option A → Result A ManifestFail
+known cause (Some x) = Ok x
+known cause None = Err cause

@@ -1,0 +1,97 @@
+// A bank's manifest.
+ghost use Rattle.std.specs.Prelude.{◌≡◌, ◌+◌, ◌≤◌, length, Ok, IfOk, IfErr};
+ghost use Rattle.pfr_flash.specs.Bytes.{bytes_at};
+ghost use Rattle.pfr_flash.specs.FlashState.{now, size_of};
+ghost use Rattle.pfr_flash.specs.Layout.{IsValidLayout};
+ghost use Rattle.pfr_flash.specs.Reading.{OnlyReads};
+ghost use Rattle.pfr_manifest.specs.Answer.{IsFound, Answers};
+ghost use Rattle.pfr_manifest.specs.Fields.{AreBytes};
+ghost use Rattle.pfr_manifest.specs.Judge.{HasNoEntries, header_at, judge_header, judge_manifest};
+ghost use Rattle.pfr_manifest.specs.Manifest.{IsManifest};
+ghost use Rattle.pfr_manifest.specs.declared.manifest.Manifest.{Manifest};
+
+use crate::fail::ManifestFail;
+use crate::fields::{bytes_at, number};
+use crate::reading::judged;
+use crate::regions::Regions;
+use crate::rules::Rules;
+use pfr_flash::{Flash, Layout};
+
+/// How long a header is.
+pub const HEADER: usize = 32;
+
+/// A bank's manifest: its regions, and its SMBus rules. `length` is that of its text.
+#[derive(Drop)]
+pub struct Manifest {
+    pub svn: u8,
+    pub bkc: u8,
+    pub revision: [u8; 2],
+    pub reserved: [u8; 4],
+    pub oem: [u8; 16],
+    pub length: u32,
+    pub regions: Regions,
+    pub rules: Rules,
+}
+
+/// The manifest that a header spells, still without entries.
+fn header_of(bytes: &[u8; HEADER]) -> Manifest
+    ensures { result ≡ header_at bytes.now }
+{
+    Manifest {
+        svn: bytes[4],
+        bkc: bytes[5],
+        revision: bytes_at(bytes, 6),
+        reserved: bytes_at(bytes, 8),
+        oem: bytes_at(bytes, 12),
+        length: number(bytes, 28),
+        regions: Regions::new(),
+        rules: Rules::new(),
+    }
+}
+
+/// The header of a manifest that has so many bytes, at least 32.
+#[tactic(auto, unfolding(crate::specs::Judge::judge_header))]
+pub fn read_header(header: &[u8; HEADER], count: u32) -> Result<Manifest, ManifestFail>
+    requires { 32 ≤ count }
+    ensures exact { result ≡ judge_header header.now count }
+    ensures empty { IfOk result HasNoEntries }
+    ensures bytes { AreBytes header.now }
+    ensures found { IfErr result IsFound }
+{
+    if number(header, 0) != 0x02B3_CE1D {
+        return Err(ManifestFail::Magic);
+    }
+    if header[4] > 127 {
+        return Err(ManifestFail::Svn);
+    }
+    let length = number(header, 28);
+    if length != count || length == 0 || length % 128 != 0 {
+        return Err(ManifestFail::Length);
+    }
+    Ok(header_of(header))
+}
+
+impl Manifest {
+    /// Reads the manifest at a place of a bank's flash. The place and the size in bytes are those of the signed
+    /// content, and the layout is the bank's.
+    pub fn read<F: Flash>(
+        flash: &mut F,
+        place: u32,
+        size: u32,
+        layout: &Layout,
+    ) -> Result<Manifest, ManifestFail>
+        requires within { place + size ≤ size_of (F.device flash.old) }
+        requires layout { IsValidLayout layout.now (size_of (F.device flash.old)) }
+        // What is read is what the bytes spell.
+        ensures ok { IfOk result (λ m. IsManifest (bytes_at (now (F.device flash.old)) place size) m layout.now (size_of (F.device flash.old))) }
+        // What the bytes spell is read, unless the device fails.
+        ensures only { (m : Manifest) → IsManifest (bytes_at (now (F.device flash.old)) place size) m layout.now (size_of (F.device flash.old)) →
+            Answers (F.device flash.old) (F.device flash.new) result (Ok m) }
+        // Which cause it is: the first in order.
+        ensures exact { Answers (F.device flash.old) (F.device flash.new) result
+            (judge_manifest (bytes_at (now (F.device flash.old)) place size) layout.now (size_of (F.device flash.old))) }
+        ensures reads { OnlyReads (F.device flash.old) (F.device flash.new) }
+    {
+        judged(flash, place, size, layout)
+    }
+}

@@ -1,0 +1,63 @@
+// A region of a bank.
+ghost use Rattle.std.specs.Prelude.{◌≡◌, ◌≤◌};
+
+/// The hash that a region's bytes are to have. A region with a hash is static.
+#[derive(Clone, Copy, Debug, PartialEq, Eq)]
+pub enum RegionHash {
+    None,
+    Sha256([u8; 32]),
+    Sha384([u8; 48]),
+}
+
+impl Default for RegionHash {
+    fn default() -> RegionHash {
+        RegionHash::None
+    }
+}
+
+/// A region of a bank, from `start` up to `end`.
+///
+/// Bit 1 of the mask lets the bank's bus write it, and the bits 2 to 4 say at which levels it is restored.
+#[derive(Clone, Copy, Debug, Default, PartialEq, Eq)]
+pub struct Region {
+    pub mask: u8,
+    pub reserved: [u8; 4],
+    pub start: u32,
+    pub end: u32,
+    pub hash: RegionHash,
+}
+
+impl Region {
+    ghost use Rattle.pfr_manifest.specs.Regions.{is_static, is_writable};
+    ghost use Rattle.pfr_manifest.specs.Judge.{region_len};
+
+    /// Whether it has a hash.
+    pub fn is_static(&self) -> bool
+        ensures { result ≡ is_static self.now }
+    {
+        match self.hash {
+            RegionHash::None => false,
+            _ => true,
+        }
+    }
+
+    /// Whether the bank's bus may write it.
+    pub fn is_writable(&self) -> bool
+        ensures { result ≡ is_writable self.now }
+    {
+        (self.mask >> 1) & 1 == 1
+    }
+
+    /// How long its definition is.
+    pub(crate) fn definition_len(&self) -> u32
+        ensures value { result ≡ region_len self.now }
+        ensures some { 16 ≤ result }
+        ensures most { result ≤ 64 }
+    {
+        match self.hash {
+            RegionHash::None => 16,
+            RegionHash::Sha256(_) => 48,
+            RegionHash::Sha384(_) => 64,
+        }
+    }
+}
