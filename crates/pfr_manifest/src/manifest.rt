@@ -1,5 +1,5 @@
 // A bank's manifest.
-ghost use Rattle.std.specs.Prelude.{◌≡◌, ◌+◌, ◌≤◌, length, Ok, IfOk, IfErr};
+ghost use Rattle.std.specs.Prelude.{◌≡◌, ◌+◌, ◌≤◌, length, Ok, IfOk, OnOk, IfErr};
 ghost use Rattle.pfr_flash.specs.Bytes.{bytes_at};
 ghost use Rattle.pfr_flash.specs.FlashState.{now, size_of};
 ghost use Rattle.pfr_flash.specs.Layout.{IsValidLayout};
@@ -90,6 +90,7 @@ impl Manifest {
         // Which cause it is: the first in order.
         ensures exact { Answers (F.device flash.old) (F.device flash.new) result
             (judge_manifest (bytes_at (now (F.device flash.old)) place size) layout.now (size_of (F.device flash.old))) }
+        ensures bytes { OnOk result (AreBytes (bytes_at (now (F.device flash.old)) place size)) }
         ensures reads { OnlyReads (F.device flash.old) (F.device flash.new) }
     {
         judged(flash, place, size, layout)

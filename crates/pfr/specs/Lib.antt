@@ -1,0 +1,10 @@
+pub mod Script
+pub mod Names
+pub mod Commands
+pub mod Judging
+pub mod Lines
+pub mod Loading
+pub mod Benches
+pub mod Played
+pub mod Runs
+pub mod Top

@@ -1,0 +1,41 @@
+-- The line of a status.
+use Rattle.std.specs.Prelude.{ℕ, List, [], ◌++◌, codes, decimal}
+use Rattle.pfr_engine.specs.Why.{word_of}
+use Rattle.pfr.specs.declared.script.ScriptWhy.TheVariants.{Word}
+use Rattle.pfr.specs.declared.status.Role.{Role}
+use Rattle.pfr.specs.declared.status.Role.TheVariants as role
+use Rattle.pfr.specs.declared.status.Why.{Why}
+use Rattle.pfr.specs.declared.status.Why.TheVariants as why
+use Rattle.pfr.specs.declared.status.Status.{Status}
+use Rattle.pfr.specs.declared.status.Status.TheVariants.{Done, Usage, BadInput, TooLong, ReadFault, WriteFault, NoMemory}
+
+abbrev pub role_word : Role → List ℕ
+role_word role.Bmc = codes "bmc"
+role_word role.Pch = codes "pch"
+role_word role.Nv = codes "nv"
+role_word role.Engine = codes "engine"
+role_word role.Script = codes "script"
+
+abbrev pub why_word : Why → List ℕ
+why_word why.Size = codes "size"
+why_word (why.Engine cause) = word_of cause
+why_word (why.Script Word) = codes "word"
+
+-- what a status writes; a command that was done and a sink that failed write nothing
+abbrev pub error_line : Status → List ℕ
+error_line Done = []
+error_line Usage = codes "error: usage\n"
+error_line (BadInput file place why) = codes "error: " ++ (role_word file ++ (codes " " ++ (decimal place ++ (codes " " ++ (why_word why ++ codes "\n")))))
+error_line (TooLong file) = codes "error: " ++ (role_word file ++ codes " too long\n")
+error_line (ReadFault file) = codes "error: cannot read " ++ (role_word file ++ codes "\n")
+error_line WriteFault = []
+error_line NoMemory = codes "error: no memory\n"
+
+abbrev pub code_of : Status → ℕ
+code_of Done = 0
+code_of Usage = 2
+code_of (BadInput _ _ _) = 3
+code_of (TooLong _) = 3
+code_of (ReadFault _) = 4
+code_of WriteFault = 5
+code_of NoMemory = 7

@@ -1,0 +1,129 @@
+// What a call answers.
+ghost use Rattle.std.specs.Prelude.{◌≡◌};
+ghost use Rattle.pfr_shelf.specs.Pieces.{Writes};
+ghost use Rattle.pfr.specs.Judging.{limit_of};
+ghost use Rattle.pfr.specs.Lines.{role_word, why_word, error_line, code_of};
+
+use crate::script::ScriptWhy;
+use itoa::Buffer;
+use pfr_chain::EngineWhy;
+use pfr_shelf::{Sink, SinkFail, write_pieces};
+
+/// What a file is for.
+#[derive(Clone, Copy, Debug, PartialEq, Eq)]
+pub enum Role {
+    Bmc,
+    Pch,
+    Nv,
+    Engine,
+    Script,
+}
+
+/// Which rule a file breaks.
+#[derive(Clone, Copy, Debug, PartialEq, Eq)]
+pub enum Why {
+    Size,
+    Engine(EngineWhy),
+    Script(ScriptWhy),
+}
+
+/// How a command ended.
+#[derive(Clone, Copy, Debug, PartialEq, Eq)]
+pub enum Status {
+    Done,
+    Usage,
+    BadInput { file: Role, place: u32, why: Why },
+    TooLong { file: Role },
+    ReadFault { file: Role },
+    WriteFault,
+    NoMemory,
+}
+
+impl Role {
+    /// The word that names it in an error's line.
+    pub fn word(&self) -> &'static [u8]
+        ensures { result.now ≡ role_word self.now }
+    {
+        match self {
+            Role::Bmc => b"bmc",
+            Role::Pch => b"pch",
+            Role::Nv => b"nv",
+            Role::Engine => b"engine",
+            Role::Script => b"script",
+        }
+    }
+
+    /// The most bytes that such a file may have.
+    pub fn limit(&self) -> u32
+        ensures { result ≡ limit_of self.now }
+    {
+        match self {
+            Role::Bmc | Role::Pch => 67_108_864,
+            Role::Nv => 32_768,
+            Role::Engine => 4_194_304,
+            Role::Script => 50_331_648,
+        }
+    }
+}
+
+impl Why {
+    pub fn word(&self) -> &'static [u8]
+        ensures { result.now ≡ why_word self.now }
+    {
+        match self {
+            Why::Size => b"size",
+            Why::Engine(why) => why.word().as_bytes(),
+            Why::Script(ScriptWhy::Word) => b"word",
+        }
+    }
+}
+
+impl Status {
+    /// The exit code.
+    pub fn code(&self) -> u8
+        ensures { result ≡ code_of self.now }
+    {
+        match self {
+            Status::Done => 0,
+            Status::Usage => 2,
+            Status::BadInput { .. } | Status::TooLong { .. } => 3,
+            Status::ReadFault { .. } => 4,
+            Status::WriteFault => 5,
+            Status::NoMemory => 7,
+        }
+    }
+
+    /// Writes its line, if it has one.
+    pub fn tell<K: Sink>(&self, out: &mut K) -> Result<(), SinkFail>
+        ensures { Writes K.tells K.written K.faults out.old out.new (error_line self.now) result }
+    {
+        match self {
+            Status::Done | Status::WriteFault => Ok(()),
+            Status::Usage => write_pieces(out, &[b"error: usage\n"]),
+            Status::BadInput { file, place, why } => {
+                let mut buffer = Buffer::new();
+                let place = buffer.format(*place).as_bytes();
+                write_pieces(
+                    out,
+                    &[
+                        b"error: ",
+                        file.word(),
+                        b" ",
+                        place,
+                        b" ",
+                        why.word(),
+                        b"\n",
+                    ],
+                )
+            }
+            Status::TooLong { file } => write_pieces(
+                out,
+                &[b"error: ", file.word(), b" too long\n"],
+            ),
+            Status::ReadFault { file } => {
+                write_pieces(out, &[b"error: cannot read ", file.word(), b"\n"])
+            }
+            Status::NoMemory => write_pieces(out, &[b"error: no memory\n"]),
+        }
+    }
+}

@@ -1,0 +1,4 @@
+pub mod AnswerLemmas
+pub mod Parts
+pub mod RegionLemmas
+pub mod TrustedLaw

@@ -1,0 +1,37 @@
+-- What a call over a bank answers, where it judges what the bank holds.
+use Rattle.std.specs.Prelude.{◌≡◌, ◌≤◌, ◌%◌, ℕ, Option, Some, None, Result, Ok, Err, MatchOption}
+use Rattle.pfr_flash.specs.FlashState.{FlashState}
+use Rattle.pfr_flash.specs.Reading.{FailsReading}
+use Rattle.pfr_flash.specs.declared.flash.FlashFail.{FlashFail}
+use Rattle.pfr_chain.specs.declared.fail.ChainFail.{ChainFail}
+use Rattle.pfr_chain.specs.declared.fail.ChainFail.TheVariants as chain
+use Rattle.pfr_manifest.specs.declared.fail.ManifestFail.{ManifestFail}
+use Rattle.pfr_manifest.specs.declared.fail.ManifestFail.TheVariants as manifest
+use Rattle.pfr_auth.specs.declared.fail.ActiveFail.{ActiveFail}
+use Rattle.pfr_auth.specs.declared.fail.ActiveFail.TheVariants.{Chain, Manifest, SvnFloor, RegionHash, Flash}
+
+-- a bank's size: whole blocks of 64 KiB, up to 64 MiB
+pub record IsBankSize (size : ℕ) : Type 0 where
+  pub blocks : size % 65536 ≡ 0
+  pub most : size ≤ 67108864
+
+abbrev pub chain_failure : ChainFail → Option FlashFail
+chain_failure (chain.Flash fail) = Some fail
+chain_failure cause = None
+
+abbrev pub manifest_failure : ManifestFail → Option FlashFail
+manifest_failure (manifest.Flash fail) = Some fail
+manifest_failure cause = None
+
+-- the device's failure, where that is the cause
+abbrev pub failure_of : ActiveFail → Option FlashFail
+failure_of (Chain cause) = chain_failure cause
+failure_of (Manifest cause) = manifest_failure cause
+failure_of SvnFloor = None
+failure_of (RegionHash k) = None
+failure_of (Flash fail) = Some fail
+
+-- the answer is the judgement, unless a call of the device failed
+abbrev pub Answers : {Y : Type 0} → FlashState → FlashState → Result Y ActiveFail → Result Y ActiveFail → Type 0
+Answers old new (Ok x) judged = judged ≡ Ok x
+Answers old new (Err cause) judged = MatchOption (failure_of cause) (judged ≡ Err cause) (λ fail. FailsReading fail old new)

@@ -1,0 +1,50 @@
+//! When the active image of a bank is trusted.
+#![tactic(auto)]
+
+ghost use Rattle.std.specs.Prelude.{◌≡◌, ℕ, List, IfOk, Ok};
+ghost use Rattle.pfr_flash.specs.FlashState.{now, size_of};
+ghost use Rattle.pfr_flash.specs.Layout.{IsValidLayout};
+ghost use Rattle.pfr_flash.specs.Reading.{OnlyReads};
+ghost use Rattle.pfr_fuses.specs.FusesOf.{fuses_of};
+ghost use Rattle.pfr_fuses.specs.RootSlot.{layout_of};
+ghost use Rattle.pfr_auth.specs.Answer.{Answers, IsBankSize};
+ghost use Rattle.pfr_auth.specs.Judge.{judge_active};
+ghost use Rattle.pfr_auth.specs.Trusted.{IsTrusted};
+
+mod fail;
+mod hashes;
+mod judging;
+
+pub use fail::ActiveFail;
+use pfr_chain::Engine;
+use pfr_flash::{Bank, Flash, Layout};
+use pfr_fuses::Fuses;
+use pfr_manifest::Manifest;
+
+/// Judges the active image of a bank, and gives the manifest that it is signed by.
+///
+/// The layout is the bank's of the provision that `fuses` were read with. The static regions are hashed as they are
+/// read, in the order of the manifest, and nothing of them is kept.
+pub fn active<F: Flash, E: Engine>(
+    flash: &mut F,
+    bank: Bank,
+    layout: &Layout,
+    fuses: &Fuses,
+    engine: &E,
+) -> Result<Manifest, ActiveFail>
+    requires size { IsBankSize (size_of (F.device flash.old)) }
+    requires layout { layout.now ≡ layout_of fuses.now.provision bank }
+    requires valid { IsValidLayout layout.now (size_of (F.device flash.old)) }
+    // What is found to be trusted is, by this manifest, with each store that the fuses are those of.
+    ensures ok { let image = now (F.device flash.old) in
+        IfOk result (λ m. (nv : List ℕ) → fuses_of nv ≡ Ok fuses.now → (t : IsTrusted image nv bank (E.accepts engine.now)) × (t.manifest ≡ m)) }
+    // What is trusted is found to be, unless the device fails.
+    ensures only { let image = now (F.device flash.old) in
+        (nv : List ℕ) → fuses_of nv ≡ Ok fuses.now → (t : IsTrusted image nv bank (E.accepts engine.now)) →
+        Answers (F.device flash.old) (F.device flash.new) result (Ok t.manifest) }
+    // Which cause it is: the first in order.
+    ensures exact { Answers (F.device flash.old) (F.device flash.new) result (judge_active (now (F.device flash.old)) bank fuses.now (E.accepts engine.now)) }
+    ensures reads { OnlyReads (F.device flash.old) (F.device flash.new) }
+{
+    judging::judged(flash, bank, layout, fuses, engine)
+}

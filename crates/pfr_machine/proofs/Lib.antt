@@ -1,0 +1,2 @@
+pub mod PromiseLemmas
+pub mod PowerLemmas

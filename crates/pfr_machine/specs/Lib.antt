@@ -1,0 +1,5 @@
+pub mod Calm
+pub mod Standing
+pub mod PlatformState
+pub mod Power
+pub mod Promises

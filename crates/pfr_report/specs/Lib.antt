@@ -1,0 +1,4 @@
+pub mod NotesState
+pub mod NotesInside
+pub mod Words
+pub mod Texts

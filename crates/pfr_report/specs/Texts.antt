@@ -1,0 +1,49 @@
+-- The lines of a report.
+use Rattle.std.specs.Prelude.{◌≡◌, ◌⊎◌, ℕ, List, [], ◌∷◌, ◌++◌, codes, decimal}
+use Rattle.std.specs.List.{flat_map}
+use Rattle.pfr_flash.specs.declared.names.Bank.{Bank}
+use Rattle.pfr_flash.specs.declared.names.Bank.TheVariants as bank
+use Rattle.pfr_report.specs.Words.{rule_word, active_text, IsFound}
+use Rattle.pfr_report.specs.declared.note.LockWhy.{LockWhy}
+use Rattle.pfr_report.specs.declared.note.LockWhy.TheVariants.{Unprovisioned, Layout, NotRestored}
+use Rattle.pfr_report.specs.declared.note.What.{What}
+use Rattle.pfr_report.specs.declared.note.What.TheVariants.{Power, Held, Released, Locked, Untrusted}
+use Rattle.pfr_report.specs.declared.note.Note.{Note}
+
+abbrev pub bank_word : Bank → List ℕ
+bank_word bank.Bmc = codes "bmc"
+bank_word bank.Pch = codes "pch"
+
+abbrev pub lock_word : LockWhy → List ℕ
+lock_word Unprovisioned = codes "unprovisioned"
+lock_word (Layout rule) = codes "layout " ++ rule_word rule
+lock_word NotRestored = codes "not-restored"
+
+abbrev pub what_text : What → List ℕ
+what_text Power = codes "power"
+what_text (Held bank counts) = bank_word bank ++ codes " held"
+what_text (Released bank svn counts) = bank_word bank ++ (codes " released svn " ++ decimal svn)
+what_text (Locked bank why counts) = bank_word bank ++ (codes " locked " ++ lock_word why)
+what_text (Untrusted bank why) = bank_word bank ++ (codes " untrusted " ++ active_text why)
+
+-- the line of a note: the item's number, a space, the text
+unfoldable pub note_text : Note → List ℕ
+note_text note = decimal note.item ++ (codes " " ++ (what_text note.what ++ codes "\n"))
+
+-- the report of a run
+abbrev pub report : List Note → List ℕ
+report notes = flat_map note_text notes
+
+-- a note's cause is no failed device
+abbrev pub HasText : What → Type 0
+HasText (Untrusted bank why) = IsFound why
+HasText what = Unit {0}
+
+abbrev pub AllText : List Note → Type 0
+AllText [] = Unit {0}
+AllText (note ∷ notes) = HasText note.what × AllText notes
+
+-- this was noted
+abbrev pub IsNoted : List Note → What → Type 0
+IsNoted [] what = ⊥
+IsNoted (note ∷ notes) what = (note.what ≡ what) ⊎ IsNoted notes what

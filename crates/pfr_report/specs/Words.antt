@@ -1,0 +1,79 @@
+-- The words of causes.
+use Rattle.std.specs.Prelude.{◌≡◌, ℕ, List, [], ◌++◌, codes, decimal, Option, Some, None}
+use Rattle.pfr_flash.specs.declared.layout.LayoutRule.{LayoutRule}
+use Rattle.pfr_flash.specs.declared.layout.LayoutRule.TheVariants as rule
+use Rattle.pfr_chain.specs.declared.fail.ChainFail.{ChainFail}
+use Rattle.pfr_chain.specs.declared.fail.ChainFail.TheVariants as chain
+use Rattle.pfr_manifest.specs.declared.fail.ManifestFail.{ManifestFail}
+use Rattle.pfr_manifest.specs.declared.fail.ManifestFail.TheVariants as manifest
+use Rattle.pfr_auth.specs.Answer.{failure_of}
+use Rattle.pfr_auth.specs.declared.fail.ActiveFail.{ActiveFail}
+use Rattle.pfr_auth.specs.declared.fail.ActiveFail.TheVariants as active
+
+abbrev pub rule_word : LayoutRule → List ℕ
+rule_word rule.Align = codes "align"
+rule_word rule.Outside = codes "outside"
+rule_word rule.Overlap = codes "overlap"
+
+-- A failed device has no word: no note's cause has one.
+abbrev pub chain_word : ChainFail → List ℕ
+chain_word chain.ShortBlock = codes "short-block"
+chain_word chain.Block0Magic = codes "block0-magic"
+chain_word chain.WrongType = codes "type"
+chain_word chain.BlockLength = codes "block-length"
+chain_word chain.Length = codes "length"
+chain_word chain.Digest256 = codes "digest256"
+chain_word chain.Digest384 = codes "digest384"
+chain_word chain.Block1Magic = codes "block1-magic"
+chain_word chain.RootEntry = codes "root-entry"
+chain_word chain.RootHash = codes "root-hash"
+chain_word chain.KeyEntry = codes "key-entry"
+chain_word chain.KeyId = codes "key-id"
+chain_word chain.Permission = codes "permission"
+chain_word chain.Cancelled = codes "cancelled"
+chain_word chain.KeySignature = codes "key-signature"
+chain_word chain.Block0Entry = codes "block0-entry"
+chain_word chain.Block0Signature = codes "block0-signature"
+chain_word (chain.Flash f) = []
+
+-- The word of a manifest's cause, and the place or the region's number behind it.
+abbrev pub manifest_word : ManifestFail → List ℕ
+manifest_word manifest.Magic = codes "magic"
+manifest_word manifest.Svn = codes "svn"
+manifest_word manifest.Length = codes "length"
+manifest_word (manifest.EntryType place) = codes "entry-type"
+manifest_word manifest.TooMany = codes "too-many"
+manifest_word (manifest.HashInfo k) = codes "hash-info"
+manifest_word (manifest.WritableHashed k) = codes "writable-hashed"
+manifest_word (manifest.Align k) = codes "align"
+manifest_word (manifest.Range k) = codes "range"
+manifest_word (manifest.Order k) = codes "order"
+manifest_word (manifest.Overlap k) = codes "overlap"
+manifest_word manifest.Tail = codes "tail"
+manifest_word (manifest.Flash f) = []
+
+abbrev pub manifest_number : ManifestFail → Option ℕ
+manifest_number (manifest.EntryType place) = Some place
+manifest_number (manifest.HashInfo k) = Some k
+manifest_number (manifest.WritableHashed k) = Some k
+manifest_number (manifest.Align k) = Some k
+manifest_number (manifest.Range k) = Some k
+manifest_number (manifest.Order k) = Some k
+manifest_number (manifest.Overlap k) = Some k
+manifest_number cause = None
+
+abbrev pub numbered : List ℕ → Option ℕ → List ℕ
+numbered word None = word
+numbered word (Some number) = word ++ (codes ":" ++ decimal number)
+
+-- the text of an active image's cause
+abbrev pub active_text : ActiveFail → List ℕ
+active_text (active.Chain cause) = codes "chain:" ++ chain_word cause
+active_text (active.Manifest cause) = codes "manifest:" ++ numbered (manifest_word cause) (manifest_number cause)
+active_text active.SvnFloor = codes "svn-floor"
+active_text (active.RegionHash k) = codes "region-hash:" ++ decimal k
+active_text (active.Flash f) = []
+
+-- it is found in the bytes, and is no failure of the device
+abbrev pub IsFound : ActiveFail → Type 0
+IsFound cause = failure_of cause ≡ None
