@@ -8,13 +8,17 @@ use pfr::{Status, pfr};
 use pfr_shelf::{FileShelf, OutSink};
 use std::alloc::AllocError;
 use std::env;
+use std::io::ErrorKind;
 use std::process::ExitCode;
 
-// The words after the program's name; none where they are no text.
+// The words after the program's name; none where one of them is not UTF-8.
 fn words_of(rt: &HostRuntime) -> Result<Vec<String>, AllocError> {
     match env::args(rt) {
         Ok(args) => args.skip(1).collect(rt.alloc()),
-        Err(_) => Ok(Vec::new(rt.alloc())),
+        Err(error) => match error.kind() {
+            ErrorKind::OutOfMemory => Err(AllocError),
+            _ => Ok(Vec::new(rt.alloc())),
+        },
     }
 }
 

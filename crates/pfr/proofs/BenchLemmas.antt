@@ -10,7 +10,7 @@ use Rattle.pfr_flash.specs.declared.names.Counts.{Counts}
 use Rattle.pfr_engine.specs.Accepting.{acceptance}
 use Rattle.pfr_engine.specs.declared.row.Row.{Row}
 use Rattle.pfr_auth.specs.Trusted.{IsTrusted}
-use Rattle.pfr_report.specs.Texts.{IsNoted}
+use Rattle.pfr_report.specs.Texts.{AllText, IsNoted}
 use Rattle.pfr_report.specs.declared.note.LockWhy.{LockWhy}
 use Rattle.pfr_report.specs.declared.note.What.{What}
 use Rattle.pfr_report.specs.declared.note.What.TheVariants.{Released, Locked}
@@ -18,7 +18,7 @@ use Rattle.pfr_report.specs.declared.note.Note.{Note}
 use Rattle.pfr_machine.specs.PlatformState.{PlatformState, counts_in}
 use Rattle.pfr_machine.specs.Promises.{IsDue, BringsUp}
 use Rattle.pfr_machine.proofs.PowerLemmas.{step_brings_bmc, step_brings_pch}
-use Rattle.pfr.specs.Benches.{IsWholeRun, IsNoRun, fresh, bank_of, count_of, HasReleasedSpans, LocksHaveCauses, CausesLock, KeepsPromises}
+use Rattle.pfr.specs.Benches.{IsWholeRun, IsNoRun, fresh, bank_of, count_of, IsTrustedWith, HasReleasedSpans, LocksHaveCauses, LocksAndReleases, KeepsPromises}
 use Rattle.pfr.specs.Runs.{Promised, WasDone}
 use Rattle.pfr.specs.declared.finished.Bench.{Bench}
 use Rattle.pfr.specs.declared.status.Status.{Status}
@@ -43,7 +43,7 @@ pub record Brought (bank : Bank) (image nv : List ℕ) (engine : List Row) (benc
 
 span_of : (bank : Bank) (image nv : List ℕ) (engine : List Row) (bench : Bench) → Brought bank image nv engine bench → (svn : ℕ) (at : Counts)
     → IsNoted bench.notes.list (Released bank svn at)
-    → IsTrusted (upto (bank_of bench bank) (count_of at bank)) (upto bench.nv.device at.nv) bank (acceptance bench.engine)
+    → IsTrustedWith svn (upto (bank_of bench bank) (count_of at bank)) (upto bench.nv.device at.nv) bank (acceptance bench.engine)
 span_of bank image nv engine bench b svn at noted =
     rw (upto_start (bank_of bench bank) image (count_of at bank) b.none b.start, upto_start bench.nv.device nv at.nv b.nv_none b.nv_start, b.engine_is)
     (b.brings.released svn at noted).1
@@ -60,9 +60,8 @@ due_of : (bank : Bank) (image nv : List ℕ) (engine : List Row) (bench : Bench)
 due_of bank image nv engine bench b why due = (b.counts, b.brings.due why (rw (b.start, b.nv_start, b.engine_is) at due))
 
 trust_of : (bank : Bank) (image nv : List ℕ) (engine : List Row) (bench : Bench) → Brought bank image nv engine bench
-    → IsTrusted (bank_of bench bank).start bench.nv.device.start bank (acceptance bench.engine) → (svn : ℕ) × (at : Counts) × IsNoted bench.notes.list (Released bank svn at)
-trust_of bank image nv engine bench b trusted =
-    let r = b.brings.trusted (rw (b.start, b.nv_start, b.engine_is) at trusted) in (r.0, b.counts, r.1)
+    → (t : IsTrusted (bank_of bench bank).start bench.nv.device.start bank (acceptance bench.engine)) → (at : Counts) × IsNoted bench.notes.list (Released bank t.manifest.svn at)
+trust_of bank image nv engine bench b = rw (b.start, b.nv_start, b.engine_is) (λ t. (b.counts, b.brings.trusted t))
 
 bmc_brought : (bmc pch nv : List ℕ) (engine : List Row) (bench : Bench) → IsWholeRun bmc pch nv engine bench → Brought Bmc bmc nv engine bench
 bmc_brought bmc pch nv engine bench run = record {
@@ -95,7 +94,7 @@ whole_spans bmc pch nv engine bench run =
     record { trusted = by_bank b p; bmc = b.none; pch = p.none; nv = b.nv_none }
   where
     by_bank : Brought Bmc bmc nv engine bench → Brought Pch pch nv engine bench → (bank : Bank) (svn : ℕ) (at : Counts) → IsNoted bench.notes.list (Released bank svn at)
-        → IsTrusted (upto (bank_of bench bank) (count_of at bank)) (upto bench.nv.device at.nv) bank (acceptance bench.engine)
+        → IsTrustedWith svn (upto (bank_of bench bank) (count_of at bank)) (upto bench.nv.device at.nv) bank (acceptance bench.engine)
     by_bank b p Bmc = span_of Bmc bmc nv engine bench b
     by_bank b p Pch = span_of Pch pch nv engine bench p
 
@@ -103,10 +102,11 @@ whole_locks : (bmc pch nv : List ℕ) (engine : List Row) (bench : Bench) → Is
 whole_locks bmc pch nv engine bench run Bmc = lock_of Bmc bmc nv engine bench (bmc_brought bmc pch nv engine bench run)
 whole_locks bmc pch nv engine bench run Pch = lock_of Pch pch nv engine bench (pch_brought bmc pch nv engine bench run)
 
-whole_keeps : (bmc pch nv : List ℕ) (engine : List Row) (bench : Bench) → IsWholeRun bmc pch nv engine bench → KeepsPromises bench
-whole_keeps bmc pch nv engine bench run = record { spans = whole_spans bmc pch nv engine bench run; locks = whole_locks bmc pch nv engine bench run }
+whole_keeps : (bmc pch nv : List ℕ) (engine : List Row) (bench : Bench) → IsWholeRun bmc pch nv engine bench → AllText bench.notes.list → KeepsPromises bench
+whole_keeps bmc pch nv engine bench run texts =
+    record { spans = whole_spans bmc pch nv engine bench run; locks = whole_locks bmc pch nv engine bench run; texts = texts }
 
-whole_causes : (bmc pch nv : List ℕ) (engine : List Row) (bench : Bench) → IsWholeRun bmc pch nv engine bench → CausesLock bench
+whole_causes : (bmc pch nv : List ℕ) (engine : List Row) (bench : Bench) → IsWholeRun bmc pch nv engine bench → LocksAndReleases bench
 whole_causes bmc pch nv engine bench run =
     let b = bmc_brought bmc pch nv engine bench run in
     let p = pch_brought bmc pch nv engine bench run in
@@ -118,19 +118,19 @@ whole_causes bmc pch nv engine bench run =
     locks b p Pch = due_of Pch pch nv engine bench p
 
     releases : Brought Bmc bmc nv engine bench → Brought Pch pch nv engine bench → (bank : Bank)
-        → IsTrusted (bank_of bench bank).start bench.nv.device.start bank (acceptance bench.engine) → (svn : ℕ) × (at : Counts) × IsNoted bench.notes.list (Released bank svn at)
+        (t : IsTrusted (bank_of bench bank).start bench.nv.device.start bank (acceptance bench.engine)) → (at : Counts) × IsNoted bench.notes.list (Released bank t.manifest.svn at)
     releases b p Bmc = trust_of Bmc bmc nv engine bench b
     releases b p Pch = trust_of Pch pch nv engine bench p
 
 -- a run that was done keeps all promises, whatever its status
-pub whole_promised : (bmc pch nv : List ℕ) (engine : List Row) (bench : Bench) (status : Status) → IsWholeRun bmc pch nv engine bench → Promised (Some bench) status
-whole_promised bmc pch nv engine bench Done run = (whole_keeps bmc pch nv engine bench run, whole_causes bmc pch nv engine bench run)
-whole_promised bmc pch nv engine bench WriteFault run = (whole_keeps bmc pch nv engine bench run, whole_causes bmc pch nv engine bench run)
-whole_promised bmc pch nv engine bench Usage run = whole_keeps bmc pch nv engine bench run
-whole_promised bmc pch nv engine bench (BadInput file place why) run = whole_keeps bmc pch nv engine bench run
-whole_promised bmc pch nv engine bench (TooLong file) run = whole_keeps bmc pch nv engine bench run
-whole_promised bmc pch nv engine bench (ReadFault file) run = whole_keeps bmc pch nv engine bench run
-whole_promised bmc pch nv engine bench NoMemory run = whole_keeps bmc pch nv engine bench run
+pub whole_promised : (bmc pch nv : List ℕ) (engine : List Row) (bench : Bench) (status : Status) → IsWholeRun bmc pch nv engine bench → AllText bench.notes.list → Promised (Some bench) status
+whole_promised bmc pch nv engine bench Done run texts = (whole_keeps bmc pch nv engine bench run texts, whole_causes bmc pch nv engine bench run)
+whole_promised bmc pch nv engine bench WriteFault run texts = (whole_keeps bmc pch nv engine bench run texts, whole_causes bmc pch nv engine bench run)
+whole_promised bmc pch nv engine bench Usage run texts = whole_keeps bmc pch nv engine bench run texts
+whole_promised bmc pch nv engine bench (BadInput file place why) run texts = whole_keeps bmc pch nv engine bench run texts
+whole_promised bmc pch nv engine bench (TooLong file) run texts = whole_keeps bmc pch nv engine bench run texts
+whole_promised bmc pch nv engine bench (ReadFault file) run texts = whole_keeps bmc pch nv engine bench run texts
+whole_promised bmc pch nv engine bench NoMemory run texts = whole_keeps bmc pch nv engine bench run texts
 
 -- so does one in which nothing was done
 no_note : (bench : Bench) (that : What) → bench.notes.list ≡ [] → ¬ IsNoted bench.notes.list that
@@ -147,6 +147,7 @@ nothing_keeps bmc pch nv engine bench run =
         nv = ap (λ (d : FlashState). d.ops) run.left.nv ∙ ap (λ (s : PlatformState (List Row)). s.nv.ops) run.nothing;
       };
       locks = λ bank why at noted. absurd (no_note bench (Locked bank why at) none noted);
+      texts = subst (λ (l : List Note). AllText l) (sym none) tt;
     }
 
 -- ---- each promise by itself
@@ -170,7 +171,17 @@ promised_locks (Some bench) (TooLong file) p = p.locks
 promised_locks (Some bench) (ReadFault file) p = p.locks
 promised_locks (Some bench) NoMemory p = p.locks
 
-pub promised_causes : (option : Option Bench) (status : Status) → Promised option status → WasDone status → IfSome option CausesLock
+pub promised_texts : (option : Option Bench) (status : Status) → Promised option status → IfSome option (λ bench. AllText bench.notes.list)
+promised_texts None status p = tt
+promised_texts (Some bench) Done p = p.0.texts
+promised_texts (Some bench) WriteFault p = p.0.texts
+promised_texts (Some bench) Usage p = p.texts
+promised_texts (Some bench) (BadInput file place why) p = p.texts
+promised_texts (Some bench) (TooLong file) p = p.texts
+promised_texts (Some bench) (ReadFault file) p = p.texts
+promised_texts (Some bench) NoMemory p = p.texts
+
+pub promised_causes : (option : Option Bench) (status : Status) → Promised option status → WasDone status → IfSome option LocksAndReleases
 promised_causes None status p done = tt
 promised_causes (Some bench) Done p done = p.1
 promised_causes (Some bench) WriteFault p done = p.1

@@ -5,10 +5,11 @@ use Rattle.pfr_flash.specs.MemFlash.{new_device}
 use Rattle.pfr_flash.specs.declared.names.Bank.{Bank}
 use Rattle.pfr_flash.specs.declared.names.Bank.TheVariants.{Bmc, Pch}
 use Rattle.pfr_flash.specs.declared.names.Counts.{Counts}
+use Rattle.pfr_engine.specs.Acceptance.{Acceptance}
 use Rattle.pfr_engine.specs.Accepting.{acceptance}
 use Rattle.pfr_engine.specs.declared.row.Row.{Row}
 use Rattle.pfr_auth.specs.Trusted.{IsTrusted}
-use Rattle.pfr_report.specs.Texts.{IsNoted}
+use Rattle.pfr_report.specs.Texts.{AllText, IsNoted}
 use Rattle.pfr_report.specs.declared.note.LockWhy.{LockWhy}
 use Rattle.pfr_report.specs.declared.note.What.TheVariants.{Released, Locked}
 use Rattle.pfr_machine.specs.PlatformState.{PlatformState}
@@ -69,10 +70,14 @@ abbrev pub count_of : Counts → Bank → ℕ
 count_of counts Bmc = counts.bmc
 count_of counts Pch = counts.pch
 
+-- an image that is trusted, and has this security version number
+abbrev pub IsTrustedWith : ℕ → List ℕ → List ℕ → Bank → Acceptance → Type 0
+IsTrustedWith svn image nv bank accepts = (t : IsTrusted image nv bank accepts) × (t.manifest.svn ≡ svn)
+
 -- Each bank that stands released was trusted at the counts of its note, for the bench's engine, and no operation was done on any device.
 pub record HasReleasedSpans (bench : Bench) : Type 0 where
   pub trusted : (bank : Bank) (svn : ℕ) (at : Counts) → IsNoted bench.notes.list (Released bank svn at)
-      → IsTrusted (upto (bank_of bench bank) (count_of at bank)) (upto bench.nv.device at.nv) bank (acceptance bench.engine)
+      → IsTrustedWith svn (upto (bank_of bench bank) (count_of at bank)) (upto bench.nv.device at.nv) bank (acceptance bench.engine)
   pub bmc : bench.bmc.device.ops ≡ []
   pub pch : bench.pch.device.ops ≡ []
   pub nv : bench.nv.device.ops ≡ []
@@ -83,13 +88,14 @@ LocksHaveCauses bench = (bank : Bank) (why : LockWhy) (at : Counts) → IsNoted 
     → IsDue why bank (upto (bank_of bench bank) (count_of at bank)) (upto bench.nv.device at.nv) (acceptance bench.engine)
 
 -- Where a bank has a cause to be locked it is, and where it is trusted it is released.
-pub record CausesLock (bench : Bench) : Type 0 where
+pub record LocksAndReleases (bench : Bench) : Type 0 where
   pub locks : (bank : Bank) (why : LockWhy) → IsDue why bank (bank_of bench bank).start bench.nv.device.start (acceptance bench.engine)
       → (at : Counts) × IsNoted bench.notes.list (Locked bank why at)
-  pub releases : (bank : Bank) → IsTrusted (bank_of bench bank).start bench.nv.device.start bank (acceptance bench.engine)
-      → (svn : ℕ) × (at : Counts) × IsNoted bench.notes.list (Released bank svn at)
+  pub releases : (bank : Bank) (t : IsTrusted (bank_of bench bank).start bench.nv.device.start bank (acceptance bench.engine))
+      → (at : Counts) × IsNoted bench.notes.list (Released bank t.manifest.svn at)
 
--- no released span and no lock breaks its promise
+-- no released span and no lock breaks its promise, and no note's cause is a failed device
 pub record KeepsPromises (bench : Bench) : Type 0 where
   pub spans : HasReleasedSpans bench
   pub locks : LocksHaveCauses bench
+  pub texts : AllText bench.notes.list

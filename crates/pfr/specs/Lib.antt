@@ -5,6 +5,6 @@ pub mod Judging
 pub mod Lines
 pub mod Loading
 pub mod Benches
-pub mod Played
+pub mod PoweredOn
 pub mod Runs
 pub mod Top

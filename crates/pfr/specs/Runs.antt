@@ -4,7 +4,7 @@ use Rattle.pfr_report.specs.Texts.{report}
 use Rattle.pfr_shelf.specs.Causes.{Rose}
 use Rattle.pfr_shelf.specs.Files.{Files}
 use Rattle.pfr_shelf.specs.Pieces.{AppendsPart}
-use Rattle.pfr.specs.Benches.{IsWholeRun, IsNoRun, IsMadeOf, KeepsPromises, CausesLock}
+use Rattle.pfr.specs.Benches.{IsWholeRun, IsNoRun, IsMadeOf, KeepsPromises, LocksAndReleases}
 use Rattle.pfr.specs.Judging.{Keeps, RefusesFor, run_rows, verdict}
 use Rattle.pfr.specs.Names.{RunNames}
 use Rattle.pfr.specs.declared.finished.Bench.{Bench}
@@ -38,6 +38,7 @@ pub record IsWhole (told : Bool) (before : Outside) (names : RunNames) (bench : 
 pub record IsPart (told : Bool) (before : Outside) (names : RunNames) (bench : Bench) : Type 0 where
   pub run : RanWhole bench ⊎ RanNothing bench
   pub made : told ≡ true → IsMadeOf before.files names bench
+  pub sound : told ≡ true → verdict (run_rows names before.files) ≡ Keeps
 
 -- When a run gives a status, and with which bench. It leaves every file.
 abbrev pub RunAnswers : Bool → Outside → Outside → RunNames → Option Bench → Status → Type 0
@@ -68,8 +69,8 @@ RunOutput told before after option status =
 -- what a bench promises at each status: where the script was done, also that banks are released and locked where they are to be
 abbrev pub Promised : Option Bench → Status → Type 0
 Promised None status = Unit {0}
-Promised (Some bench) Done = KeepsPromises bench × CausesLock bench
-Promised (Some bench) WriteFault = KeepsPromises bench × CausesLock bench
+Promised (Some bench) Done = KeepsPromises bench × LocksAndReleases bench
+Promised (Some bench) WriteFault = KeepsPromises bench × LocksAndReleases bench
 Promised (Some bench) status = KeepsPromises bench
 
 -- the script was done

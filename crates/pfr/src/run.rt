@@ -3,7 +3,7 @@ ghost use Rattle.std.specs.Prelude.{◌≡◌, ◌≤◌, length, true, IfOk, If
 ghost use Rattle.pfr_report.specs.Texts.{report, AllText};
 ghost use Rattle.pfr_shelf.specs.Pieces.{Writes};
 ghost use Rattle.pfr.specs.Loading.{HasSizes};
-ghost use Rattle.pfr.specs.Played.{PlayedOf};
+ghost use Rattle.pfr.specs.PoweredOn.{IsPowerOnOf};
 ghost use Rattle.pfr.specs.Runs.{Promised, RunAnswers, RunOutput, outside};
 
 use crate::finished::{Bench, Finished};
@@ -18,7 +18,7 @@ use std::alloc::Global;
 
 // What was done of a script.
 #[derive(Drop)]
-pub enum Played {
+pub enum PoweredOn {
     Whole(Bench),
     Nothing(Bench),
 }
@@ -35,9 +35,9 @@ fn write_report<K: Sink>(notes: &[Note], out: &mut K) -> Result<(), SinkFail>
 }
 
 // Makes the devices and the platform of what was loaded, and powers it on.
-fn play(alloc: Global, loaded: Loaded) -> Result<Played, NoMemory>
+fn power_on(alloc: Global, loaded: Loaded) -> Result<PoweredOn, NoMemory>
     requires { HasSizes loaded }
-    ensures { IfOk result (PlayedOf loaded) }
+    ensures { IfOk result (IsPowerOnOf loaded) }
 {
     let Loaded {
         bmc,
@@ -65,8 +65,8 @@ fn play(alloc: Global, loaded: Loaded) -> Result<Played, NoMemory>
         engine,
     };
     match done {
-        Ok(()) => Ok(Played::Whole(bench)),
-        Err(_) => Ok(Played::Nothing(bench)),
+        Ok(()) => Ok(PoweredOn::Whole(bench)),
+        Err(_) => Ok(PoweredOn::Nothing(bench)),
     }
 }
 
@@ -95,8 +95,8 @@ pub fn run<S: Shelf, K: Sink>(
             };
         }
     };
-    match play(alloc, loaded) {
-        Ok(Played::Whole(bench)) => {
+    match power_on(alloc, loaded) {
+        Ok(PoweredOn::Whole(bench)) => {
             let status = match write_report(bench.notes.as_slice(), out) {
                 Ok(()) => Status::Done,
                 Err(_) => Status::WriteFault,
@@ -106,7 +106,7 @@ pub fn run<S: Shelf, K: Sink>(
                 bench: Some(bench),
             }
         }
-        Ok(Played::Nothing(bench)) => Finished {
+        Ok(PoweredOn::Nothing(bench)) => Finished {
             status: Status::NoMemory,
             bench: Some(bench),
         },

@@ -12,30 +12,46 @@ use pfr_shelf::{Sink, SinkFail, write_pieces};
 /// What a file is for.
 #[derive(Clone, Copy, Debug, PartialEq, Eq)]
 pub enum Role {
+    /// The image of the BMC's bank.
     Bmc,
+    /// The image of the PCH's bank.
     Pch,
+    /// The image of the controller's store.
     Nv,
+    /// The text of the engine: the signatures that it accepts, a line each.
     Engine,
+    /// The text of the events that the platform is put through.
     Script,
 }
 
 /// Which rule a file breaks.
 #[derive(Clone, Copy, Debug, PartialEq, Eq)]
 pub enum Why {
+    /// The image has a wrong length: a bank has a multiple of 65,536 bytes, at least one and at most 1,024
+    /// times, and the store has 32,768.
     Size,
+    /// A line of the engine's text breaks this rule.
     Engine(EngineWhy),
+    /// A line of the script breaks this rule.
     Script(ScriptWhy),
 }
 
 /// How a command ended.
 #[derive(Clone, Copy, Debug, PartialEq, Eq)]
 pub enum Status {
+    /// The command was done, and its whole report was written.
     Done,
+    /// The words are no command. No file was loaded.
     Usage,
+    /// The file breaks a rule. The place is an image's length in bytes, or the line of a text, from 1.
     BadInput { file: Role, place: u32, why: Why },
+    /// The file has more bytes than its role's limit.
     TooLong { file: Role },
+    /// The file is not there, or could not be read.
     ReadFault { file: Role },
+    /// The output failed. A prefix of the report may have been written.
     WriteFault,
+    /// There was not enough memory.
     NoMemory,
 }
 
@@ -67,6 +83,7 @@ impl Role {
 }
 
 impl Why {
+    /// The word that names it in an error's line.
     pub fn word(&self) -> &'static [u8]
         ensures { result.now ≡ why_word self.now }
     {

@@ -1,8 +1,9 @@
 // The top call.
 ghost use Rattle.std.specs.Prelude.{◌≡◌, ◌≤◌, true, Some, None, IfSome};
+ghost use Rattle.pfr_report.specs.Texts.{AllText};
 ghost use Rattle.pfr_shelf.specs.Causes.{Rose};
 ghost use Rattle.pfr.specs.Judging.{Finding, Keeps, Breaks, run_rows, verdict};
-ghost use Rattle.pfr.specs.Benches.{HasReleasedSpans, LocksHaveCauses, CausesLock};
+ghost use Rattle.pfr.specs.Benches.{HasReleasedSpans, LocksHaveCauses, LocksAndReleases};
 ghost use Rattle.pfr.specs.Names.{RunNames};
 ghost use Rattle.pfr.specs.Runs.{Promised, RunAnswers, RunOutput, WasDone, outside};
 ghost use Rattle.pfr.specs.Top.{IsOrNoMemory, Output, asked};
@@ -46,7 +47,7 @@ fn serve<S: Shelf, K: Sink>(
     }
 }
 
-/// Does what the words ask for.
+/// Does what the words ask for, which are those of the command line without the program's name.
 ///
 /// The one command is `run <bmc> <pch> <nv> <engine> <script>`, whose script is `power`: it loads the five
 /// files in this order, each judged before the next is loaded, powers a platform of them on, and writes a
@@ -62,7 +63,10 @@ pub fn pfr<S: Shelf, K: Sink>(
 
     // Each lock has its cause, and where the script was done banks are locked and released where they are to be.
     ensures locks { IfSome result.bench LocksHaveCauses }
-    ensures causes { WasDone result.status → IfSome result.bench CausesLock }
+    ensures causes { WasDone result.status → IfSome result.bench LocksAndReleases }
+
+    // No note's cause is a failed device.
+    ensures texts { IfSome result.bench (λ bench. AllText bench.notes.list) }
 
     // The words are no command: nothing is done.
     ensures usage { result.status ≡ Status.Usage → asked words.now ≡ None }

@@ -21,10 +21,10 @@ pub chain_refuses : {X Y : Type 0} (old new : FlashState) (cause : ChainFail) (j
 chain_refuses old new (chain.Flash fail) judged rest h = h
 chain_refuses {X} {Y} old new _ judged rest h = ap (λ (r : Result X ChainFail). by_chain r >>= rest) h
 
-pub manifest_refuses : {X Y : Type 0} (old new : FlashState) (cause : ManifestFail) (judged : Result X ManifestFail) (rest : X → Result Y ActiveFail) →
-    Misreads old new cause judged → Answers old new (Err (Manifest cause)) (by_manifest judged >>= rest)
-manifest_refuses old new (manifest.Flash fail) judged rest h = h
-manifest_refuses {X} {Y} old new _ judged rest h = ap (λ (r : Result X ManifestFail). by_manifest r >>= rest) h
+pub manifest_refuses : {X : Type 0} (old new : FlashState) (cause : ManifestFail) (judged : Result X ManifestFail) →
+    Misreads old new cause judged → Answers old new (Err (Manifest cause)) (by_manifest judged)
+manifest_refuses old new (manifest.Flash fail) judged h = h
+manifest_refuses {X} old new _ judged h = ap (λ (r : Result X ManifestFail). by_manifest r) h
 
 by_failure : {P Q : Type 0} (old mid new : FlashState) (failure : Option FlashFail) → OnlyReads old mid → (P → Q) → MatchOption failure P (λ f. FailsReading f mid new) → MatchOption failure Q (λ f. FailsReading f old new)
 by_failure old mid new (Some f) reads goes h = FailsReading-later f old mid new reads h

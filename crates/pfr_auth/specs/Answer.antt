@@ -1,5 +1,5 @@
 -- What a call over a bank answers, where it judges what the bank holds.
-use Rattle.std.specs.Prelude.{◌≡◌, ◌≤◌, ◌%◌, ℕ, Option, Some, None, Result, Ok, Err, MatchOption}
+use Rattle.std.specs.Prelude.{◌≡◌, Option, Some, None, Result, Ok, Err, MatchOption}
 use Rattle.pfr_flash.specs.FlashState.{FlashState}
 use Rattle.pfr_flash.specs.Reading.{FailsReading}
 use Rattle.pfr_flash.specs.declared.flash.FlashFail.{FlashFail}
@@ -9,11 +9,6 @@ use Rattle.pfr_manifest.specs.declared.fail.ManifestFail.{ManifestFail}
 use Rattle.pfr_manifest.specs.declared.fail.ManifestFail.TheVariants as manifest
 use Rattle.pfr_auth.specs.declared.fail.ActiveFail.{ActiveFail}
 use Rattle.pfr_auth.specs.declared.fail.ActiveFail.TheVariants.{Chain, Manifest, SvnFloor, RegionHash, Flash}
-
--- a bank's size: whole blocks of 64 KiB, up to 64 MiB
-pub record IsBankSize (size : ℕ) : Type 0 where
-  pub blocks : size % 65536 ≡ 0
-  pub most : size ≤ 67108864
 
 abbrev pub chain_failure : ChainFail → Option FlashFail
 chain_failure (chain.Flash fail) = Some fail

@@ -1,6 +1,5 @@
 -- The judgement of a bank's active image: its parts in the order of the causes, the first that fails is the answer.
-use Rattle.std.specs.Prelude.{ℕ, ◌+◌, Bool, true, nat_le, nat_lt, List, [], ◌∷◌, length, Result, Ok}
-use Rattle.std.specs.List.{list_all}
+use Rattle.std.specs.Prelude.{ℕ, ◌+◌, Bool, true, nat_le, List, [], ◌∷◌, length, Result, Ok}
 use Rattle.std.specs.Str.{bytes_eq}
 use Rattle.sha2.specs.Sha256.{sha256}
 use Rattle.sha2.specs.Sha512.{sha384}
@@ -13,7 +12,6 @@ use Rattle.pfr_chain.specs.Judge.{judge}
 use Rattle.pfr_fuses.specs.FusesState.{FusesState, floor_of, row_of}
 use Rattle.pfr_fuses.specs.RootSlot.{layout_of}
 use Rattle.pfr_manifest.specs.Judge.{judge_manifest}
-use Rattle.pfr_manifest.specs.declared.fail.ManifestFail.TheVariants as manifest
 use Rattle.pfr_manifest.specs.declared.manifest.Manifest.{Manifest}
 use Rattle.pfr_manifest.specs.declared.region.Region.{Region}
 use Rattle.pfr_manifest.specs.declared.region.RegionHash.{RegionHash}
@@ -21,25 +19,14 @@ use Rattle.pfr_manifest.specs.declared.region.RegionHash.TheVariants as hashes
 use Rattle.pfr_auth.specs.Judging.{◌>>=◌, ◌>>◌, require, by_chain, by_manifest}
 use Rattle.pfr_auth.specs.Regions.{bytes_of}
 use Rattle.pfr_auth.specs.declared.fail.ActiveFail.{ActiveFail}
-use Rattle.pfr_auth.specs.declared.fail.ActiveFail.TheVariants.{Manifest as NoManifest, SvnFloor, RegionHash as WrongHash}
-
--- the numbers of a list are bytes, as all that a flash holds are
-abbrev pub are_bytes : List ℕ → Bool
-are_bytes content = list_all (λ byte. nat_lt byte 256) content
-
--- the manifest that a signed content spells
-unfoldable pub judge_content : List ℕ → Layout → ℕ → Result Manifest ActiveFail
-judge_content content layout size = do
-  m ← by_manifest (judge_manifest content layout size)
-  require (NoManifest manifest.Magic) (are_bytes content)
-  Ok m
+use Rattle.pfr_auth.specs.declared.fail.ActiveFail.TheVariants.{SvnFloor, RegionHash as WrongHash}
 
 -- the manifest that is signed in a bank's manifest area
 unfoldable pub judge_signed : List ℕ → Bank → FusesState → Acceptance → Result Manifest ActiveFail
 judge_signed image bank fuses accepts = do
   let layout : Layout = layout_of fuses.provision bank
   chain ← by_chain (judge image layout.manifest_at layout.manifest_len (manifest_type bank) fuses.provision.root (row_of fuses (manifest_type bank)) accepts)
-  judge_content (bytes_at image chain.content_at chain.length) layout (length image)
+  by_manifest (judge_manifest (bytes_at image chain.content_at chain.length) layout (length image))
 
 abbrev pub have_hash : List ℕ → RegionHash → Bool
 have_hash bytes hashes.None = true

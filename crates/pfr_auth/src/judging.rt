@@ -7,6 +7,7 @@ ghost use Rattle.pfr_fuses.specs.RootSlot.{layout_of};
 ghost use Rattle.pfr_manifest.specs.Regions.{IsRegion};
 ghost use Rattle.pfr_auth.specs.Answer.{Answers};
 ghost use Rattle.pfr_auth.specs.Judge.{judge_signed, judge_active};
+ghost use Rattle.pfr_auth.specs.Trusted.{IsSigned};
 
 use crate::fail::ActiveFail;
 use crate::hashes::check_regions;
@@ -25,6 +26,7 @@ fn signed_manifest<F: Flash, E: Engine>(
 ) -> Result<Manifest, ActiveFail>
     requires layout { layout.now ≡ layout_of fuses.now.provision bank }
     requires valid { IsValidLayout layout.now (size_of (F.device flash.old)) }
+    ensures ok { IfOk result (IsSigned (now (F.device flash.old)) bank fuses.now (E.accepts engine.now)) }
     ensures exact { Answers (F.device flash.old) (F.device flash.new) result (judge_signed (now (F.device flash.old)) bank fuses.now (E.accepts engine.now)) }
     ensures regions { IfOk result (λ m. All (IsRegion layout.now (size_of (F.device flash.old))) m.regions) }
     ensures reads { OnlyReads (F.device flash.old) (F.device flash.new) }
@@ -55,6 +57,7 @@ pub fn judged<F: Flash, E: Engine>(
 ) -> Result<Manifest, ActiveFail>
     requires layout { layout.now ≡ layout_of fuses.now.provision bank }
     requires valid { IsValidLayout layout.now (size_of (F.device flash.old)) }
+    ensures ok { IfOk result (IsSigned (now (F.device flash.old)) bank fuses.now (E.accepts engine.now)) }
     ensures exact { Answers (F.device flash.old) (F.device flash.new) result (judge_active (now (F.device flash.old)) bank fuses.now (E.accepts engine.now)) }
     ensures reads { OnlyReads (F.device flash.old) (F.device flash.new) }
 {

@@ -3,13 +3,12 @@
 
 ghost use Rattle.std.specs.Prelude.{◌≡◌, ℕ, List, IfOk, Ok};
 ghost use Rattle.pfr_flash.specs.FlashState.{now, size_of};
-ghost use Rattle.pfr_flash.specs.Layout.{IsValidLayout};
+ghost use Rattle.pfr_flash.specs.Layout.{IsBankSize, IsValidLayout};
 ghost use Rattle.pfr_flash.specs.Reading.{OnlyReads};
-ghost use Rattle.pfr_fuses.specs.FusesOf.{fuses_of};
 ghost use Rattle.pfr_fuses.specs.RootSlot.{layout_of};
-ghost use Rattle.pfr_auth.specs.Answer.{Answers, IsBankSize};
+ghost use Rattle.pfr_auth.specs.Answer.{Answers};
 ghost use Rattle.pfr_auth.specs.Judge.{judge_active};
-ghost use Rattle.pfr_auth.specs.Trusted.{IsTrusted};
+ghost use Rattle.pfr_auth.specs.Trusted.{IsTrusted, StandFor};
 
 mod fail;
 mod hashes;
@@ -35,12 +34,12 @@ pub fn active<F: Flash, E: Engine>(
     requires size { IsBankSize (size_of (F.device flash.old)) }
     requires layout { layout.now ≡ layout_of fuses.now.provision bank }
     requires valid { IsValidLayout layout.now (size_of (F.device flash.old)) }
-    // What is found to be trusted is, by this manifest, with each store that the fuses are those of.
+    // What is found to be trusted is, by this manifest, with each store that the fuses stand for.
     ensures ok { let image = now (F.device flash.old) in
-        IfOk result (λ m. (nv : List ℕ) → fuses_of nv ≡ Ok fuses.now → (t : IsTrusted image nv bank (E.accepts engine.now)) × (t.manifest ≡ m)) }
+        IfOk result (λ m. (nv : List ℕ) → StandFor nv fuses.now bank → (t : IsTrusted image nv bank (E.accepts engine.now)) × (t.manifest ≡ m)) }
     // What is trusted is found to be, unless the device fails.
     ensures only { let image = now (F.device flash.old) in
-        (nv : List ℕ) → fuses_of nv ≡ Ok fuses.now → (t : IsTrusted image nv bank (E.accepts engine.now)) →
+        (nv : List ℕ) → StandFor nv fuses.now bank → (t : IsTrusted image nv bank (E.accepts engine.now)) →
         Answers (F.device flash.old) (F.device flash.new) result (Ok t.manifest) }
     // Which cause it is: the first in order.
     ensures exact { Answers (F.device flash.old) (F.device flash.new) result (judge_active (now (F.device flash.old)) bank fuses.now (E.accepts engine.now)) }

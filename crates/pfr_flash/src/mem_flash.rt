@@ -68,6 +68,7 @@ impl MemFlash {
         self.cells.bytes()
     }
 
+    /// The bytes as they are, without a copy.
     pub fn into_bytes(self) -> Vec<u8>
         ensures { result.items ≡ now self.device }
     {

@@ -4,6 +4,7 @@ ghost use Rattle.pfr_fuses.specs.declared.fuse_fail.FuseFail.TheVariants as caus
 
 use pfr_flash::{Bank, FlashFail, LayoutRule};
 
+/// Why a call on the store's provision and fuses is refused.
 #[derive(Clone, Copy, Debug, PartialEq, Eq)]
 pub enum FuseFail {
     /// No slot provisions the platform, and one is blank yet.

@@ -11,7 +11,7 @@ ghost use Rattle.pfr_fuses.specs.FuseRows.{FloorsOf, RowsOf, fuses_of_floor};
 use crate::profile::Profile;
 use pfr_flash::{Bank, ContentType, Flash, FlashFail, FuseRow};
 
-// A row of so many bytes at a place, gone on with fuses that are not cleared.
+// A row of so many bytes at a place, padded with 0xFF: with fuses that are not cleared.
 fn read_fuses<F: Flash, const BYTES: usize>(
     nv: &mut F,
     at: u32,
@@ -77,6 +77,7 @@ pub fn floor_of(row: &FuseRow<16>) -> u32
 }
 
 impl Floors {
+    /// The fuses of this bank's floor.
     pub fn of(&self, bank: Bank) -> &FuseRow<16>
         ensures { result.now ≡ fuses_of_floor self.now bank }
     {
@@ -86,6 +87,7 @@ impl Floors {
         }
     }
 
+    /// Reads both floors from a store of this profile.
     pub fn read<F: Flash>(nv: &mut F, profile: Profile) -> Result<Floors, FlashFail>
         requires size { size_of (F.device nv.old) ≡ 32768 }
         requires profile { profile ≡ profile_of (now (F.device nv.old)) }
@@ -109,6 +111,7 @@ pub struct CancelRows {
 }
 
 impl CancelRows {
+    /// Reads the four rows from a store of this profile.
     pub fn read<F: Flash>(nv: &mut F, profile: Profile) -> Result<CancelRows, FlashFail>
         requires size { size_of (F.device nv.old) ≡ 32768 }
         requires profile { profile ≡ profile_of (now (F.device nv.old)) }

@@ -18,6 +18,7 @@ pub enum Profile {
 }
 
 impl Profile {
+    /// Reads the store's profile from its gate, a byte that is 0xFF until the fuses are migrated.
     #[tactic(auto, unfolding(crate::specs::FuseMap::profile_of))]
     pub fn read<F: Flash>(nv: &mut F) -> Result<Profile, FlashFail>
         requires { size_of (F.device nv.old) ≡ 32768 }
@@ -34,6 +35,7 @@ impl Profile {
         }
     }
 
+    /// 1 or 2.
     pub fn number(self) -> u8
         ensures { result ≡ profile_number self }
     {

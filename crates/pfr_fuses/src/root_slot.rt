@@ -8,8 +8,11 @@ use pfr_flash::{Bank, Layout};
 /// The hash of the root key, and the layouts of both banks.
 #[derive(Clone, Copy, Debug, PartialEq, Eq)]
 pub struct RootSlot {
+    /// The SHA-256 hash of the root key.
     pub root: [u8; 32],
+    /// The layout of the BMC's bank.
     pub bmc: Layout,
+    /// The layout of the PCH's bank.
     pub pch: Layout,
 }
 
@@ -54,6 +57,7 @@ impl RootSlot {
         }
     }
 
+    /// The layout of this bank, as it is provisioned; whether it fits the bank is not judged here.
     pub fn layout(&self, bank: Bank) -> &Layout
         ensures { result.now ≡ layout_of self.now bank }
     {

@@ -10,6 +10,7 @@ use pfr_flash::Flash;
 
 const SLOTS: u32 = 8;
 
+/// How many bytes a provision slot has. The last is its gate, which is not 0xFF where the slot is set.
 pub const SLOT_LEN: u32 = 256;
 
 const GATE: usize = 255;

@@ -1,5 +1,5 @@
-pub mod Calm
-pub mod Standing
+pub mod Readable
+pub mod Authentication
 pub mod PlatformState
 pub mod Power
 pub mod Promises

@@ -4,7 +4,7 @@ use Rattle.pfr_flash.specs.FlashState.{FlashState, size_of, op_count_of}
 use Rattle.pfr_flash.specs.declared.names.Bank.{Bank}
 use Rattle.pfr_flash.specs.declared.names.Bank.TheVariants.{Bmc, Pch}
 use Rattle.pfr_flash.specs.declared.names.Counts.{Counts}
-use Rattle.pfr_auth.specs.Answer.{IsBankSize}
+use Rattle.pfr_flash.specs.Layout.{IsBankSize}
 use Rattle.pfr_report.specs.NotesState.{NotesState}
 use Rattle.pfr_report.specs.declared.note.Note.{Note}
 use Rattle.pfr_machine.specs.declared.line.Line.{Line}

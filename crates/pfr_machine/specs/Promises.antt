@@ -9,12 +9,13 @@ use Rattle.pfr_fuses.specs.FusesState.{FusesState}
 use Rattle.pfr_fuses.specs.FusesOf.{fuses_of}
 use Rattle.pfr_fuses.specs.RootSlot.{layout_of}
 use Rattle.pfr_fuses.specs.Slots.{IsUnset}
+use Rattle.pfr_auth.specs.Judge.{judge_active}
 use Rattle.pfr_auth.specs.Trusted.{IsTrusted}
 use Rattle.pfr_auth.specs.declared.fail.ActiveFail.{ActiveFail}
 use Rattle.pfr_report.specs.Texts.{IsNoted}
 use Rattle.pfr_report.specs.declared.note.LockWhy.{LockWhy}
 use Rattle.pfr_report.specs.declared.note.LockWhy.TheVariants as why
-use Rattle.pfr_report.specs.declared.note.What.TheVariants.{Released, Locked, Untrusted}
+use Rattle.pfr_report.specs.declared.note.What.TheVariants.{Held, Released, Locked, Untrusted}
 use Rattle.pfr_report.specs.declared.note.Note.{Note}
 
 -- the store provisions the bank with a layout that breaks this rule first
@@ -36,13 +37,23 @@ IsDue why.Unprovisioned bank image nv accepts = IsUnset nv
 IsDue (why.Layout rule) bank image nv accepts = IsMisplaced rule bank image nv
 IsDue why.NotRestored bank image nv accepts = IsNotTrusted bank image nv accepts
 
+-- the check of the active image, by a valid layout, names this cause
+pub record IsAgainst (cause : ActiveFail) (bank : Bank) (image nv : List ℕ) (accepts : Acceptance) : Type 0 where
+  pub fuses : FusesState
+  pub provisioned : fuses_of nv ≡ Ok fuses
+  pub layout : IsValidLayout (layout_of fuses.provision bank) (length image)
+  pub judged : judge_active image bank fuses accepts ≡ Err cause
+
 -- Notes that bring a bank up, at these counts, by the contents of its device and of the store.
 pub record BringsUp (bank : Bank) (image nv : List ℕ) (accepts : Acceptance) (counts : Counts) (notes : List Note) : Type 0 where
-  -- It is released only where its image is trusted, and always there.
-  pub released : (svn : ℕ) (at : Counts) → IsNoted notes (Released bank svn at) → (at ≡ counts) × IsTrusted image nv bank accepts
-  pub trusted : IsTrusted image nv bank accepts → (svn : ℕ) × IsNoted notes (Released bank svn counts)
+  pub held : IsNoted notes (Held bank counts)
+  -- It is released only where its image is trusted, with that image's security version number, and always there.
+  pub released : (svn : ℕ) (at : Counts) → IsNoted notes (Released bank svn at)
+      → (at ≡ counts) × ((t : IsTrusted image nv bank accepts) × (t.manifest.svn ≡ svn))
+  pub trusted : (t : IsTrusted image nv bank accepts) → IsNoted notes (Released bank t.manifest.svn counts)
   -- It is locked only with a cause, and always where there is one.
   pub locked : (why : LockWhy) (at : Counts) → IsNoted notes (Locked bank why at) → (at ≡ counts) × IsDue why bank image nv accepts
   pub due : (why : LockWhy) → IsDue why bank image nv accepts → IsNoted notes (Locked bank why counts)
-  -- Its image is called untrusted only where it isn't trusted.
-  pub distrusted : (cause : ActiveFail) → IsNoted notes (Untrusted bank cause) → IsNotTrusted bank image nv accepts
+  -- Its image is called untrusted exactly with the first cause against it.
+  pub distrusted : (cause : ActiveFail) → IsNoted notes (Untrusted bank cause) → IsAgainst cause bank image nv accepts
+  pub named : (cause : ActiveFail) → IsAgainst cause bank image nv accepts → IsNoted notes (Untrusted bank cause)

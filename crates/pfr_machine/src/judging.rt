@@ -1,26 +1,25 @@
 // What the devices' contents say of a bank.
-ghost use Rattle.std.specs.Prelude.{◌≡◌, ◌≤◌, length, Some};
+ghost use Rattle.std.specs.Prelude.{◌≡◌, ◌≤◌, ℕ, List, length, Some, Ok};
 ghost use Rattle.pfr_flash.specs.FlashState.{now, size_of};
 ghost use Rattle.pfr_flash.specs.Layout.{IsValidLayout};
 ghost use Rattle.pfr_flash.specs.Reading.{OnlyReads};
-ghost use Rattle.pfr_auth.specs.Answer.{IsBankSize};
+ghost use Rattle.pfr_flash.specs.Layout.{IsBankSize};
 ghost use Rattle.pfr_auth.specs.Judge.{judge_active};
 ghost use Rattle.pfr_fuses.specs.FusesOf.{fuses_of};
 ghost use Rattle.pfr_fuses.specs.RootSlot.{layout_of};
-ghost use Rattle.pfr_machine.specs.Calm.{IsCalm};
-ghost use Rattle.pfr_machine.specs.Standing.{fuses_found, active_standing, standing_with, HasCause};
+ghost use Rattle.pfr_machine.specs.Readable.{ReadsWell};
+ghost use Rattle.pfr_machine.specs.Authentication.{fuses_found, active_authentication, authentication_with, HasCause, IsBacked};
 
-use crate::standing::Standing;
+use crate::authentication::Authentication;
 use pfr_auth::active;
 use pfr_chain::Engine;
 use pfr_flash::{Bank, Flash, Layout};
 use pfr_fuses::{FuseFail, Fuses, load};
-use pfr_report::LockWhy;
 
 /// What the store provisions the platform with, if it does.
 pub fn read_fuses<F: Flash>(nv: &mut F) -> Option<Fuses>
     requires size { size_of (F.device nv.old) ≡ 32768 }
-    requires calm { IsCalm (F.device nv.old) }
+    requires calm { ReadsWell (F.device nv.old) }
     ensures found { result ≡ fuses_found (fuses_of (now (F.device nv.old))) }
     ensures reads { OnlyReads (F.device nv.old) (F.device nv.new) }
 {
@@ -38,20 +37,21 @@ fn check_active<F: Flash, E: Engine>(
     layout: &Layout,
     fuses: &Fuses,
     engine: &E,
-) -> Standing
+) -> Authentication
     requires size { IsBankSize (size_of (F.device flash.old)) }
-    requires calm { IsCalm (F.device flash.old) }
+    requires calm { ReadsWell (F.device flash.old) }
     requires layout { layout.now ≡ layout_of fuses.now.provision bank }
     requires valid { IsValidLayout layout.now (size_of (F.device flash.old)) }
-    ensures found { result ≡ active_standing (judge_active (now (F.device flash.old)) bank fuses.now (E.accepts engine.now)) }
+    ensures found { result ≡ active_authentication (judge_active (now (F.device flash.old)) bank fuses.now (E.accepts engine.now)) }
     ensures cause { HasCause result }
+    ensures backed { (nv : List ℕ) → fuses_of nv ≡ Ok fuses.now → IsBacked result bank (now (F.device flash.old)) nv (E.accepts engine.now) }
     ensures reads { OnlyReads (F.device flash.old) (F.device flash.new) }
 {
     match active(flash, bank, layout, fuses, engine) {
-        Ok(manifest) => Standing::Trusted { svn: manifest.svn },
+        Ok(manifest) => Authentication::Trusted { svn: manifest.svn },
         Err(why) => match why.failure() {
             Some(_) => unreachable!(),
-            None => Standing::Untrusted(why),
+            None => Authentication::Untrusted(why),
         },
     }
 }
@@ -62,16 +62,17 @@ fn judge_provisioned<F: Flash, E: Engine>(
     bank: Bank,
     fuses: &Fuses,
     engine: &E,
-) -> Standing
+) -> Authentication
     requires size { IsBankSize (size_of (F.device flash.old)) }
-    requires calm { IsCalm (F.device flash.old) }
-    ensures found { result ≡ standing_with bank (now (F.device flash.old)) (E.accepts engine.now) (Some fuses.now) }
+    requires calm { ReadsWell (F.device flash.old) }
+    ensures found { result ≡ authentication_with bank (now (F.device flash.old)) (E.accepts engine.now) (Some fuses.now) }
     ensures cause { HasCause result }
+    ensures backed { (nv : List ℕ) → fuses_of nv ≡ Ok fuses.now → IsBacked result bank (now (F.device flash.old)) nv (E.accepts engine.now) }
     ensures reads { OnlyReads (F.device flash.old) (F.device flash.new) }
 {
     let layout = fuses.provision().layout(bank);
     match layout.judge(flash.size()) {
-        Err(rule) => Standing::Refused(LockWhy::Layout(rule)),
+        Err(rule) => Authentication::BadLayout(rule),
         Ok(()) => check_active(flash, bank, layout, fuses, engine),
     }
 }
@@ -82,15 +83,16 @@ pub fn judge_bank<F: Flash, E: Engine>(
     bank: Bank,
     fuses: &Option<Fuses>,
     engine: &E,
-) -> Standing
+) -> Authentication
     requires size { IsBankSize (size_of (F.device flash.old)) }
-    requires calm { IsCalm (F.device flash.old) }
-    ensures found { result ≡ standing_with bank (now (F.device flash.old)) (E.accepts engine.now) fuses.now }
+    requires calm { ReadsWell (F.device flash.old) }
+    ensures found { result ≡ authentication_with bank (now (F.device flash.old)) (E.accepts engine.now) fuses.now }
     ensures cause { HasCause result }
+    ensures backed { (nv : List ℕ) → fuses_found (fuses_of nv) ≡ fuses.now → IsBacked result bank (now (F.device flash.old)) nv (E.accepts engine.now) }
     ensures reads { OnlyReads (F.device flash.old) (F.device flash.new) }
 {
     match fuses {
-        None => Standing::Refused(LockWhy::Unprovisioned),
+        None => Authentication::Unprovisioned,
         Some(fuses) => judge_provisioned(flash, bank, fuses, engine),
     }
 }

@@ -1,11 +1,11 @@
 //! The platform: its devices, and what it does with them at each event.
 #![tactic(auto)]
 
+mod authentication;
 mod event;
 mod judging;
 mod line;
 mod platform;
-mod standing;
 
 pub use event::Event;
 pub use line::Line;

@@ -1,18 +1,18 @@
 // The platform.
 ghost use Rattle.std.specs.Prelude.{◌≡◌, ◌+◌, ◌<◌, ◌≤◌, ◌++◌, [], false, ◌↔◌, OnOk, OnErr};
 ghost use Rattle.pfr_flash.specs.FlashState.{now, size_of};
-ghost use Rattle.pfr_auth.specs.Answer.{IsBankSize};
+ghost use Rattle.pfr_flash.specs.Layout.{IsBankSize};
 ghost use Rattle.pfr_flash.specs.declared.names.Bank.{Bank};
 ghost use Rattle.pfr_flash.specs.declared.names.Bank.TheVariants.{Bmc, Pch};
 ghost use Rattle.pfr_auth.specs.Trusted.{IsTrusted};
-ghost use Rattle.pfr_machine.specs.Standing.{bank_notes, line_of};
+ghost use Rattle.pfr_machine.specs.Authentication.{bank_notes, line_of};
 ghost use Rattle.pfr_report.specs.Texts.{AllText};
 ghost use Rattle.pfr_machine.specs.declared.line.Line.TheVariants.{Off, Running};
 
+use crate::authentication::Authentication;
 use crate::event::Event;
 use crate::judging::{judge_bank, read_fuses};
 use crate::line::Line;
-use crate::standing::Standing;
 use pfr_chain::Engine;
 use pfr_flash::{Bank, Counts, Flash, NoMemory};
 use pfr_report::{Note, Notes, What};
@@ -213,7 +213,13 @@ impl<F: Flash, E: Engine + Drop> Platform<F, E> {
 }
 
 // Notes how a bank was brought up that was found so, and gives how it stands.
-fn bring_up(notes: &mut Notes, item: u32, bank: Bank, counts: Counts, found: &Standing) -> Line
+fn bring_up(
+    notes: &mut Notes,
+    item: u32,
+    bank: Bank,
+    counts: Counts,
+    found: &Authentication,
+) -> Line
     requires { 3 ≤ notes.old.spare }
     ensures list { notes.new.list ≡ notes.old.list ++ bank_notes item bank counts found.now }
     ensures spare { notes.old.spare ≤ notes.new.spare + 3 }

@@ -17,7 +17,7 @@ use Rattle.pfr_manifest.specs.Judging.{◌>>◌}
 use Rattle.pfr_manifest.specs.Fields.{number_at}
 use Rattle.pfr_manifest.specs.Regions.{IsDigest, IsRegion, IsInOrder, last_start, last_end}
 use Rattle.pfr_manifest.specs.Spelling.{magic, header_bytes, region_bytes, rule_bytes, body_bytes}
-use Rattle.pfr_manifest.specs.Manifest.{IsHeaderWide, IsRegionWide, IsRuleWide, IsManifest}
+use Rattle.pfr_manifest.specs.Manifest.{IsHeaderWide, IsRegionWide, IsRuleWide, IsManifestOf}
 use Rattle.pfr_manifest.specs.Judge.{judge_header, judge_definition, judge_region, judge_rule, judge_entry, judge_tail, judge_entries, judge_manifest, turns_left, header_at, region_at, rule_at, hash_at, region_size, region_len, len_of_hash, with_region, with_rule}
 use Rattle.pfr_manifest.proofs.Numbers.{number_read}
 use Rattle.pfr_manifest.proofs.RegionLemmas.{last_end-before}
@@ -263,7 +263,7 @@ tail_found (suc n) place m layout size h regions rules =
     ∙ ap (λ judged. judged >> Ok m) t
 
 -- What the bytes spell is found.
-pub judge_ends : (bytes : List ℕ) (layout : Layout) (size : ℕ) (m : Manifest) → IsManifest bytes m layout size → judge_manifest bytes layout size ≡ Ok m
+pub judge_ends : (bytes : List ℕ) (layout : Layout) (size : ℕ) (m : Manifest) → IsManifestOf bytes m layout size → judge_manifest bytes layout size ≡ Ok m
 judge_ends bytes layout size m is =
     let header : List ℕ = header_bytes m in
     let regions : List ℕ = flat_map region_bytes m.regions in
@@ -286,7 +286,7 @@ judge_ends bytes layout size m is =
     (λ last. tail_found (m.length - length (body_bytes m)) last m layout size (omega (arith, is.long.holds, is.long.least)) is.few_regions is.few_rules) place) 32
 
 -- Bytes spell one manifest at most.
-pub manifest_is_one : (bytes : List ℕ) (layout : Layout) (size : ℕ) (m other : Manifest) → IsManifest bytes m layout size → IsManifest bytes other layout size → m ≡ other
+pub manifest_is_one : (bytes : List ℕ) (layout : Layout) (size : ℕ) (m other : Manifest) → IsManifestOf bytes m layout size → IsManifestOf bytes other layout size → m ≡ other
 manifest_is_one bytes layout size m other is also =
     let a : judge_manifest bytes layout size ≡ Ok m = judge_ends bytes layout size m is in
     let b : judge_manifest bytes layout size ≡ Ok other = judge_ends bytes layout size other also in

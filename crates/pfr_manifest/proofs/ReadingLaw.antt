@@ -16,7 +16,7 @@ use Rattle.pfr_manifest.specs.Judging.{◌>>=◌, ◌>>◌}
 use Rattle.pfr_manifest.specs.Fields.{AreBytes}
 use Rattle.pfr_manifest.specs.Regions.{IsRegion, IsInOrder}
 use Rattle.pfr_manifest.specs.Spelling.{header_bytes, region_bytes, rule_bytes, body_bytes}
-use Rattle.pfr_manifest.specs.Manifest.{IsWide, IsRegionWide, IsRuleWide, IsManifest}
+use Rattle.pfr_manifest.specs.Manifest.{IsWide, IsRegionWide, IsRuleWide, IsManifestOf}
 use Rattle.pfr_manifest.specs.Judge.{judge_header, judge_definition, judge_region, judge_rule, judge_entry, judge_tail, judge_entries, judge_manifest, after_entry, turns_left, region_len, with_region, with_rule}
 use Rattle.pfr_manifest.proofs.Numbers.{AreBytes-take, AreBytes-drop}
 use Rattle.pfr_manifest.proofs.RegionLemmas.{IsInOrder-push}
@@ -257,7 +257,7 @@ module _ (layout : Layout) (size : ℕ) where
       after_holds turns (λ rest next read last front b g i k. entries_hold turns rest next read last front b g i k) (byte ∷ more) place m last front bytes good is p.0 (entry_is layout size (take 64 (byte ∷ more)) place m p.0 p.1) p.2
 
 -- A judgement that ends well has found what the bytes spell.
-pub judge_holds : (bytes : List ℕ) (layout : Layout) (size : ℕ) (m : Manifest) → AreBytes bytes → judge_manifest bytes layout size ≡ Ok m → IsManifest bytes m layout size
+pub judge_holds : (bytes : List ℕ) (layout : Layout) (size : ℕ) (m : Manifest) → AreBytes bytes → judge_manifest bytes layout size ≡ Ok m → IsManifestOf bytes m layout size
 unfolding judge_manifest
 judge_holds bytes layout size m are h =
     let front : List ℕ = take 32 bytes in

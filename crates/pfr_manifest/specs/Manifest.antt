@@ -36,7 +36,7 @@ pub record IsLeastMultiple (count multiple : ℕ) : Type 0 where
   pub least : multiple < count + 128
 
 -- The bytes spell this manifest, for a bank of this layout and this size.
-pub record IsManifest (bytes : List ℕ) (m : Manifest) (layout : Layout) (size : ℕ) : Type 0 where
+pub record IsManifestOf (bytes : List ℕ) (m : Manifest) (layout : Layout) (size : ℕ) : Type 0 where
   pub spelled : bytes ≡ manifest_bytes m
   pub long : IsLeastMultiple (length (body_bytes m)) m.length
   pub wide : IsWide m

@@ -7,7 +7,7 @@ ghost use Rattle.pfr_flash.specs.Reading.{OnlyReads};
 ghost use Rattle.pfr_manifest.specs.Answer.{IsFound, Answers};
 ghost use Rattle.pfr_manifest.specs.Fields.{AreBytes};
 ghost use Rattle.pfr_manifest.specs.Judge.{HasNoEntries, header_at, judge_header, judge_manifest};
-ghost use Rattle.pfr_manifest.specs.Manifest.{IsManifest};
+ghost use Rattle.pfr_manifest.specs.Manifest.{IsManifestOf};
 ghost use Rattle.pfr_manifest.specs.declared.manifest.Manifest.{Manifest};
 
 use crate::fail::ManifestFail;
@@ -83,9 +83,9 @@ impl Manifest {
         requires within { place + size ≤ size_of (F.device flash.old) }
         requires layout { IsValidLayout layout.now (size_of (F.device flash.old)) }
         // What is read is what the bytes spell.
-        ensures ok { IfOk result (λ m. IsManifest (bytes_at (now (F.device flash.old)) place size) m layout.now (size_of (F.device flash.old))) }
+        ensures ok { IfOk result (λ m. IsManifestOf (bytes_at (now (F.device flash.old)) place size) m layout.now (size_of (F.device flash.old))) }
         // What the bytes spell is read, unless the device fails.
-        ensures only { (m : Manifest) → IsManifest (bytes_at (now (F.device flash.old)) place size) m layout.now (size_of (F.device flash.old)) →
+        ensures only { (m : Manifest) → IsManifestOf (bytes_at (now (F.device flash.old)) place size) m layout.now (size_of (F.device flash.old)) →
             Answers (F.device flash.old) (F.device flash.new) result (Ok m) }
         // Which cause it is: the first in order.
         ensures exact { Answers (F.device flash.old) (F.device flash.new) result

@@ -30,6 +30,7 @@ impl Regions {
         }
     }
 
+    /// How many regions there are, at most 64.
     pub fn len(&self) -> u32
         ensures value { result ≡ length self.now }
         ensures few { result ≤ 64 }
@@ -37,12 +38,14 @@ impl Regions {
         self.items.len() as u32
     }
 
+    /// Whether there is no region.
     pub fn is_empty(&self) -> bool
         ensures { result ≡ (length self.now == 0) }
     {
         self.items.is_empty()
     }
 
+    /// The region of this number, counted from 0 in the manifest's order.
     pub fn get(&self, k: u32) -> &Region
         requires { k < length self.now }
         ensures { result.now ≡ slice_index_or self.now k result.now }

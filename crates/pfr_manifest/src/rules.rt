@@ -29,6 +29,7 @@ impl Rules {
         }
     }
 
+    /// How many rules there are, at most 64.
     pub fn len(&self) -> u32
         ensures value { result ≡ length self.now }
         ensures few { result ≤ 64 }
@@ -36,12 +37,14 @@ impl Rules {
         self.items.len() as u32
     }
 
+    /// Whether there is no rule.
     pub fn is_empty(&self) -> bool
         ensures { result ≡ (length self.now == 0) }
     {
         self.items.is_empty()
     }
 
+    /// The rule of this number, counted from 0 in the manifest's order.
     pub fn get(&self, k: u32) -> &Rule
         requires { k < length self.now }
         ensures { result.now ≡ slice_index_or self.now k result.now }

@@ -95,7 +95,7 @@ fn write_untrusted<K: Sink>(
     }
 }
 
-/// Writes the line of a note. At `Err` a front of it was written.
+/// Writes the line of a note. At `Err` a prefix of it was written.
 #[tactic(auto, unfolding(crate::specs::Texts::note_text))]
 pub fn write_note<K: Sink>(note: &Note, out: &mut K) -> Result<(), SinkFail>
     requires { HasText note.now.what }

@@ -8,7 +8,7 @@ use pfr_flash::{Bank, Counts, LayoutRule};
 pub enum LockWhy {
     /// No slot of the store provisions the platform.
     Unprovisioned,
-    /// The provisioned layout is none of the bank.
+    /// The layout that the store provisions for the bank breaks this rule.
     Layout(LayoutRule),
     /// The active image isn't trusted, and was not restored.
     NotRestored,

@@ -55,12 +55,14 @@ impl Notes {
         }
     }
 
+    /// How many notes there are.
     pub fn len(&self) -> u32
         ensures { result ≡ length self.now.list }
     {
         self.items.len() as u32
     }
 
+    /// The note of this number, counted from 0, the oldest.
     pub fn get(&self, k: u32) -> &Note
         requires { k < length self.now.list }
         ensures { result.now ≡ slice_index_or self.now.list k result.now }

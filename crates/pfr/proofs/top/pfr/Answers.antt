@@ -1,4 +1,4 @@
-use Rattle.pfr.proofs.BenchLemmas.{promised_spans, promised_locks, promised_causes}
+use Rattle.pfr.proofs.BenchLemmas.{promised_spans, promised_locks, promised_texts, promised_causes}
 use Rattle.pfr.proofs.TopLemmas.{output_and_line}
 use Rattle.pfr.proofs.top.pfr.Goals as goal
 
@@ -17,3 +17,6 @@ returns-clause-locks g c = promised_locks c.serve-finished.result.bench c.serve-
 
 pub returns-clause-causes : goal.returns-clause-causes
 returns-clause-causes g c = promised_causes c.serve-finished.result.bench c.serve-finished.result.status c.serve-finished.ensures.promises
+
+pub returns-clause-texts : goal.returns-clause-texts
+returns-clause-texts g c = promised_texts c.serve-finished.result.bench c.serve-finished.result.status c.serve-finished.ensures.promises

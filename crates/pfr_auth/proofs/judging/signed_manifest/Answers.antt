@@ -3,7 +3,7 @@ use Rattle.std.proofs.lemmas.Result.{err_from_is_err_and}
 use Rattle.pfr_flash.specs.FlashState.{FlashState}
 use Rattle.pfr_flash.proofs.ReadingLemmas.{then_reads}
 use Rattle.pfr_fuses.specs.declared.root_slot.RootSlot.{RootSlot}
-use Rattle.pfr_auth.proofs.Parts.{chain_refused, manifest_refused, manifest_found}
+use Rattle.pfr_auth.proofs.Parts.{chain_refused, manifest_refused, manifest_found, manifest_signed}
 use Rattle.pfr_auth.proofs.judging.signed_manifest.Goals as goal
 
 pub returns-in_err-chain-clause-exact : goal.returns-in_err-chain-clause-exact
@@ -30,7 +30,14 @@ returns-clause-exact g c =
     let old : FlashState = g.F.Flash.device c.args.flash.now in
     manifest_found old c.args.bank c.args.fuses.now (g.E.Engine.accepts c.args.engine.now) c.args.layout.now c.manifest_type-ty.result c.provision-provision.result.now.root c.row-cancelled.result.now
     c.requires.layout c.manifest_type-ty.ensures (ap (λ (slot : RootSlot). slot.root) c.provision-provision.ensures) c.row-cancelled.ensures
-    (g.F.Flash.device c.verify.new.flash) c.in_ok-chain.chain c.in_ok-read.field-0 c.verify.ensures.reads c.in_ok-chain.ensures.exact c.in_ok-read.ensures.exact c.in_ok-read.ensures.bytes
+    (g.F.Flash.device c.verify.new.flash) c.in_ok-chain.chain c.in_ok-read.field-0 c.verify.ensures.reads c.in_ok-chain.ensures.exact c.in_ok-read.ensures.exact
+
+pub returns-clause-ok : goal.returns-clause-ok
+returns-clause-ok g c =
+    let old : FlashState = g.F.Flash.device c.args.flash.now in
+    manifest_signed old c.args.bank c.args.fuses.now (g.E.Engine.accepts c.args.engine.now) c.args.layout.now c.manifest_type-ty.result c.provision-provision.result.now.root c.row-cancelled.result.now
+    c.requires.layout c.manifest_type-ty.ensures (ap (λ (slot : RootSlot). slot.root) c.provision-provision.ensures) c.row-cancelled.ensures
+    (g.F.Flash.device c.verify.new.flash) c.in_ok-chain.chain c.in_ok-read.field-0 c.verify.ensures.reads c.in_ok-chain.ensures.ok c.in_ok-read.ensures.ok
 
 pub returns-clause-reads : goal.returns-clause-reads
 returns-clause-reads g c = then_reads c.verify.ensures.reads c.read.ensures.reads

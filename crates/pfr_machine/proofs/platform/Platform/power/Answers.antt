@@ -2,8 +2,9 @@ use Rattle.std.proofs.Common.{◌∙◌, ◌+◌, ap, subst, sym, refl, List, �
 use Rattle.pfr_flash.specs.declared.names.Bank.TheVariants.{Bmc, Pch}
 use Rattle.pfr_report.specs.Texts.{AllText}
 use Rattle.pfr_report.specs.declared.note.Note.{Note}
+use Rattle.pfr_flash.specs.FlashState.{now}
 use Rattle.pfr_machine.specs.Power.{Powers}
-use Rattle.pfr_machine.specs.Standing.{bank_notes}
+use Rattle.pfr_machine.specs.Authentication.{bank_notes}
 use Rattle.pfr_machine.specs.PlatformState.{PlatformState}
 use Rattle.pfr_machine.proofs.PowerLemmas.{powers, power_texts}
 use Rattle.pfr_machine.proofs.platform.Platform.power.Goals as goal
@@ -40,7 +41,9 @@ returns-clause-power g c =
     c.judge_bank-bmc.result c.judge_bank-pch.result c.power_up.ensures c.power_up-2.ensures c.power_up-3.ensures
     c.judge_bank-bmc.ensures.reads c.judge_bank-pch.ensures.reads c.read_fuses-fuses.ensures.reads
     refl refl c.read_fuses-fuses.ensures.found c.judge_bank-bmc.ensures.found c.judge_bank-pch.ensures.found c.counts-counts.ensures lists
-    c.bring_up-self-inside.ensures.line c.bring_up-self-inside-2.ensures.line)
+    c.bring_up-self-inside.ensures.line c.bring_up-self-inside-2.ensures.line
+    (c.judge_bank-bmc.ensures.backed (now (on c.power_up-3.new.self)) (sym c.read_fuses-fuses.ensures.found))
+    (c.judge_bank-pch.ensures.backed (now (on c.power_up-3.new.self)) (sym c.read_fuses-fuses.ensures.found)))
 
 pub returns-clause-texts : goal.returns-clause-texts
 returns-clause-texts g c =

@@ -6,13 +6,13 @@ use Rattle.pfr_manifest.specs.declared.fail.ManifestFail.{ManifestFail}
 use Rattle.pfr_manifest.specs.Answer.{Answers}
 use Rattle.pfr_manifest.specs.Fields.{AreBytes}
 use Rattle.pfr_manifest.specs.Judge.{judge_manifest}
-use Rattle.pfr_manifest.specs.Manifest.{IsManifest}
+use Rattle.pfr_manifest.specs.Manifest.{IsManifestOf}
 use Rattle.pfr_manifest.proofs.ReadingLaw.{judge_holds}
 use Rattle.pfr_manifest.proofs.FindingLaw.{judge_ends}
 use Rattle.pfr_manifest.proofs.manifest.Manifest.read.Goals as goal
 
 answer_holds : (old new : FlashState) (bytes : List ℕ) (layout : Layout) (size : ℕ) (answer : Result Manifest ManifestFail) → Answers old new answer (judge_manifest bytes layout size) → OnOk answer (AreBytes bytes)
-    → IfOk answer (λ m. IsManifest bytes m layout size)
+    → IfOk answer (λ m. IsManifestOf bytes m layout size)
 answer_holds old new bytes layout size (Ok m) h are = judge_holds bytes layout size m are h
 answer_holds old new bytes layout size (Err cause) h are = tt
 

@@ -1,0 +1,5 @@
+pub mod Banks
+pub mod Fields
+pub mod Judge
+pub mod Marks
+pub mod Store

@@ -1,0 +1,72 @@
+// The store of a provisioned platform.
+ghost use Rattle.std.specs.Prelude.{◌≡◌, ◌↔◌, ◌+◌, ◌<◌, ◌^◌, ◌++◌, [], ◌∷◌, IsOk, OnOk, IfOk};
+ghost use Rattle.sha2.specs.Sha256.{sha256};
+ghost use Rattle.pfr_tool.specs.Judge.{IsPlaced, Judged, judge_places};
+ghost use Rattle.pfr_tool.specs.Store.{blanks, layout_bytes, store_of};
+
+use crate::description::Description;
+use crate::fail::{DescFail, DescWhy};
+use crate::keys::PublicKey;
+use crate::writing::push_number;
+use pfr_flash::{Bank, Bytes, Layout, NoMemory};
+use sha2::{Digest, Sha256};
+use std::alloc::Global;
+
+fn root_hash(root: &PublicKey) -> [u8; 32]
+    ensures { result ≡ sha256 (root.now.x ++ root.now.y) }
+{
+    Sha256::new()
+        .chain_update(root.x)
+        .chain_update(root.y)
+        .finalize()
+}
+
+fn push_layout(store: &mut Vec<u8>, layout: &Layout) -> Result<(), NoMemory>
+    ensures { OnOk result (store.new.items ≡ store.old.items ++ layout_bytes layout.now) }
+{
+    push_number(store, layout.manifest_at)?;
+    push_number(store, layout.manifest_len)?;
+    push_number(store, layout.recovery_at)?;
+    push_number(store, layout.staging_at)?;
+    push_number(store, layout.area_len)
+}
+
+// fills up with 0xFF
+#[tactic(auto, unfolding(crate::specs::Store::blanks))]
+fn push_blanks(store: &mut Vec<u8>, count: usize) -> Result<(), NoMemory>
+    requires { count < 2 ^ 32 }
+    ensures { OnOk result (store.new.items ≡ store.old.items ++ blanks count) }
+{
+    let end = store.len() + count;
+    store.resize(end, 0xFF)?;
+    Ok(())
+}
+
+// Both banks' sizes and layouts, the BMC's first
+#[tactic(auto, unfolding(crate::specs::Judge::judge_places, crate::specs::Banks::bank_of))]
+fn check_places(desc: &Description) -> Result<(), DescWhy>
+    ensures exact { result ≡ judge_places desc.now }
+    ensures ok { IsOk result ↔ (IsPlaced desc.now.bmc × IsPlaced desc.now.pch) }
+{
+    desc.check_place(Bank::Bmc)?;
+    desc.check_place(Bank::Pch)
+}
+
+/// Makes the store of the platform, which is provisioned in its first slot and has fuses of profile 2.
+pub fn make_store(alloc: Global, desc: &Description) -> Result<Bytes, DescFail>
+    ensures store { IfOk result (λ store. store ≡ store_of desc.now.root desc.now.bmc.layout desc.now.pch.layout) }
+    ensures placed { OnOk result (IsPlaced desc.now.bmc × IsPlaced desc.now.pch) }
+    ensures judged { Judged result (judge_places desc.now) }
+{
+    check_places(desc)?;
+    let mut store = Vec::new(alloc);
+    store.extend_from_slice(&root_hash(&desc.root))?;
+    push_layout(&mut store, &desc.bmc.layout)?;
+    push_layout(&mut store, &desc.pch.layout)?;
+    push_blanks(&mut store, 183)?;
+    store.push(0)?;
+    push_blanks(&mut store, 2304)?;
+    store.push(0)?;
+    push_blanks(&mut store, 30_207)?;
+    Ok(Bytes::new(store))
+}
