@@ -192,6 +192,13 @@ fn statuses(rt: HostRuntime) -> Result<(), Fail> {
             3,
             "error: engine 1 words\n",
         ),
+        (
+            32_768,
+            "long a b c\n",
+            "engine",
+            3,
+            "error: engine 1 words\n",
+        ),
         (32_768, "", "absent", 4, "error: cannot read engine\n"),
     ] {
         let words = run_words(alloc, name)?;
