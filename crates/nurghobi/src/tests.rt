@@ -5,7 +5,7 @@ use pfr::{Status, pfr};
 use pfr_flash::{Bank, Flash, FlashFail, MemFlash};
 use pfr_shelf::{MemShelf, MemSink};
 use pfr_tool::sample::{small_image, small_platform};
-use pfr_tool::{make_bank, make_store};
+use pfr_tool::{Form, make_bank, make_store};
 use std::alloc::{AllocError, Global};
 use std::process::Abort;
 use std::test::Fail;
@@ -49,7 +49,7 @@ fn turn(bytes: &mut Vec<u8>, turned: Turned) {
 
 // The small platform's files, with the row's change.
 fn small_shelf(alloc: Global, row: &Row) -> Result<MemShelf, Fail> {
-    let mut desc = small_platform(alloc)?;
+    let mut desc = small_platform(alloc, Form::One)?;
     desc.bmc.svn = row.svn;
     let image = small_image(alloc)?;
     let bmc = make_bank(alloc, &desc, Bank::Bmc, image.as_slice(), &[])?;

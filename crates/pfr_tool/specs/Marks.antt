@@ -4,9 +4,14 @@ use Rattle.sha2.specs.Sha512.{sha384}
 use Rattle.pfr_chain.specs.Keys.{digest_on}
 use Rattle.pfr_engine.specs.declared.engine.Ask.{Ask}
 use Rattle.pfr_engine.specs.declared.engine.Curve.{Curve}
+use Rattle.pfr_engine.specs.declared.engine.Curve.TheVariants.{C256, C384}
 use Rattle.pfr_engine.specs.declared.engine.Digest.{Digest}
 use Rattle.pfr_engine.specs.declared.engine.Digest.TheVariants.{D256, D384}
 use Rattle.pfr_tool.specs.declared.keys.PublicKey.{PublicKey}
+
+abbrev pub number_of_curve : Curve → ℕ
+number_of_curve C256 = 0xC7B88C74
+number_of_curve C384 = 0x08F07B47
 
 abbrev pub digest_bytes : Digest → List ℕ
 digest_bytes (D256 bytes) = bytes

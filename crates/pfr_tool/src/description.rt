@@ -5,6 +5,7 @@ ghost use Rattle.pfr_tool.specs.Judge.{IsPlaced, judge_place};
 
 use crate::bank_description::BankDescription;
 use crate::fail::{DescWhy, FitPart};
+use crate::form::Form;
 use crate::keys::PublicKey;
 use pfr_chain::Curve;
 use pfr_flash::Bank;
@@ -17,6 +18,7 @@ const GREATEST_SIZE: u32 = 67_108_864;
 #[derive(Drop)]
 pub struct Description {
     pub curve: Curve,
+    pub form: Form,
     pub root: PublicKey,
     pub bmc: BankDescription,
     pub pch: BankDescription,

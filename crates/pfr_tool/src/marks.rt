@@ -2,7 +2,7 @@
 ghost use Rattle.std.specs.Prelude.{◌≡◌};
 ghost use Rattle.pfr_engine.specs.Curves.{curve_of};
 ghost use Rattle.pfr_chain.specs.Keys.{digest_on};
-ghost use Rattle.pfr_tool.specs.Marks.{digest_bytes, mark_of, marks_of};
+ghost use Rattle.pfr_tool.specs.Marks.{number_of_curve, digest_bytes, mark_of, marks_of};
 
 use crate::keys::PublicKey;
 use pfr_chain::{Ask, Curve, Digest};
@@ -14,7 +14,8 @@ const MARK_S: u8 = b'S';
 
 /// The number of a curve.
 pub fn curve_number(curve: Curve) -> u32
-    ensures { curve_of result ≡ Some curve }
+    ensures known { curve_of result ≡ Some curve }
+    ensures number { result ≡ number_of_curve curve }
 {
     match curve {
         Curve::C256 => 0xC7B8_8C74,

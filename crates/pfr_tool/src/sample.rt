@@ -3,6 +3,7 @@ ghost use Rattle.std.specs.Prelude.{◌≡◌, vec_len, IfOk};
 
 use crate::bank_description::BankDescription;
 use crate::description::Description;
+use crate::form::Form;
 use crate::keys::{KeyDescription, PublicKey};
 use crate::region::{HashKind, PageUse, RegionDescription};
 use crate::smbus::SmbusDescription;
@@ -85,10 +86,11 @@ fn small_bank(alloc: Global) -> Result<BankDescription, NoMemory> {
     })
 }
 
-/// The small platform.
-pub fn small_platform(alloc: Global) -> Result<Description, NoMemory> {
+/// The small platform, with signature blocks of this form.
+pub fn small_platform(alloc: Global, form: Form) -> Result<Description, NoMemory> {
     Ok(Description {
         curve: Curve::C256,
+        form,
         root: PublicKey {
             x: [0x11; 48],
             y: [0x22; 48],

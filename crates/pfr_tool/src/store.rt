@@ -1,24 +1,30 @@
 // The store of a provisioned platform.
 ghost use Rattle.std.specs.Prelude.{◌≡◌, ◌↔◌, ◌+◌, ◌<◌, ◌^◌, ◌++◌, [], ◌∷◌, IsOk, OnOk, IfOk};
-ghost use Rattle.sha2.specs.Sha256.{sha256};
 ghost use Rattle.pfr_tool.specs.Judge.{IsPlaced, Judged, judge_places};
-ghost use Rattle.pfr_tool.specs.Store.{blanks, layout_bytes, store_of};
+ghost use Rattle.pfr_tool.specs.Store.{blanks, layout_bytes, root_hash, store_of};
 
 use crate::description::Description;
 use crate::fail::{DescFail, DescWhy};
-use crate::keys::PublicKey;
-use crate::writing::push_number;
+use crate::form::Form;
+use crate::marks::curve_number;
+use crate::writing::{number_bytes, push_number};
 use pfr_flash::{Bank, Bytes, Layout, NoMemory};
 use sha2::{Digest, Sha256};
 use std::alloc::Global;
 
-fn root_hash(root: &PublicKey) -> [u8; 32]
-    ensures { result ≡ sha256 (root.now.x ++ root.now.y) }
+// The root's hash. That of form 2 begins with the byte 2 and the scheme.
+#[tactic(auto, unfolding(crate::specs::Store::root_hash))]
+fn root_hash(desc: &Description) -> [u8; 32]
+    ensures { result ≡ root_hash desc.now.form desc.now.curve desc.now.root }
 {
-    Sha256::new()
-        .chain_update(root.x)
-        .chain_update(root.y)
-        .finalize()
+    let mut hasher = Sha256::new();
+    if let Form::Two = desc.form {
+        hasher.update([2]);
+        hasher.update(number_bytes(curve_number(desc.curve)));
+    }
+    hasher.update(desc.root.x);
+    hasher.update(desc.root.y);
+    hasher.finalize()
 }
 
 fn push_layout(store: &mut Vec<u8>, layout: &Layout) -> Result<(), NoMemory>
@@ -54,13 +60,13 @@ fn check_places(desc: &Description) -> Result<(), DescWhy>
 
 /// Makes the store of the platform, which is provisioned in its first slot and has fuses of profile 2.
 pub fn make_store(alloc: Global, desc: &Description) -> Result<Bytes, DescFail>
-    ensures store { IfOk result (λ store. store ≡ store_of desc.now.root desc.now.bmc.layout desc.now.pch.layout) }
+    ensures store { IfOk result (λ store. store ≡ store_of desc.now.form desc.now.curve desc.now.root desc.now.bmc.layout desc.now.pch.layout) }
     ensures placed { OnOk result (IsPlaced desc.now.bmc × IsPlaced desc.now.pch) }
     ensures judged { Judged result (judge_places desc.now) }
 {
     check_places(desc)?;
     let mut store = Vec::new(alloc);
-    store.extend_from_slice(&root_hash(&desc.root))?;
+    store.extend_from_slice(&root_hash(desc))?;
     push_layout(&mut store, &desc.bmc.layout)?;
     push_layout(&mut store, &desc.pch.layout)?;
     push_blanks(&mut store, 183)?;

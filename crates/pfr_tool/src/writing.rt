@@ -5,14 +5,21 @@ ghost use Rattle.pfr_tool.specs.Fields.{number_bytes};
 use byteorder::{ByteOrder, LittleEndian};
 use pfr_flash::NoMemory;
 
-/// Appends a number in four bytes, the lowest first.
+/// A number in four bytes, the lowest first.
 #[tactic(auto, unfolding(crate::specs::Fields::number_bytes))]
-pub fn push_number(out: &mut Vec<u8>, number: u32) -> Result<(), NoMemory>
-    ensures { OnOk result (out.new.items ≡ out.old.items ++ number_bytes number) }
+pub fn number_bytes(number: u32) -> [u8; 4]
+    ensures { result ≡ number_bytes number }
 {
     let mut bytes = [0; 4];
     LittleEndian::write_u32(&mut bytes, number);
-    out.extend_from_slice(&bytes)?;
+    bytes
+}
+
+/// Appends a number in four bytes, the lowest first.
+pub fn push_number(out: &mut Vec<u8>, number: u32) -> Result<(), NoMemory>
+    ensures { OnOk result (out.new.items ≡ out.old.items ++ number_bytes number) }
+{
+    out.extend_from_slice(&number_bytes(number))?;
     Ok(())
 }
 
