@@ -3,7 +3,7 @@ ghost use Rattle.std.specs.Prelude.{◌<◌};
 
 use pfr::{Status, pfr};
 use pfr_flash::{Bank, Flash, FlashFail, MemFlash};
-use pfr_shelf::{MemShelf, MemSink};
+use pfr_shelf::{MemShelf, MemSink, Shelf};
 use pfr_tool::sample::{small_image, small_platform};
 use pfr_tool::{Form, make_bank, make_store};
 use std::alloc::{AllocError, Global};
@@ -14,24 +14,6 @@ const RELEASED: &str = "1 bmc released svn 3\n";
 
 const PCH: &str = "1 pch held\n1 pch released svn 3\n";
 
-// A change of one byte: its place, and the bits that are turned over.
-#[derive(Clone, Copy)]
-struct Turned {
-    at: usize,
-    bits: u8,
-}
-
-// The small platform with a change, and the lines of its BMC.
-#[derive(Drop)]
-struct Row {
-    svn: u8,
-    bmc: Turned,
-    store: Turned,
-    lines: &'static str,
-}
-
-const AS_IT_IS: Turned = Turned { at: 0, bits: 0 };
-
 // The words of a run, with this name for the engine's file.
 fn run_words(alloc: Global, engine: &str) -> Result<Vec<String>, AllocError> {
     let mut words = Vec::new(alloc);
@@ -41,27 +23,18 @@ fn run_words(alloc: Global, engine: &str) -> Result<Vec<String>, AllocError> {
     Ok(words)
 }
 
-fn turn(bytes: &mut Vec<u8>, turned: Turned) {
-    if let Some(byte) = bytes.get_mut(turned.at) {
-        *byte ^= turned.bits;
-    }
-}
-
-// The small platform's files, with the row's change.
-fn small_shelf(alloc: Global, row: &Row) -> Result<MemShelf, Fail> {
-    let mut desc = small_platform(alloc, Form::One)?;
-    desc.bmc.svn = row.svn;
+// The files of the small platform, with signature blocks of a form, and of a security version.
+fn small_shelf(alloc: Global, form: Form, svn: u8) -> Result<MemShelf, Fail> {
+    let mut desc = small_platform(alloc, form)?;
+    desc.bmc.svn = svn;
     let image = small_image(alloc)?;
     let bmc = make_bank(alloc, &desc, Bank::Bmc, image.as_slice(), &[])?;
     let pch = make_bank(alloc, &desc, Bank::Pch, image.as_slice(), &[])?;
     let mut rows = bmc.rows.into_vec();
     rows.extend_from_slice(pch.rows.as_slice())?;
-    let mut flash = bmc.flash.into_vec();
-    turn(&mut flash, row.bmc);
-    let mut store = make_store(alloc, &desc)?.into_vec();
-    turn(&mut store, row.store);
+    let store = make_store(alloc, &desc)?;
     let mut shelf = MemShelf::new(alloc);
-    shelf.put("bmc", flash.as_slice())?;
+    shelf.put("bmc", bmc.flash.as_slice())?;
     shelf.put("pch", pch.flash.as_slice())?;
     shelf.put("nv", store.as_slice())?;
     shelf.put("engine", rows.as_slice())?;
@@ -69,56 +42,53 @@ fn small_shelf(alloc: Global, row: &Row) -> Result<MemShelf, Fail> {
     Ok(shelf)
 }
 
-fn reports(rt: &impl Abort, alloc: Global, row: &Row) -> Result<(), Fail> {
-    let mut shelf = small_shelf(alloc, row)?;
+// Turns over bits of one byte of a file.
+fn turn(alloc: Global, shelf: &mut MemShelf, name: &str, at: usize, bits: u8) -> Result<(), Fail> {
+    let mut bytes = shelf.load(alloc, name, 1_048_576)?;
+    if let Some(byte) = bytes.get_mut(at) {
+        *byte ^= bits;
+    }
+    shelf.put(name, bytes.as_slice())?;
+    Ok(())
+}
+
+// Runs a platform, whose BMC has these lines in the report.
+fn reports(rt: &impl Abort, alloc: Global, shelf: &mut MemShelf, lines: &str) -> Result<(), Fail> {
     let mut out = MemSink::new(alloc, 1_048_576)?;
     let words = run_words(alloc, "engine")?;
-    let finished = pfr(alloc, &words, &mut shelf, &mut out);
+    let finished = pfr(alloc, &words, shelf, &mut out);
     assert!(rt; finished.status == Status::Done);
-    let want = format!(in alloc; "1 power\n1 bmc held\n{}{}", row.lines, PCH)?;
+    let want = format!(in alloc; "1 power\n1 bmc held\n{}{}", lines, PCH)?;
     assert!(rt; out.bytes() == want.as_bytes());
     Ok(())
 }
 
 #[test]
 fn dynamic_byte(rt: HostRuntime) -> Result<(), Fail> {
-    let bmc = Turned {
-        at: 0x21000,
-        bits: 0xff,
-    };
-    reports(
-        &rt,
-        rt.alloc(),
-        &Row {
-            svn: 3,
-            bmc,
-            store: AS_IT_IS,
-            lines: RELEASED,
-        },
-    )
+    let alloc = rt.alloc();
+    for form in [Form::One, Form::Two] {
+        let mut shelf = small_shelf(alloc, form, 3)?;
+        turn(alloc, &mut shelf, "bmc", 0x21000, 0xff)?;
+        reports(&rt, alloc, &mut shelf, RELEASED)?;
+    }
+    Ok(())
 }
 
 #[test]
 fn static_bit_not_restored(rt: HostRuntime) -> Result<(), Fail> {
-    let bmc = Turned {
-        at: 0x12345,
-        bits: 1,
-    };
+    let alloc = rt.alloc();
     let lines = "1 bmc untrusted region-hash:0\n1 bmc locked not-restored\n";
-    reports(
-        &rt,
-        rt.alloc(),
-        &Row {
-            svn: 3,
-            bmc,
-            store: AS_IT_IS,
-            lines,
-        },
-    )
+    for form in [Form::One, Form::Two] {
+        let mut shelf = small_shelf(alloc, form, 3)?;
+        turn(alloc, &mut shelf, "bmc", 0x12345, 1)?;
+        reports(&rt, alloc, &mut shelf, lines)?;
+    }
+    Ok(())
 }
 
 #[test]
 fn versions(rt: HostRuntime) -> Result<(), Fail> {
+    let alloc = rt.alloc();
     for (svn, bits, lines) in [
         (3, 0b0100, RELEASED),
         (
@@ -128,14 +98,100 @@ fn versions(rt: HostRuntime) -> Result<(), Fail> {
         ),
         (127, 0, "1 bmc released svn 127\n"),
     ] {
-        let store = Turned { at: 0x7000, bits };
-        let row = Row {
-            svn,
-            bmc: AS_IT_IS,
-            store,
-            lines,
-        };
-        reports(&rt, rt.alloc(), &row)?;
+        let mut shelf = small_shelf(alloc, Form::One, svn)?;
+        turn(alloc, &mut shelf, "nv", 0x7000, bits)?;
+        reports(&rt, alloc, &mut shelf, lines)?;
+    }
+    Ok(())
+}
+
+// Bits of one byte of form 2's active block, and the cause of the chain.
+const FIELDS: [(usize, u8, &str); 47] = [
+    (0, 0x18, "block0-magic"),
+    (0, 0x03, "block1-magic"),
+    (8, 0x02, "type"),
+    (12, 0x40, "block-length"),
+    (13, 0x04, "block-length"),
+    (13, 0x25, "block-length"),
+    (13, 0x24, "length"),
+    (5, 0x01, "length"),
+    (12, 0x80, "digest256"),
+    (16, 0x01, "digest256"),
+    (48, 0x01, "digest384"),
+    (128, 0x01, "block1-magic"),
+    (144, 0x01, "root-entry"),
+    (148, 0x01, "root-entry"),
+    (152, 0x01, "root-entry"),
+    (160, 0x01, "root-entry"),
+    (160, 0x60, "root-entry"),
+    (161, 0x01, "root-entry"),
+    (156, 0x01, "root-hash"),
+    (160, 0x04, "root-hash"),
+    (164, 0x01, "root-hash"),
+    (259, 0x80, "root-hash"),
+    (260, 0x01, "key-entry"),
+    (272, 0x01, "key-entry"),
+    (276, 0x01, "key-entry"),
+    (276, 0x60, "key-entry"),
+    (277, 0x01, "key-entry"),
+    (376, 0x01, "key-entry"),
+    (376, 0x60, "key-entry"),
+    (377, 0x03, "key-entry"),
+    (377, 0x1f, "key-entry"),
+    (269, 0x01, "key-id"),
+    (264, 0x04, "permission"),
+    (264, 0x01, "key-signature"),
+    (268, 0x01, "key-signature"),
+    (280, 0x01, "key-signature"),
+    (377, 0x02, "key-signature"),
+    (380, 0x01, "key-signature"),
+    (475, 0x80, "key-signature"),
+    (476, 0x01, "block0-entry"),
+    (480, 0x01, "block0-entry"),
+    (480, 0x60, "block0-entry"),
+    (481, 0x02, "block0-entry"),
+    (96, 0x01, "block0-signature"),
+    (481, 0x01, "block0-signature"),
+    (484, 0x01, "block0-signature"),
+    (579, 0x80, "block0-signature"),
+];
+
+#[test]
+fn form2_fields(rt: HostRuntime) -> Result<(), Fail> {
+    let alloc = rt.alloc();
+    let mut shelf = small_shelf(alloc, Form::Two, 3)?;
+    for (at, bits, word) in FIELDS {
+        let lines = format!(in alloc;
+            "1 bmc untrusted chain:{}\n1 bmc locked not-restored\n",
+            word
+        )?;
+        turn(alloc, &mut shelf, "bmc", at, bits)?;
+        reports(&rt, alloc, &mut shelf, lines.as_str())?;
+        turn(alloc, &mut shelf, "bmc", at, bits)?;
+    }
+    Ok(())
+}
+
+// As it is, with another key cancelled and with this one, and with bytes that are not looked at.
+#[test]
+fn form2_platform(rt: HostRuntime) -> Result<(), Fail> {
+    let alloc = rt.alloc();
+    let mut shelf = small_shelf(alloc, Form::Two, 3)?;
+    for (name, at, bits, lines) in [
+        ("bmc", 0, 0, RELEASED),
+        ("nv", 0x7060, 0x10, RELEASED),
+        (
+            "nv",
+            0x7060,
+            0x20,
+            "1 bmc untrusted chain:cancelled\n1 bmc locked not-restored\n",
+        ),
+        ("bmc", 132, 1, RELEASED),
+        ("bmc", 1023, 1, RELEASED),
+    ] {
+        turn(alloc, &mut shelf, name, at, bits)?;
+        reports(&rt, alloc, &mut shelf, lines)?;
+        turn(alloc, &mut shelf, name, at, bits)?;
     }
     Ok(())
 }
