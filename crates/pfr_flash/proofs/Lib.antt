@@ -12,3 +12,4 @@ pub mod PlanLemmas
 pub mod FuseLemmas
 pub mod LayoutLemmas
 pub mod StateLemmas
+pub mod FollowsLemmas
