@@ -2,3 +2,14 @@ pub mod FloorLemmas
 pub mod SlotLemmas
 pub mod StandsLemmas
 pub mod FrameLemmas
+pub mod KeptLemmas
+pub mod GrowthLemmas
+pub mod StaysLemmas
+pub mod ClearingLemmas
+pub mod RaiseLemmas
+pub mod CancelLemmas
+pub mod FillingLemmas
+pub mod MigrationLemmas
+pub mod RootSlotLemmas
+pub mod BlankLemmas
+pub mod ProvisionLemmas

@@ -5,3 +5,6 @@ pub mod FuseMap
 pub mod FusesState
 pub mod FusesOf
 pub mod FuseRows
+pub mod Growth
+pub mod Changes
+pub mod Provisioning

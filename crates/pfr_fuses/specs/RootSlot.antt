@@ -1,6 +1,6 @@
 -- What a provision slot says.
-use Rattle.std.specs.Prelude.{ℕ, ◌+◌, List, take, slice_range}
-use Rattle.byteorder.specs.Endian.{little_number}
+use Rattle.std.specs.Prelude.{◌≡◌, ℕ, ◌+◌, ◌^◌, ◌<◌, List, ◌++◌, length, take, slice_index, slice_range}
+use Rattle.byteorder.specs.Endian.{little_bytes, little_number}
 use Rattle.pfr_flash.specs.declared.layout.Layout.{Layout}
 use Rattle.pfr_flash.specs.declared.names.Bank.{Bank}
 use Rattle.pfr_flash.specs.declared.names.Bank.TheVariants.{Bmc, Pch}
@@ -35,3 +35,25 @@ provision_in slot = slot_of (take 72 slot)
 abbrev pub layout_of : RootSlot → Bank → Layout
 layout_of slot Bmc = slot.bmc
 layout_of slot Pch = slot.pch
+
+-- ---- the bytes that say it
+unfoldable pub layout_bytes : Layout → List ℕ
+layout_bytes l = little_bytes 4 l.manifest_at ++ (little_bytes 4 l.manifest_len ++ (little_bytes 4 l.recovery_at ++ (little_bytes 4 l.staging_at ++ little_bytes 4 l.area_len)))
+
+unfoldable pub slot_bytes : RootSlot → List ℕ
+slot_bytes what = what.root ++ (layout_bytes what.bmc ++ layout_bytes what.pch)
+
+-- Each number fits in four bytes, and the hash has 32 bytes: so it is of every value of a program.
+pub record HasFields (l : Layout) : Type 0 where
+  pub manifest_at : l.manifest_at < 2 ^ 32
+  pub manifest_len : l.manifest_len < 2 ^ 32
+  pub recovery_at : l.recovery_at < 2 ^ 32
+  pub staging_at : l.staging_at < 2 ^ 32
+  pub area_len : l.area_len < 2 ^ 32
+
+pub record IsSlot (what : RootSlot) : Type 0 where
+  pub root : length what.root ≡ 32
+  pub bmc : HasFields what.bmc
+  pub pch : HasFields what.pch
+  -- what is programmed are bytes
+  pub bytes : (i : ℕ) → i < 72 → slice_index (slot_bytes what) i < 256

@@ -1,12 +1,13 @@
 // The rows of fuses, read from a store of either profile.
-ghost use Rattle.std.specs.Prelude.{◌≡◌, ◌+◌, ◌≤◌, IfOk, IfErr};
+ghost use Rattle.std.specs.Prelude.{◌≡◌, ◌↔◌, ◌⊎◌, ℕ, ◌+◌, ◌<◌, ◌≤◌, IfOk, IfErr};
 ghost use Rattle.pfr_flash.specs.Bytes.{bytes_at, continued};
 ghost use Rattle.pfr_flash.specs.FlashState.{now, size_of};
 ghost use Rattle.pfr_flash.specs.Reading.{OnlyReads, FailsReading};
 ghost use Rattle.pfr_fuses.specs.FuseMap.{IsSigning, profile_of};
 ghost use Rattle.pfr_fuses.specs.FusesOf.{floor_fuses, row_fuses};
 ghost use Rattle.pfr_fuses.specs.FusesState.{floor_in};
-ghost use Rattle.pfr_fuses.specs.FuseRows.{FloorsOf, RowsOf, fuses_of_floor};
+ghost use Rattle.pfr_flash.specs.FuseRow.{IsCleared, with_cleared};
+ghost use Rattle.pfr_fuses.specs.FuseRows.{FloorsOf, RowsOf, fuses_of_floor, with_floor_fuses, keys_of_rows, with_keys};
 
 use crate::profile::Profile;
 use pfr_flash::{Bank, ContentType, Flash, FlashFail, FuseRow};
@@ -87,6 +88,19 @@ impl Floors {
         }
     }
 
+    /// Clears a fuse of this bank's floor.
+    pub fn clear(&mut self, bank: Bank, bit: u32)
+        requires { bit < 128 }
+        ensures kept { self.new ≡ with_floor_fuses self.old bank (with_cleared (fuses_of_floor self.old bank) bit) }
+        ensures cleared { (k : ℕ) → k < 128 → (IsCleared (fuses_of_floor self.new bank) k
+            ↔ (IsCleared (fuses_of_floor self.old bank) k ⊎ (k ≡ bit))) }
+    {
+        match bank {
+            Bank::Bmc => self.bmc = self.bmc.cleared(bit),
+            Bank::Pch => self.pch = self.pch.cleared(bit),
+        }
+    }
+
     /// Reads both floors from a store of this profile.
     pub fn read<F: Flash>(nv: &mut F, profile: Profile) -> Result<Floors, FlashFail>
         requires size { size_of (F.device nv.old) ≡ 32768 }
@@ -111,6 +125,23 @@ pub struct CancelRows {
 }
 
 impl CancelRows {
+    /// Cancels a key of a signing type.
+    pub fn clear(&mut self, ty: ContentType, id: u8)
+        requires { IsSigning ty }
+        ensures kept { self.new ≡ with_keys self.old ty (with_cleared (keys_of_rows self.old ty) id) }
+        ensures cleared { (k : ℕ) → k < 256 → (IsCleared (keys_of_rows self.new ty) k
+            ↔ (IsCleared (keys_of_rows self.old ty) k ⊎ (k ≡ id))) }
+    {
+        let bit = u32::from(id);
+        match ty {
+            ContentType::PchManifest => self.pch_manifest = self.pch_manifest.cleared(bit),
+            ContentType::PchCapsule => self.pch_capsule = self.pch_capsule.cleared(bit),
+            ContentType::BmcManifest => self.bmc_manifest = self.bmc_manifest.cleared(bit),
+            ContentType::BmcCapsule => self.bmc_capsule = self.bmc_capsule.cleared(bit),
+            _ => unreachable!(),
+        }
+    }
+
     /// Reads the four rows from a store of this profile.
     pub fn read<F: Flash>(nv: &mut F, profile: Profile) -> Result<CancelRows, FlashFail>
         requires size { size_of (F.device nv.old) ≡ 32768 }

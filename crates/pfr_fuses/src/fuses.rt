@@ -1,22 +1,29 @@
 // The provision and the fuses of the store, as they are kept.
-ghost use Rattle.std.specs.Prelude.{◌≡◌, ◌↔◌, ℕ, List, IfOk, IfErr, IsTrue, Ok, Err};
+ghost use Rattle.std.specs.Prelude.{◌≡◌, ◌↔◌, ℕ, ◌<◌, ◌≤◌, List, length, slice_index, IfOk, IfErr, OnOk, OnErr, IsTrue, Ok, Err, max, ◌⊎◌};
 ghost use Rattle.pfr_flash.specs.FlashState.{now, size_of};
 ghost use Rattle.pfr_flash.specs.FuseRow.{IsCleared};
+ghost use Rattle.pfr_flash.specs.Plan.{Follows};
+ghost use Rattle.pfr_flash.specs.Range.{IsWithin, SameOutside};
 ghost use Rattle.pfr_flash.specs.Reading.{OnlyReads};
 ghost use Rattle.pfr_fuses.specs.Answer.{Answers};
 ghost use Rattle.pfr_fuses.specs.Slots.{IsProvisionedBy, IsUnset, HasBlank, slot_at};
-ghost use Rattle.pfr_fuses.specs.FuseMap.{IsSigning, IsFloor, IsCancelled, profile_number};
+ghost use Rattle.pfr_fuses.specs.FuseMap.{IsSigning, IsFloor, IsCancelled, profile_of, profile_number, floor_at, row_at};
 ghost use Rattle.pfr_fuses.specs.FusesState.{floor_of, row_of};
 ghost use Rattle.pfr_fuses.specs.RootSlot.{provision_in};
 ghost use Rattle.pfr_fuses.specs.FusesOf.{Stands, FloorStands, RowStands, IsRefused, fuses_of, fuses_with};
+ghost use Rattle.pfr_fuses.specs.Changes.{AreRows, IsMigrating, Raises, Cancels, CancelsAtMost, StaysButFloor, StaysButRow, raise_plan, cancellation, migrated, migration, raised, with_cancelled};
+ghost use Rattle.pfr_fuses.specs.Growth.{NeverGoesBack, KeepsProvision, Adds};
+ghost use Rattle.pfr_fuses.specs.declared.profile.Profile.TheVariants.{One, Two};
 ghost use Rattle.pfr_fuses.specs.declared.fuse_fail.FuseFail.TheVariants.{NotProvisioned, SlotsSpent};
 
+use crate::clearing::{clear_fuse, program_fuses};
+use crate::filling::put;
 use crate::fuse_fail::FuseFail;
 use crate::fuse_rows::{CancelRows, Floors, floor_of};
 use crate::profile::Profile;
 use crate::root_slot::RootSlot;
 use crate::slots::{SLOT_LEN, provisioned_slot};
-use pfr_flash::{Bank, ContentType, Flash, FuseRow};
+use pfr_flash::{Bank, ContentType, Flash, FlashFail, FuseRow};
 use std::marker::Model;
 
 /// What the platform is provisioned with, and the fuses of the store.
@@ -134,6 +141,148 @@ impl Fuses {
             (IsTrue result ↔ IsCancelled store ty id) }
     {
         self.row(ty).is_cleared(u32::from(id))
+    }
+
+    // the floors, and behind them the cancelled keys
+    fn put_fuses(&self, bytes: &mut [u8])
+        requires { length bytes.old ≡ 160 }
+        ensures bytes { bytes.new ≡ migrated self.now }
+        ensures rows { AreRows self.now }
+    {
+        put(bytes, 0, self.floors.bmc.bytes());
+        put(bytes, 16, self.floors.pch.bytes());
+        put(bytes, 32, self.rows.pch_manifest.bytes());
+        put(bytes, 64, self.rows.pch_capsule.bytes());
+        put(bytes, 96, self.rows.bmc_manifest.bytes());
+        put(bytes, 128, self.rows.bmc_capsule.bytes());
+    }
+
+    fn fuse_bytes(&self) -> [u8; 160]
+        ensures bytes { result ≡ migrated self.now }
+        ensures rows { AreRows self.now }
+    {
+        let mut bytes = [0; 160];
+        self.put_fuses(&mut bytes);
+        bytes
+    }
+
+    fn migrate_fuses<F: Flash>(&mut self, nv: &mut F) -> Result<(), FlashFail>
+        requires { size_of (F.device nv.old) ≡ 32768 }
+        ensures follows { Follows (migration self.old) (F.device nv.old) (F.device nv.new) result }
+        ensures ok { OnOk result (self.new ≡ record self.old { profile = Two }) }
+        ensures err { OnErr result (self.new ≡ self.old) }
+        ensures rows { AreRows self.old }
+        ensures bytes { (i : ℕ) → i < 160 → slice_index (migrated self.old) i < 256 }
+    {
+        program_fuses(nv, &self.fuse_bytes())?;
+        self.profile = Profile::Two;
+        Ok(())
+    }
+
+    /// Moves the fuses of a store of profile 1 to sector 7, where there is room for more, and sets the gate of
+    /// profile 2. This takes three operations.
+    ///
+    /// After `Err` the store is of either profile, with the same floors and cancelled keys.
+    pub fn migrate<F: Flash>(&mut self, nv: &mut F) -> Result<(), FlashFail>
+        requires size { size_of (F.device nv.old) ≡ 32768 }
+        requires profile { self.old.profile ≡ One }
+        requires stands { Stands (now (F.device nv.old)) self.old }
+        ensures follows { Follows (migration self.old) (F.device nv.old) (F.device nv.new) result }
+        ensures kept { OnOk result (self.new ≡ record self.old { profile = Two }) }
+        ensures left { OnErr result (self.new ≡ self.old) }
+        ensures exact { OnOk result (fuses_of (now (F.device nv.old)) ≡ Ok self.old →
+            fuses_of (now (F.device nv.new)) ≡ Ok self.new) }
+        ensures ok { OnOk result (Stands (now (F.device nv.new)) self.new) }
+        ensures err { OnErr result (Stands (now (F.device nv.new))
+            (record self.old { profile = profile_of (now (F.device nv.new)) })) }
+        // No operation touches a byte outside of sector 7 and the profile gate.
+        ensures within { Adds IsMigrating (F.device nv.old) (F.device nv.new) }
+        ensures grows { NeverGoesBack (F.device nv.old) (F.device nv.new) }
+        ensures provision { KeepsProvision (F.device nv.old) (F.device nv.new) }
+    {
+        self.migrate_fuses(nv)
+    }
+
+    fn raise_fuse<F: Flash>(&mut self, nv: &mut F, bank: Bank, to: u32) -> Result<(), FlashFail>
+        requires size { size_of (F.device nv.old) ≡ 32768 }
+        requires to { to ≤ 127 }
+        ensures follows { Follows (raise_plan (floor_of self.old bank) bank to) (F.device nv.old) (F.device nv.new) result }
+        ensures ok { OnOk result (self.new ≡ raised self.old bank to) }
+        ensures fuses { OnOk result (Raises self.old bank to self.new) }
+        ensures err { OnErr result (self.new ≡ self.old) }
+    {
+        if to <= self.floor(bank) {
+            return Ok(());
+        }
+        clear_fuse(nv, Profile::Two.floor_at(bank), to - 1)?;
+        self.floors.clear(bank, to - 1);
+        Ok(())
+    }
+
+    /// Raises the bank's floor to `to`, in a store of profile 2; a floor that is as high is left alone, without an
+    /// operation.
+    ///
+    /// After `Err` the store's floor is the old one or `to`, and the fuses that are kept have the old one.
+    pub fn raise<F: Flash>(&mut self, nv: &mut F, bank: Bank, to: u32) -> Result<(), FlashFail>
+        requires size { size_of (F.device nv.old) ≡ 32768 }
+        requires profile { profile_of (now (F.device nv.old)) ≡ Two }
+        requires to { to ≤ 127 }
+        requires stands { FloorStands (now (F.device nv.old)) self.old bank }
+        ensures follows { Follows (raise_plan (floor_of self.old bank) bank to) (F.device nv.old) (F.device nv.new) result }
+        ensures kept { OnOk result (self.new ≡ raised self.old bank to) }
+        ensures floor { OnOk result (floor_of self.new bank ≡ max (floor_of self.old bank) to) }
+        ensures ok { OnOk result (FloorStands (now (F.device nv.new)) self.new bank) }
+        ensures left { OnErr result (self.new ≡ self.old) }
+        ensures err { OnErr result (IsFloor (now (F.device nv.new)) bank (floor_of self.old bank)
+            ⊎ IsFloor (now (F.device nv.new)) bank to) }
+        ensures stays { StaysButFloor bank (now (F.device nv.old)) self.old (now (F.device nv.new)) self.new }
+        // No operation touches another byte than those of the bank's floor.
+        ensures within { Adds (IsWithin (floor_at Two bank) 16) (F.device nv.old) (F.device nv.new) }
+        ensures outside { SameOutside (floor_at Two bank) 16 (now (F.device nv.old)) (now (F.device nv.new)) }
+        ensures grows { NeverGoesBack (F.device nv.old) (F.device nv.new) }
+        ensures provision { KeepsProvision (F.device nv.old) (F.device nv.new) }
+    {
+        self.raise_fuse(nv, bank, to)
+    }
+
+    fn cancel_key<F: Flash>(&mut self, nv: &mut F, ty: ContentType, id: u8) -> Result<(), FlashFail>
+        requires size { size_of (F.device nv.old) ≡ 32768 }
+        requires signing { IsSigning ty }
+        ensures follows { Follows (cancellation ty id) (F.device nv.old) (F.device nv.new) result }
+        ensures ok { OnOk result (self.new ≡ with_cancelled self.old ty id) }
+        ensures fuses { OnOk result (Cancels self.old ty id self.new) }
+        ensures err { OnErr result (self.new ≡ self.old) }
+    {
+        clear_fuse(nv, Profile::Two.row_at(ty), u32::from(id))?;
+        self.rows.clear(ty, id);
+        Ok(())
+    }
+
+    /// Cancels a key of a signing type, in a store of profile 2.
+    ///
+    /// After `Err` the key is cancelled in the store or not, and the fuses that are kept don't have it cancelled.
+    pub fn cancel<F: Flash>(&mut self, nv: &mut F, ty: ContentType, id: u8) -> Result<(), FlashFail>
+        requires size { size_of (F.device nv.old) ≡ 32768 }
+        requires profile { profile_of (now (F.device nv.old)) ≡ Two }
+        requires signing { IsSigning ty }
+        requires unused { ¬ IsCleared (row_of self.old ty) id }
+        requires stands { RowStands (now (F.device nv.old)) self.old ty }
+        ensures follows { Follows (cancellation ty id) (F.device nv.old) (F.device nv.new) result }
+        ensures kept { OnOk result (self.new ≡ with_cancelled self.old ty id) }
+        ensures fuses { OnOk result (Cancels self.old ty id self.new) }
+        ensures ok { OnOk result (RowStands (now (F.device nv.new)) self.new ty) }
+        ensures done { OnOk result (IsCancelled (now (F.device nv.new)) ty id) }
+        ensures left { OnErr result (self.new ≡ self.old) }
+        // In the store no other key of the type is cancelled.
+        ensures store { CancelsAtMost (now (F.device nv.old)) ty id (now (F.device nv.new)) }
+        ensures stays { StaysButRow ty (now (F.device nv.old)) self.old (now (F.device nv.new)) self.new }
+        // No operation touches another byte than those of the type's row.
+        ensures within { Adds (IsWithin (row_at Two ty) 32) (F.device nv.old) (F.device nv.new) }
+        ensures outside { SameOutside (row_at Two ty) 32 (now (F.device nv.old)) (now (F.device nv.new)) }
+        ensures grows { NeverGoesBack (F.device nv.old) (F.device nv.new) }
+        ensures provision { KeepsProvision (F.device nv.old) (F.device nv.new) }
+    {
+        self.cancel_key(nv, ty, id)
     }
 
     /// 1, or 2 once the fuses were migrated.

@@ -8,20 +8,24 @@ ghost use Rattle.pfr_fuses.specs.Slots.{is_set, is_blank, provisioned_slot};
 use crate::fuse_fail::FuseFail;
 use pfr_flash::Flash;
 
-const SLOTS: u32 = 8;
+/// How many provision slots a store has.
+pub const SLOTS: u32 = 8;
 
 /// How many bytes a provision slot has. The last is its gate, which is not 0xFF where the slot is set.
 pub const SLOT_LEN: u32 = 256;
 
-const GATE: usize = 255;
+/// Where the gate of a slot is.
+pub const GATE: usize = 255;
 
-fn is_set(slot: &[u8; SLOT_LEN as usize]) -> bool
+/// Whether the slot's gate is set.
+pub fn is_set(slot: &[u8; SLOT_LEN as usize]) -> bool
     ensures { result ≡ is_set slot.now }
 {
     slot[GATE] != 0xFF
 }
 
-fn is_blank(slot: &[u8; SLOT_LEN as usize]) -> bool
+/// Whether each byte of the slot is 0xFF.
+pub fn is_blank(slot: &[u8; SLOT_LEN as usize]) -> bool
     ensures { result ≡ is_blank slot.now }
 {
     slot.iter().all(|byte| *byte == 0xFF)

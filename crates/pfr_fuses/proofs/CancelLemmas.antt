@@ -1,0 +1,210 @@
+-- What cancelling a key leaves.
+use Rattle.std.proofs.Common.{◌≡◌, ℕ, ◌+◌, ◌≤◌, ◌<◌, List, length, Result, Ok, Err, OnOk, OnErr, refl, sym, ap, ◌∙◌, subst, arith, ◌⊎◌, inl, inr}
+use Rattle.std.specs.Prelude.{◌↔◌, ◌≢◌}
+use Rattle.std.proofs.lemmas.Bool.{cases_eq}
+use Rattle.pfr_flash.specs.Bytes.{bytes_at}
+use Rattle.pfr_flash.specs.FlashState.{FlashState, now, size_of}
+use Rattle.pfr_flash.specs.FuseRow.{IsCleared, MayClear, with_cleared}
+use Rattle.pfr_flash.specs.Plan.{Follows}
+use Rattle.pfr_flash.specs.Range.{AllWithin, IsWithin, SameOutside}
+use Rattle.pfr_flash.specs.declared.names.Bank.{Bank}
+use Rattle.pfr_flash.specs.declared.names.Bank.TheVariants.{Bmc, Pch}
+use Rattle.pfr_flash.specs.declared.names.ContentType.{ContentType}
+use Rattle.pfr_flash.specs.declared.names.ContentType.TheVariants.{PchManifest, PchCapsule, BmcManifest, BmcCapsule}
+use Rattle.pfr_flash.specs.declared.flash.FlashFail.{FlashFail}
+use Rattle.pfr_flash.proofs.FollowsLemmas.{Follows-now, Follows-outside, DoesPart-now}
+use Rattle.pfr_flash.proofs.FuseLemmas.{IsCleared-program}
+use Rattle.pfr_flash.proofs.RangeLemmas.{length-now}
+use Rattle.pfr_fuses.specs.FuseMap.{IsSigning, IsBit, IsCancelBit, IsCancelled, profile_of, row_at}
+use Rattle.pfr_fuses.specs.FusesState.{FusesState, floor_row, row_of}
+use Rattle.pfr_fuses.specs.FusesOf.{RowStands}
+use Rattle.pfr_fuses.specs.Changes.{Cancels, CancelsAtMost, StaysButRow, cancellation, with_cancelled, with_row}
+use Rattle.pfr_fuses.specs.Growth.{NeverGoesBack, KeepsProvision, Adds}
+use Rattle.pfr_fuses.specs.declared.profile.Profile.TheVariants.{Two}
+use Rattle.pfr_fuses.proofs.ClearingLemmas.{clearing-within, clearing-programs, clearing-part, row_bit-two, row_bit-stays}
+use Rattle.pfr_fuses.proofs.GrowthLemmas.{profile-outside, NeverGoesBack-programs, KeepsProvision-plan, Adds-within, slots-outside}
+use Rattle.pfr_fuses.proofs.StaysLemmas.{rows_apart, row_behind_floors, row_in_sector, floor_bits-outside, row_bits-outside, FloorStands-same, RowStands-same}
+
+-- ---- what is kept
+record SameElse (fuses : FusesState) (type : ContentType) (after : FusesState) : Type 0 where
+  floors : (bank : Bank) → floor_row after bank ≡ floor_row fuses bank
+  rows : (other : ContentType) → other ≢ type → row_of after other ≡ row_of fuses other
+  provision : after.provision ≡ fuses.provision
+  profile : after.profile ≡ fuses.profile
+
+same_fuses : (fuses : FusesState) (type : ContentType) → SameElse fuses type fuses
+same_fuses fuses type = record { floors = λ bank. refl; rows = λ other ne. refl; provision = refl; profile = refl }
+
+other_row : (fuses : FusesState) (type other : ContentType) (row : List ℕ) → IsSigning type → other ≢ type → row_of (with_row fuses type row) other ≡ row_of fuses other
+other_row fuses PchManifest PchManifest row s ne = absurd (ne refl)
+other_row fuses PchManifest PchCapsule row s ne = refl
+other_row fuses PchManifest BmcManifest row s ne = refl
+other_row fuses PchManifest BmcCapsule row s ne = refl
+other_row fuses PchManifest other row s ne = refl
+other_row fuses PchCapsule PchManifest row s ne = refl
+other_row fuses PchCapsule PchCapsule row s ne = absurd (ne refl)
+other_row fuses PchCapsule BmcManifest row s ne = refl
+other_row fuses PchCapsule BmcCapsule row s ne = refl
+other_row fuses PchCapsule other row s ne = refl
+other_row fuses BmcManifest PchManifest row s ne = refl
+other_row fuses BmcManifest PchCapsule row s ne = refl
+other_row fuses BmcManifest BmcManifest row s ne = absurd (ne refl)
+other_row fuses BmcManifest BmcCapsule row s ne = refl
+other_row fuses BmcManifest other row s ne = refl
+other_row fuses BmcCapsule PchManifest row s ne = refl
+other_row fuses BmcCapsule PchCapsule row s ne = refl
+other_row fuses BmcCapsule BmcManifest row s ne = refl
+other_row fuses BmcCapsule BmcCapsule row s ne = absurd (ne refl)
+other_row fuses BmcCapsule other row s ne = refl
+other_row fuses type other row s ne = absurd s
+
+same_floor : (fuses : FusesState) (type : ContentType) (row : List ℕ) (bank : Bank) → IsSigning type → floor_row (with_row fuses type row) bank ≡ floor_row fuses bank
+same_floor fuses PchManifest row Bmc s = refl
+same_floor fuses PchManifest row Pch s = refl
+same_floor fuses PchCapsule row Bmc s = refl
+same_floor fuses PchCapsule row Pch s = refl
+same_floor fuses BmcManifest row Bmc s = refl
+same_floor fuses BmcManifest row Pch s = refl
+same_floor fuses BmcCapsule row Bmc s = refl
+same_floor fuses BmcCapsule row Pch s = refl
+same_floor fuses type row bank s = absurd s
+
+same_rest : (fuses : FusesState) (type : ContentType) (row : List ℕ) → IsSigning type → ((with_row fuses type row).provision ≡ fuses.provision) × ((with_row fuses type row).profile ≡ fuses.profile)
+same_rest fuses PchManifest row s = (refl, refl)
+same_rest fuses PchCapsule row s = (refl, refl)
+same_rest fuses BmcManifest row s = (refl, refl)
+same_rest fuses BmcCapsule row s = (refl, refl)
+same_rest fuses type row s = absurd s
+
+same_with_row : (fuses : FusesState) (type : ContentType) (row : List ℕ) → IsSigning type → SameElse fuses type (with_row fuses type row)
+same_with_row fuses type row s = record {
+  floors = λ bank. same_floor fuses type row bank s;
+  rows = λ other ne. other_row fuses type other row s ne;
+  provision = (same_rest fuses type row s).0;
+  profile = (same_rest fuses type row s).1;
+}
+
+-- ---- one store and the next
+record Changed (type : ContentType) (old new : List ℕ) : Type 0 where
+  size : length old ≡ 32768
+  same_size : length new ≡ length old
+  two : profile_of old ≡ Two
+  signing : IsSigning type
+  outside : SameOutside (row_at Two type) 32 old new
+
+new_profile : (type : ContentType) (old new : List ℕ) → Changed type old new → profile_of new ≡ profile_of old
+new_profile type old new h = profile-outside (row_at Two type) 32 old new (inl (omega (arith, (row_in_sector type h.signing).0))) h.outside
+
+new_two : (type : ContentType) (old new : List ℕ) → Changed type old new → profile_of new ≡ Two
+new_two type old new h = new_profile type old new h ∙ h.two
+
+stays_but : (type : ContentType) (old new : List ℕ) (fuses after : FusesState) → Changed type old new → SameElse fuses type after → StaysButRow type old fuses new after
+stays_but type old new fuses after h same = record {
+  floors = λ bank stands. FloorStands-same old new fuses after bank (same.floors bank)
+      (floor_bits-outside (row_at Two type) 32 old new bank h.size h.same_size (new_profile type old new h) (rw h.two (inl (row_behind_floors bank type h.signing))) h.outside) stands;
+  rows = λ other ne stands. RowStands-same old new fuses after other (same.rows other ne)
+      (row_bits-outside (row_at Two type) 32 old new other h.size h.same_size (new_profile type old new h) (λ signing. rw h.two (rows_apart type other h.signing signing ne)) h.outside) stands;
+  store = record {
+    slots = slots-outside (row_at Two type) 32 old new (omega (arith, (row_in_sector type h.signing).0)) h.size h.same_size h.outside;
+    profile = new_profile type old new h;
+  };
+  provision = same.provision;
+  profile = same.profile;
+}
+
+-- ---- the row
+row_stands_cancelled : (type : ContentType) (id : ℕ) (old new : List ℕ) (fuses after : FusesState) → Changed type old new → MayClear (row_at Two type) 32 id old new
+    → IsCleared (bytes_at new (row_at Two type) 32) id → Cancels fuses type id after → RowStands old fuses type → RowStands new after type
+row_stands_cancelled type id old new fuses after h may cleared cancels stands = record { fuses_same = λ k below. by_fuse k below (cases_eq k id) }
+  where
+    by_fuse : (k : ℕ) → k < 256 → ((k ≡ id) ⊎ (k ≢ id)) → (IsCleared (row_of after type) k ↔ IsCancelBit new type k)
+    by_fuse k below (inl same) =
+        let kept : IsCleared (row_of after type) k = (cancels.fuses k below).1 (inr same) in
+        let bit : IsBit new (row_at Two type) 32 k = record { within = below; cleared = rw same cleared } in
+        let stored : IsCancelBit new type k = record { signing = h.signing; bit = (row_bit-two new type k (new_two type old new h)).1 bit } in
+        (λ z. stored, λ b. kept)
+    by_fuse k below (inr other) =
+        let bits = row_bit-stays old new type id k h.two (new_two type old new h) may other in
+        (λ z. bits.1 ((stands.fuses_same k below).0 (forget k other ((cancels.fuses k below).0 z))), λ b. (cancels.fuses k below).1 (inl ((stands.fuses_same k below).1 (bits.0 b))))
+      where
+        forget : (k : ℕ) → k ≢ id → (IsCleared (row_of fuses type) k ⊎ (k ≡ id)) → IsCleared (row_of fuses type) k
+        forget k ne (inl z) = z
+        forget k ne (inr e) = absurd (ne e)
+
+-- in the store too no other key is cancelled
+cancels_at_most : (type : ContentType) (id : ℕ) (old new : List ℕ) → Changed type old new → MayClear (row_at Two type) 32 id old new → id < 256 → CancelsAtMost old type id new
+cancels_at_most type id old new h may most = record {
+  others = λ k other. row_bit-stays old new type id k h.two (new_two type old new h) may other;
+  keeps = λ b.
+      let was : IsBit old (row_at Two type) 32 id = (row_bit-two old type id h.two).0 b.bit in
+      let is : IsBit new (row_at Two type) 32 id = record { within = was.within; cleared = may.keeps was.cleared } in
+      record { signing = b.signing; bit = (row_bit-two new type id (new_two type old new h)).1 is };
+}
+
+-- ---- the call
+module _ (type : ContentType) (id : ℕ) (old new : FlashState) (fuses after : FusesState) (result : Result (Unit {0}) FlashFail) (size : size_of old ≡ 32768) (two : profile_of (now old) ≡ Two) (signing : IsSigning type) (most : id < 256)
+    (follows : Follows (cancellation type id) old new result) where
+  within : AllWithin (row_at Two type) 32 (cancellation type id)
+  within = clearing-within (row_at Two type) 32 id (omega arith)
+
+  changed : Changed type (now old) (now new)
+  changed = record {
+    size = length-now old ∙ size;
+    same_size = length-now new ∙ ap length follows.worked.moved.start ∙ sym (length-now old);
+    two = two;
+    signing = signing;
+    outside = Follows-outside (row_at Two type) 32 (cancellation type id) old new result within follows;
+  }
+
+  fits : row_at Two type + 32 ≤ length (now old)
+  fits = omega (arith, length-now old, (row_in_sector type signing).1)
+
+  may : MayClear (row_at Two type) 32 id (now old) (now new)
+  may = subst (λ (image : List ℕ). MayClear (row_at Two type) 32 id (now old) image)
+      (sym (DoesPart-now (cancellation type id) old new follows.worked.moved.start follows.part))
+      (clearing-part (now old) (row_at Two type) 32 id follows.part.added (omega arith) fits follows.part.part)
+
+  pub cancel-outside : SameOutside (row_at Two type) 32 (now old) (now new)
+  cancel-outside = changed.outside
+
+  pub cancel-adds : Adds (λ op. IsWithin (row_at Two type) 32 op) old new
+  cancel-adds = Adds-within (row_at Two type) 32 (cancellation type id) old new within follows.part
+
+  pub cancel-grows : NeverGoesBack old new
+  cancel-grows = NeverGoesBack-programs (row_at Two type) 32 (cancellation type id) old new size follows.worked.moved.start follows.part
+      (clearing-programs (row_at Two type) 32 id (omega arith) (omega (arith, (row_in_sector type signing).1))) within (inl (omega (arith, (row_in_sector type signing).0)))
+
+  pub cancel-provision : KeepsProvision old new
+  cancel-provision = KeepsProvision-plan (row_at Two type) 32 (cancellation type id) old new size follows.worked.moved.start follows.part (omega (arith, (row_in_sector type signing).0)) within
+
+  pub cancel-store : CancelsAtMost (now old) type id (now new)
+  cancel-store = cancels_at_most type id (now old) (now new) changed may most
+
+  pub cancel-stays : OnOk result (after ≡ with_cancelled fuses type id) → OnErr result (after ≡ fuses) → StaysButRow type (now old) fuses (now new) after
+  cancel-stays ok err = by_result result ok err
+    where
+      by_result : (r : Result (Unit {0}) FlashFail) → OnOk r (after ≡ with_cancelled fuses type id) → OnErr r (after ≡ fuses) → StaysButRow type (now old) fuses (now new) after
+      by_result (Ok u) is none = stays_but type (now old) (now new) fuses after changed
+          (subst (λ (kept : FusesState). SameElse fuses type kept) (sym is) (same_with_row fuses type (with_cleared (row_of fuses type) id) signing))
+      by_result (Err f) none is = stays_but type (now old) (now new) fuses after changed (subst (λ (kept : FusesState). SameElse fuses type kept) (sym is) (same_fuses fuses type))
+
+  pub cancel-ok : RowStands (now old) fuses type → OnOk result (Cancels fuses type id after) → OnOk result (RowStands (now new) after type)
+  cancel-ok stands cancels = by_result result follows cancels
+    where
+      by_result : (r : Result (Unit {0}) FlashFail) → Follows (cancellation type id) old new r → OnOk r (Cancels fuses type id after) → OnOk r (RowStands (now new) after type)
+      by_result (Ok u) h c = row_stands_cancelled type id (now old) (now new) fuses after changed may
+          (subst (λ (image : List ℕ). IsCleared (bytes_at image (row_at Two type) 32) id) (sym (Follows-now (cancellation type id) old new u h)) (IsCleared-program (now old) (row_at Two type) 32 id (omega arith) fits))
+          c stands
+      by_result (Err f) h c = tt
+
+  pub cancel-done : OnOk result (IsCancelled (now new) type id)
+  cancel-done = by_result result follows
+    where
+      by_result : (r : Result (Unit {0}) FlashFail) → Follows (cancellation type id) old new r → OnOk r (IsCancelled (now new) type id)
+      by_result (Ok u) h =
+          let bit : IsBit (now new) (row_at Two type) 32 id = record {
+            within = omega arith;
+            cleared = subst (λ (image : List ℕ). IsCleared (bytes_at image (row_at Two type) 32) id) (sym (Follows-now (cancellation type id) old new u h)) (IsCleared-program (now old) (row_at Two type) 32 id (omega arith) fits);
+          } in
+          record { signing = signing; bit = (row_bit-two (now new) type id (new_two type (now old) (now new) changed)).1 bit }
+      by_result (Err f) h = tt

@@ -1,0 +1,61 @@
+-- What a plan that clears one fuse leaves.
+use Rattle.std.proofs.Common.{◌≡◌, ℕ, ◌+◌, ◌*◌, ◌/◌, ◌≤◌, ◌<◌, List, [], ◌∷◌, length, sym, subst, arith}
+use Rattle.std.specs.Prelude.{◌↔◌, ◌≢◌}
+use Rattle.pfr_flash.specs.FuseRow.{MayClear, fuse_byte}
+use Rattle.pfr_flash.specs.Operation.{Operation, Program, applied, play}
+use Rattle.pfr_flash.specs.Plan.{IsPart}
+use Rattle.pfr_flash.specs.Range.{AllWithin}
+use Rattle.pfr_flash.proofs.FuseLemmas.{MayClear-program, MayClear-torn}
+use Rattle.pfr_flash.specs.declared.names.Bank.{Bank}
+use Rattle.pfr_flash.specs.declared.names.ContentType.{ContentType}
+use Rattle.pfr_fuses.specs.FuseMap.{IsBit, IsFloorBit, IsCancelBit, profile_of, floor_at, floor_width, row_at, row_width}
+use Rattle.pfr_fuses.specs.Changes.{clearing}
+use Rattle.pfr_fuses.specs.declared.profile.Profile.{Profile}
+use Rattle.pfr_fuses.specs.declared.profile.Profile.TheVariants.{Two}
+use Rattle.pfr_fuses.proofs.GrowthLemmas.{AllPrograms, part_step, part_end}
+
+pub clearing-within : (at width bit : ℕ) → bit < 8 * width → AllWithin at width (clearing at bit)
+clearing-within at width bit h = (record { low = omega arith; high = omega arith }, tt)
+
+pub clearing-programs : (at width bit : ℕ) → bit < 8 * width → at + width ≤ 32768 → AllPrograms 32768 (clearing at bit)
+clearing-programs at width bit h fits = (omega arith, tt)
+
+pub MayClear-refl : (at width bit : ℕ) (image : List ℕ) → MayClear at width bit image image
+MayClear-refl at width bit image = record { stays = λ k below other. (λ z. z, λ z. z); keeps = λ z. z }
+
+-- however it ends, no other fuse of the row changes
+pub clearing-part : (image : List ℕ) (at width bit : ℕ) (added : List Operation) → bit < 8 * width → at + width ≤ length image → IsPart image (clearing at bit) added
+    → MayClear at width bit image (play image added)
+clearing-part image at width bit added inside fits h =
+    part_step (λ (after : List ℕ). MayClear at width bit image after) image (Program (at + bit / 8) (fuse_byte bit ∷ [])) [] added h (MayClear-refl at width bit image)
+    (λ done t. MayClear-torn image at width bit done inside fits t)
+    (λ ops q. part_end (λ (after : List ℕ). MayClear at width bit image after) (applied image (Program (at + bit / 8) (fuse_byte bit ∷ []))) ops q (MayClear-program image at width bit inside fits))
+
+-- ---- the bits of a store of profile 2
+pub floor_bit-two : (nv : List ℕ) (bank : Bank) (k : ℕ) → profile_of nv ≡ Two → (IsFloorBit nv bank k ↔ IsBit nv (floor_at Two bank) 16 k)
+floor_bit-two nv bank k two = subst (λ (p : Profile). (IsBit nv (floor_at p bank) (floor_width p) k ↔ IsBit nv (floor_at Two bank) 16 k)) (sym two) (λ b. b, λ b. b)
+
+pub row_bit-two : (nv : List ℕ) (type : ContentType) (k : ℕ) → profile_of nv ≡ Two → (IsBit nv (row_at (profile_of nv) type) (row_width (profile_of nv)) k ↔ IsBit nv (row_at Two type) 32 k)
+row_bit-two nv type k two = subst (λ (p : Profile). (IsBit nv (row_at p type) (row_width p) k ↔ IsBit nv (row_at Two type) 32 k)) (sym two) (λ b. b, λ b. b)
+
+may_bit : (old new : List ℕ) (at width bit k : ℕ) → MayClear at width bit old new → k ≢ bit → (IsBit new at width k ↔ IsBit old at width k)
+may_bit old new at width bit k h other = (
+  λ (b : IsBit new at width k). record { within = b.within; cleared = (h.stays k b.within other).0 b.cleared },
+  λ (b : IsBit old at width k). record { within = b.within; cleared = (h.stays k b.within other).1 b.cleared },
+)
+
+pub floor_bit-stays : (old new : List ℕ) (bank : Bank) (bit k : ℕ) → profile_of old ≡ Two → profile_of new ≡ Two → MayClear (floor_at Two bank) 16 bit old new → k ≢ bit
+    → (IsFloorBit new bank k ↔ IsFloorBit old bank k)
+floor_bit-stays old new bank bit k o n h other =
+    let a = floor_bit-two old bank k o in
+    let b = floor_bit-two new bank k n in
+    let m = may_bit old new (floor_at Two bank) 16 bit k h other in
+    (λ (x : IsFloorBit new bank k). a.1 (m.0 (b.0 x)), λ (x : IsFloorBit old bank k). b.1 (m.1 (a.0 x)))
+
+pub row_bit-stays : (old new : List ℕ) (type : ContentType) (bit k : ℕ) → profile_of old ≡ Two → profile_of new ≡ Two → MayClear (row_at Two type) 32 bit old new → k ≢ bit
+    → (IsCancelBit new type k ↔ IsCancelBit old type k)
+row_bit-stays old new type bit k o n h other =
+    let a = row_bit-two old type k o in
+    let b = row_bit-two new type k n in
+    let m = may_bit old new (row_at Two type) 32 bit k h other in
+    (λ (x : IsCancelBit new type k). record { signing = x.signing; bit = a.1 (m.0 (b.0 x.bit)) }, λ (x : IsCancelBit old type k). record { signing = x.signing; bit = b.1 (m.1 (a.0 x.bit)) })

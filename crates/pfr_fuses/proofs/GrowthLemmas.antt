@@ -1,0 +1,197 @@
+-- Fuses at each count of operations.
+use Rattle.std.proofs.Common.{◌≡◌, ℕ, zero, suc, ◌+◌, ◌-◌, ◌*◌, ◌≤◌, ◌<◌, List, [], ◌∷◌, length, take, get_or, refl, sym, ap, ◌∙◌, subst, arith, ◌⊎◌, inl, inr}
+use Rattle.std.proofs.lemmas.Bool.{cases_lt}
+use Rattle.std.proofs.lemmas.List.{append-nil}
+use Rattle.pfr_flash.specs.Operation.{Operation, Erase, Program, Torn, applied, play, IsTorn}
+use Rattle.pfr_flash.specs.FlashState.{FlashState, now, upto, size_of, op_count_of}
+use Rattle.pfr_flash.specs.Moved.{Extends}
+use Rattle.pfr_flash.specs.Plan.{IsPart, DoesPart}
+use Rattle.pfr_flash.specs.Range.{IsWithin, AllWithin, SameOutside, OnlyClears}
+use Rattle.pfr_flash.proofs.PlayLemmas.{length-applied, length-play}
+use Rattle.pfr_flash.proofs.PlanLemmas.{AllWithin-part}
+use Rattle.pfr_flash.proofs.FuseLemmas.{IsCleared-stays}
+use Rattle.pfr_flash.proofs.RangeLemmas.{SameOutside-play, bytes_at-outside, length-now, OnlyClears-refl, OnlyClears-program, OnlyClears-torn, then_clears}
+use Rattle.pfr_flash.proofs.StateLemmas.{upto-added, upto-Extends, IsPart-take}
+use Rattle.pfr_fuses.specs.Slots.{IsSet, IsProvisionedBy, slot_at}
+use Rattle.pfr_fuses.specs.FuseMap.{IsBit, profile_of, floor_at, floor_width, row_at, row_width}
+use Rattle.pfr_fuses.specs.Growth.{Grows, NeverGoesBack, KeepsProvision, AllAre, Adds}
+use Rattle.pfr_fuses.specs.declared.profile.Profile.{Profile}
+
+-- ---- a part of a plan, an operation at a time
+pub part_step : (P : List ℕ → Type 0) (image : List ℕ) (op : Operation) (plan added : List Operation) → IsPart image (op ∷ plan) added → P image
+    → ((done : Operation) → IsTorn image op done → P (applied image done)) → ((ops : List Operation) → IsPart (applied image op) plan ops → P (play (applied image op) ops))
+    → P (play image added)
+part_step P image op plan [] h none torn rest = none
+part_step P image op plan (done ∷ ops) h none torn rest = by_part h
+  where
+    by_part : (((done ≡ op) × IsPart (applied image op) plan ops) ⊎ (IsTorn image op done × (ops ≡ []))) → P (play (applied image done) ops)
+    by_part (inl whole) = subst (λ (o : Operation). P (play (applied image o) ops)) (sym whole.0) (rest ops whole.1)
+    by_part (inr t) = subst (λ (o : List Operation). P (play (applied image done) o)) (sym t.1) (torn done t.0)
+
+-- nothing is part of an empty plan but nothing
+pub part_end : (P : List ℕ → Type 0) (image : List ℕ) (added : List Operation) → IsPart image [] added → P image → P (play image added)
+part_end P image [] h p = p
+part_end P image (op ∷ ops) h p = absurd h
+
+-- what holds after each part of a plan holds at each count
+pub at_each : (P : List ℕ → Type 0) (plan : List Operation) (old new : FlashState) → new.start ≡ old.start → DoesPart plan old new
+    → ((added : List Operation) → IsPart (now old) plan added → P (play (now old) added)) → (n : ℕ) → op_count_of old ≤ n → P (upto new n)
+at_each P plan old new start h each n le =
+    let more : op_count_of old + (n - op_count_of old) ≡ n = omega arith in
+    let image : upto new (op_count_of old + (n - op_count_of old)) ≡ play (now old) (take (n - op_count_of old) h.added) = upto-added old new h.added (n - op_count_of old) start h.is in
+    subst (λ (k : ℕ). P (upto new k)) more
+    (subst P (sym image) (each (take (n - op_count_of old) h.added) (IsPart-take (now old) plan h.added (n - op_count_of old) h.part)))
+
+-- ---- plans that only program
+abbrev pub IsProgram : ℕ → Operation → Type 0
+IsProgram size (Erase sector) = ⊥
+IsProgram size (Program at bytes) = at + length bytes ≤ size
+IsProgram size (Torn at after) = ⊥
+
+abbrev pub AllPrograms : ℕ → List Operation → Type 0
+AllPrograms size [] = Unit {0}
+AllPrograms size (op ∷ ops) = IsProgram size op × AllPrograms size ops
+
+program_clears : (image : List ℕ) (op : Operation) → IsProgram (length image) op → OnlyClears image (applied image op)
+program_clears image (Erase sector) h = absurd h
+program_clears image (Program at bytes) h = OnlyClears-program image at bytes h
+program_clears image (Torn at after) h = absurd h
+
+torn_clears : (image : List ℕ) (op done : Operation) → IsProgram (length image) op → IsTorn image op done → OnlyClears image (applied image done)
+torn_clears image (Erase sector) done h t = absurd h
+torn_clears image (Program at bytes) done h t = OnlyClears-torn image at bytes done t
+torn_clears image (Torn at after) done h t = absurd h
+
+pub part_clears : (size : ℕ) (image : List ℕ) (plan added : List Operation) → length image ≡ size → AllPrograms size plan → IsPart image plan added → OnlyClears image (play image added)
+part_clears size image [] added e h p = part_end (λ (after : List ℕ). OnlyClears image after) image added p (OnlyClears-refl image)
+part_clears size image (op ∷ plan) added e h p =
+    let fits : IsProgram (length image) op = subst (λ (n : ℕ). IsProgram n op) (sym e) h.0 in
+    part_step (λ (after : List ℕ). OnlyClears image after) image op plan added p (OnlyClears-refl image) (λ done t. torn_clears image op done fits t)
+    (λ ops q. then_clears (program_clears image op fits) (part_clears size (applied image op) plan ops (length-applied image op ∙ e) h.1 q))
+
+take_nil : (j : ℕ) → take {A = Operation} j [] ≡ []
+take_nil zero = refl
+take_nil (suc j) = refl
+
+clears_nothing : (image : List ℕ) (ops : List Operation) (i j : ℕ) → ops ≡ [] → OnlyClears (play image (take i ops)) (play image (take j ops))
+clears_nothing image ops i j e =
+    let a : take i ops ≡ [] = ap (λ (o : List Operation). take i o) e ∙ take_nil i in
+    let b : take j ops ≡ [] = ap (λ (o : List Operation). take j o) e ∙ take_nil j in
+    rw (a, b) (OnlyClears-refl image)
+
+-- between any two moments of such a plan bits are only cleared
+pub clears_between : (size : ℕ) (image : List ℕ) (plan added : List Operation) (i j : ℕ) → length image ≡ size → AllPrograms size plan → IsPart image plan added → i ≤ j
+    → OnlyClears (play image (take i added)) (play image (take j added))
+clears_between size image plan added zero j e h p le = part_clears size image plan (take j added) e h (IsPart-take image plan added j p)
+clears_between size image plan added (suc i) zero e h p le = absurd (omega arith)
+clears_between size image plan [] (suc i) (suc j) e h p le = OnlyClears-refl image
+clears_between size image [] (op ∷ ops) (suc i) (suc j) e h p le = absurd p
+clears_between size image (next ∷ plan) (op ∷ ops) (suc i) (suc j) e h p le =
+    by_part (λ q. clears_between size (applied image next) plan ops i j (length-applied image next ∙ e) h.1 q (omega arith)) p
+  where
+    by_part : (IsPart (applied image next) plan ops → OnlyClears (play (applied image next) (take i ops)) (play (applied image next) (take j ops)))
+        → (((op ≡ next) × IsPart (applied image next) plan ops) ⊎ (IsTorn image next op × (ops ≡ [])))
+        → OnlyClears (play (applied image op) (take i ops)) (play (applied image op) (take j ops))
+    by_part later (inl whole) = subst (λ (o : Operation). OnlyClears (play (applied image o) (take i ops)) (play (applied image o) (take j ops))) (sym whole.0) (later whole.1)
+    by_part later (inr torn) = clears_nothing (applied image op) ops i j torn.1
+
+-- ---- the profile
+pub profile_of-gate : (old new : List ℕ) → get_or new 0xA00 0 ≡ get_or old 0xA00 0 → profile_of new ≡ profile_of old
+unfolding profile_of
+profile_of-gate old new h = rw h refl
+
+pub profile-outside : (from len : ℕ) (old new : List ℕ) → ((0xA00 < from) ⊎ (from + len ≤ 0xA00)) → SameOutside from len old new → profile_of new ≡ profile_of old
+profile-outside from len old new apart same = profile_of-gate old new (same.stays 0xA00 apart)
+
+-- ---- fuses that are only cleared
+grown_bit : (old new : List ℕ) (at width k : ℕ) → OnlyClears old new → IsBit old at width k → IsBit new at width k
+grown_bit old new at width k clears b = record { within = b.within; cleared = IsCleared-stays old new at width k clears b.within b.cleared }
+
+pub Grows-clears : (old new : List ℕ) → profile_of new ≡ profile_of old → OnlyClears old new → Grows old new
+Grows-clears old new same clears = record {
+  floors = λ bank k b.
+      subst (λ (p : Profile). IsBit new (floor_at p bank) (floor_width p) k) (sym same) (grown_bit old new (floor_at (profile_of old) bank) (floor_width (profile_of old)) k clears b);
+  cancels = λ type id c. record {
+    signing = c.signing;
+    bit = subst (λ (p : Profile). IsBit new (row_at p type) (row_width p) id) (sym same) (grown_bit old new (row_at (profile_of old) type) (row_width (profile_of old)) id clears c.bit);
+  };
+}
+
+pub then_grows : (a b c : List ℕ) → Grows a b → Grows b c → Grows a c
+then_grows a b c h k = record { floors = λ bank n x. k.floors bank n (h.floors bank n x); cancels = λ type n x. k.cancels type n (h.cancels type n x) }
+
+-- ---- calls
+-- a call that programs outside of the profile gate never goes back
+pub NeverGoesBack-programs : (from len : ℕ) (plan : List Operation) (old new : FlashState) → size_of old ≡ 32768 → new.start ≡ old.start → DoesPart plan old new
+    → AllPrograms 32768 plan → AllWithin from len plan → ((0xA00 < from) ⊎ (from + len ≤ 0xA00)) → NeverGoesBack old new
+NeverGoesBack-programs from len plan old new size start h programs within apart = record { grows = between }
+  where
+    same_profile : (n : ℕ) → op_count_of old ≤ n → profile_of (upto new n) ≡ profile_of (now old)
+    same_profile n le = at_each (λ (image : List ℕ). profile_of image ≡ profile_of (now old)) plan old new start h
+        (λ added part. profile-outside from len (now old) (play (now old) added) apart (SameOutside-play from len (now old) added (AllWithin-part from len (now old) plan added within part))) n le
+
+    at_place : (n : ℕ) → op_count_of old ≤ n → upto new n ≡ play (now old) (take (n - op_count_of old) h.added)
+    at_place n le =
+        let more : op_count_of old + (n - op_count_of old) ≡ n = omega arith in
+        subst (λ (k : ℕ). upto new k ≡ play (now old) (take (n - op_count_of old) h.added)) more (upto-added old new h.added (n - op_count_of old) start h.is)
+
+    between : (m n : ℕ) → op_count_of old ≤ m → m ≤ n → n ≤ op_count_of new → Grows (upto new m) (upto new n)
+    between m n low order high =
+        let above : op_count_of old ≤ n = omega arith in
+        let steps : m - op_count_of old ≤ n - op_count_of old = omega arith in
+        let clears : OnlyClears (play (now old) (take (m - op_count_of old) h.added)) (play (now old) (take (n - op_count_of old) h.added)) =
+        clears_between 32768 (now old) plan h.added (m - op_count_of old) (n - op_count_of old) (length-now old ∙ size) programs h.part steps in
+        Grows-clears (upto new m) (upto new n) (same_profile n above ∙ sym (same_profile m low))
+        (subst (λ (a : List ℕ). OnlyClears a (upto new n)) (sym (at_place m low))
+        (subst (λ (b : List ℕ). OnlyClears (play (now old) (take (m - op_count_of old) h.added)) b) (sym (at_place n above)) clears))
+
+-- nor does one that does no operation
+pub NeverGoesBack-none : (old new : FlashState) → size_of old ≡ 32768 → new.start ≡ old.start → new.ops ≡ old.ops → NeverGoesBack old new
+NeverGoesBack-none old new size start ops =
+    NeverGoesBack-programs 0 0 [] old new size start (record { added = []; is = ops ∙ sym (append-nil old.ops); part = tt }) tt tt (inr (omega arith))
+
+-- two calls, or runs of calls, in a row
+pub NeverGoesBack-trans : (a b c : FlashState) → c.start ≡ b.start → Extends b.ops c.ops → NeverGoesBack a b → NeverGoesBack b c → NeverGoesBack a c
+NeverGoesBack-trans a b c start more h k = record { grows = λ m n low order high. by_place m n low order high (cases_lt (op_count_of b) m) (cases_lt n (op_count_of b)) }
+  where
+    in_first : (n : ℕ) → n ≤ op_count_of b → upto c n ≡ upto b n
+    in_first n le = upto-Extends b c n start more le
+
+    by_place : (m n : ℕ) → op_count_of a ≤ m → m ≤ n → n ≤ op_count_of c → ((op_count_of b < m) ⊎ (m ≤ op_count_of b)) → ((n < op_count_of b) ⊎ (op_count_of b ≤ n)) → Grows (upto c m) (upto c n)
+    by_place m n low order high (inl later) q = k.grows m n (omega arith) order high
+    by_place m n low order high (inr first) (inl early) = rw (in_first m first, in_first n (omega arith)) (h.grows m n low order (omega arith))
+    by_place m n low order high (inr first) (inr late) =
+        then_grows (upto c m) (upto c (op_count_of b)) (upto c n)
+        (rw (in_first m first, in_first (op_count_of b) (omega arith)) (h.grows m (op_count_of b) low first (omega arith)))
+        (k.grows (op_count_of b) n (omega arith) late high)
+
+-- ---- the provision
+pub IsProvisionedBy-same : (old new : List ℕ) (number : ℕ) → ((k : ℕ) → k < 8 → slot_at new k ≡ slot_at old k) → IsProvisionedBy old number → IsProvisionedBy new number
+IsProvisionedBy-same old new number same h = record {
+  within = h.within;
+  gate = subst IsSet (sym (same number h.within)) h.gate;
+  first = λ k below. λ (set : IsSet (slot_at new k)). h.first k below (subst IsSet (same k (omega (arith, h.within))) set);
+}
+
+-- bytes behind the slots are none of theirs
+pub slots-outside : (from len : ℕ) (old new : List ℕ) → 2048 ≤ from → length old ≡ 32768 → length new ≡ length old → SameOutside from len old new → (k : ℕ) → k < 8 → slot_at new k ≡ slot_at old k
+slots-outside from len old new low whole size same k below = bytes_at-outside from len old new (256 * k) 256 same size (inl (omega arith)) (omega arith)
+
+pub KeepsProvision-plan : (from len : ℕ) (plan : List Operation) (old new : FlashState) → size_of old ≡ 32768 → new.start ≡ old.start → DoesPart plan old new → 2048 ≤ from
+    → AllWithin from len plan → KeepsProvision old new
+KeepsProvision-plan from len plan old new size start h low within = record {
+  keeps = λ n number le high by.
+      at_each (λ (image : List ℕ). IsProvisionedBy image number × (slot_at image number ≡ slot_at (now old) number)) plan old new start h
+      (λ added part.
+      let same : SameOutside from len (now old) (play (now old) added) = SameOutside-play from len (now old) added (AllWithin-part from len (now old) plan added within part) in
+      let slots = slots-outside from len (now old) (play (now old) added) low (length-now old ∙ size) (length-play (now old) added) same in
+      (IsProvisionedBy-same (now old) (play (now old) added) number slots by, slots number by.within)) n le;
+}
+
+-- ---- the operations that are added
+pub AllAre-within : (from len : ℕ) (ops : List Operation) → AllWithin from len ops → AllAre (λ op. IsWithin from len op) ops
+AllAre-within from len [] h = tt
+AllAre-within from len (op ∷ ops) h = (h.0, AllAre-within from len ops h.1)
+
+pub Adds-within : (from len : ℕ) (plan : List Operation) (old new : FlashState) → AllWithin from len plan → DoesPart plan old new → Adds (λ op. IsWithin from len op) old new
+Adds-within from len plan old new within h = record { added = h.added; is = h.is; all = AllAre-within from len h.added (AllWithin-part from len (now old) plan h.added within h.part) }

@@ -1,0 +1,413 @@
+-- What a provision leaves, whole or cut short.
+use Rattle.std.proofs.Common.{◌≡◌, ℕ, ◌+◌, ◌-◌, ◌*◌, ◌≤◌, ◌<◌, true, false, List, [], ◌∷◌, length, get_or, Result, Ok, Err, OnOk, IfErr, refl, sym, ap, ◌∙◌, subst, arith, bit_and, ◌⊎◌, inl, inr}
+use Rattle.std.specs.Prelude.{◌≢◌}
+use Rattle.std.specs.Int.Bits.{and_zero_r}
+use Rattle.std.proofs.lemmas.Bool.{cases_Bool, cases_eq, cases_lt}
+use Rattle.std.proofs.lemmas.Bool.Decides.{not_from_Decides}
+use Rattle.std.proofs.lemmas.List.{ext_get_or, append-nil}
+use Rattle.pfr_flash.specs.Bytes.{bytes_at, written, and_bytes}
+use Rattle.pfr_flash.specs.FlashState.{FlashState, now, size_of}
+use Rattle.pfr_flash.specs.Moved.{Worked}
+use Rattle.pfr_flash.specs.Operation.{Operation, Program, applied, play}
+use Rattle.pfr_flash.specs.Plan.{IsPart, DoesPart, Follows}
+use Rattle.pfr_flash.specs.Range.{IsWithin, AllWithin, SameOutside}
+use Rattle.pfr_flash.specs.Reading.{OnlyReads}
+use Rattle.pfr_flash.specs.declared.names.Bank.{Bank}
+use Rattle.pfr_flash.specs.declared.names.Bank.TheVariants.{Bmc, Pch}
+use Rattle.pfr_flash.specs.declared.names.ContentType.{ContentType}
+use Rattle.pfr_flash.specs.declared.names.ContentType.TheVariants.{PchManifest, PchCapsule, BmcManifest, BmcCapsule}
+use Rattle.pfr_flash.specs.declared.flash.FlashFail.{FlashFail}
+use Rattle.pfr_flash.proofs.BytesLemmas.{length-bytes_at, get_or-bytes_at, bytes_at-written, and_bytes-ones, get_or-written_inside}
+use Rattle.pfr_flash.proofs.FollowsLemmas.{FailsWorking-reading, Follows-reads, Follows-then, Follows-first, Follows-now, DoesPart-now}
+use Rattle.pfr_flash.proofs.FuseLemmas.{applied-byte}
+use Rattle.pfr_flash.proofs.PlayLemmas.{length-applied}
+use Rattle.pfr_flash.proofs.PlanLemmas.{DoesPart-outside}
+use Rattle.pfr_flash.proofs.RangeLemmas.{SameOutside-applied, SameOutside-torn, SameOutside-refl, SameOutside-wider, then_outside, bytes_at-outside, length-now}
+use Rattle.pfr_fuses.specs.Answer.{Refuses}
+use Rattle.pfr_fuses.specs.RootSlot.{IsSlot, slot_of, slot_bytes, provision_in}
+use Rattle.pfr_fuses.specs.Slots.{IsSet, IsBlank, IsProvisionedBy, IsUnset, slot_at, is_blank}
+use Rattle.pfr_fuses.specs.FuseMap.{IsSigning, profile_of, floor_at, row_at}
+use Rattle.pfr_fuses.specs.Growth.{NeverGoesBack, KeepsProvision, Adds}
+use Rattle.pfr_fuses.specs.Provisioning.{CanProvision, IsBarred, FollowsAs, IsFirstBlank, IsProvisionable, IsProvisionedWith, IsUsedUp, KeepsFuses, ProvisionFails, Provisions, judge_provision, provision_plan}
+use Rattle.pfr_fuses.specs.declared.root_slot.RootSlot.{RootSlot}
+use Rattle.pfr_fuses.specs.declared.fuse_fail.FuseFail.{FuseFail}
+use Rattle.pfr_fuses.specs.declared.fuse_fail.FuseFail.TheVariants.{NotProvisioned, SlotsSpent, AlreadyProvisioned, LayoutBad, Flash}
+use Rattle.pfr_fuses.specs.declared.profile.Profile.{Profile}
+use Rattle.pfr_fuses.specs.declared.profile.Profile.TheVariants.{One, Two}
+use Rattle.pfr_fuses.proofs.BlankLemmas.{judged-ok, judged-err, provisionable-judged}
+use Rattle.pfr_fuses.proofs.GrowthLemmas.{AllPrograms, part_step, part_end, profile-outside, NeverGoesBack-programs, KeepsProvision-plan, Adds-within}
+use Rattle.pfr_fuses.proofs.RootSlotLemmas.{length-slot, slot_of-bytes}
+use Rattle.pfr_fuses.proofs.SlotLemmas.{Decides-is_blank}
+use Rattle.pfr_fuses.proofs.StaysLemmas.{AreOutside, floor_bits-outside, row_bits-outside}
+
+-- ---- the answer, by its parts
+abbrev refused : {A : Type 0} → FuseFail → Result A FuseFail
+refused cause = Err cause
+
+same_cause : (other cause : FuseFail) → refused {A = ℕ} other ≡ refused cause → refused {A = Unit {0}} other ≡ refused cause
+same_cause other cause h = let e : other ≡ cause = cc in ap (λ (c : FuseFail). refused {A = Unit {0}} c) e
+
+-- the store was only read, and a cause was found or a read failed
+pub provisions-refused : (what : RootSlot) (old new : FlashState) (cause : FuseFail) (judged : Result ℕ FuseFail) → Refuses old new cause judged → OnlyReads old new → Provisions what old new (Err cause) judged
+provisions-refused what old new (Flash f) (Ok number) h reads =
+    let none : Follows {A = Unit {0}} [] old new (Err f) = Follows-reads old new (Err f) reads h in
+    Follows-first [] (provision_plan number what) old new f none
+provisions-refused what old new (Flash f) (Err other) h reads = (h, reads)
+provisions-refused what old new NotProvisioned (Ok number) h reads = absurd cc
+provisions-refused what old new NotProvisioned (Err other) h reads = (same_cause other NotProvisioned h, reads)
+provisions-refused what old new SlotsSpent (Ok number) h reads = absurd cc
+provisions-refused what old new SlotsSpent (Err other) h reads = (same_cause other SlotsSpent h, reads)
+provisions-refused what old new AlreadyProvisioned (Ok number) h reads = absurd cc
+provisions-refused what old new AlreadyProvisioned (Err other) h reads = (same_cause other AlreadyProvisioned h, reads)
+provisions-refused what old new (LayoutBad bank rule) (Ok number) h reads = absurd cc
+provisions-refused what old new (LayoutBad bank rule) (Err other) h reads = (same_cause other (LayoutBad bank rule) h, reads)
+
+read_first : {A : Type 0} (plan : List Operation) (old middle new : FlashState) (result : Result A FlashFail) → OnlyReads old middle → Follows plan middle new result → Follows plan old new result
+read_first plan old middle new result reads h =
+    let none : Follows {A = Unit {0}} [] old middle (Ok (tt {0})) = Follows-reads {A = Unit {0}} old middle (Ok (tt {0})) reads (tt {0}) in
+    Follows-then [] plan old middle new (tt {0}) result none h
+
+-- the slot was programmed, or a program failed
+pub provisions-done : (what : RootSlot) (old middle new : FlashState) (number : ℕ) (u : Unit {0}) (judged : Result ℕ FuseFail) → judged ≡ Ok number → OnlyReads old middle
+    → Follows (provision_plan number what) middle new (Ok u) → Provisions what old new (Ok tt) judged
+provisions-done what old middle new number u judged is reads h = rw is (read_first (provision_plan number what) old middle new (Ok u) reads h)
+
+pub provisions-failed : (what : RootSlot) (old middle new : FlashState) (number : ℕ) (f : FlashFail) (judged : Result ℕ FuseFail) → judged ≡ Ok number → OnlyReads old middle
+    → Follows {A = Unit {0}} (provision_plan number what) middle new (Err f) → Provisions what old new (Err (Flash f)) judged
+provisions-failed what old middle new number f judged is reads h = rw is (read_first (provision_plan number what) old middle new (Err f) reads h)
+
+-- ---- the slot
+record Along (nv : List ℕ) (what : RootSlot) (number : ℕ) (image : List ℕ) : Type 0 where
+  outside : SameOutside (256 * number) 256 nv image
+  size : length image ≡ length nv
+  written : (get_or image (256 * number + 255) 0 ≡ 255) ⊎ (bytes_at image (256 * number) 72 ≡ slot_bytes what)
+
+plan-within : (what : RootSlot) (number : ℕ) → IsSlot what → AllWithin (256 * number) 256 (provision_plan number what)
+plan-within what number slot = (record { low = omega arith; high = omega (arith, length-slot what slot) }, (record { low = omega arith; high = omega arith }, tt))
+
+plan-slots : (what : RootSlot) (number : ℕ) → IsSlot what → number < 8 → AllWithin 0 2048 (provision_plan number what)
+plan-slots what number slot within = (record { low = omega arith; high = omega (arith, length-slot what slot) }, (record { low = omega arith; high = omega arith }, tt))
+
+plan-programs : (what : RootSlot) (number : ℕ) → IsSlot what → number < 8 → AllPrograms 32768 (provision_plan number what)
+plan-programs what number slot within = (omega (arith, length-slot what slot), (omega arith, tt))
+
+blank_byte : (nv : List ℕ) (number i : ℕ) → length nv ≡ 32768 → number < 8 → IsBlank (slot_at nv number) → i < 256 → get_or nv (256 * number + i) 0 ≡ 255
+blank_byte nv number i size within blank below =
+    let len : length (slot_at nv number) ≡ 256 = length-bytes_at nv (256 * number) 256 (omega arith) in
+    sym (get_or-bytes_at nv (256 * number) 256 i 0 below) ∙ blank i 0 (omega arith)
+
+module _ (nv : List ℕ) (what : RootSlot) (number : ℕ) (size : length nv ≡ 32768) (within : number < 8) (slot : IsSlot what) (blank : IsBlank (slot_at nv number)) where
+  len : length (slot_bytes what) ≡ 72
+  len = length-slot what slot
+
+  start : Along nv what number nv
+  start = record { outside = SameOutside-refl (256 * number) 256 nv; size = refl; written = inl (blank_byte nv number 255 size within blank (omega arith)) }
+
+  -- the provision, torn
+  part_written : (image : List ℕ) → length image ≡ length nv → SameOutside (256 * number) (length (slot_bytes what)) nv image → Along nv what number image
+  part_written image same h = record {
+    outside = SameOutside-wider (256 * number) (length (slot_bytes what)) (256 * number) 256 nv image (omega arith) (omega (arith, len)) h;
+    size = same;
+    written = inl (h.stays (256 * number + 255) (inr (omega (arith, len))) ∙ blank_byte nv number 255 size within blank (omega arith));
+  }
+
+  -- the provision, whole
+  whole_bytes : bytes_at (applied nv (Program (256 * number) (slot_bytes what))) (256 * number) 72 ≡ slot_bytes what
+  whole_bytes =
+      let fits : 256 * number + length (slot_bytes what) ≤ length nv = omega (arith, len) in
+      let old = bytes_at nv (256 * number) (length (slot_bytes what)) in
+      let old_len : length old ≡ length (slot_bytes what) = length-bytes_at nv (256 * number) (length (slot_bytes what)) fits in
+      let ones : (i : ℕ) → i < length old → get_or old i 0 ≡ 255 = λ i below.
+      get_or-bytes_at nv (256 * number) (length (slot_bytes what)) i 0 (omega arith) ∙ blank_byte nv number i size within blank (omega (arith, len)) in
+      let same : and_bytes old (slot_bytes what) ≡ slot_bytes what = and_bytes-ones old (slot_bytes what) old_len ones (λ i below. slot.bytes i (omega (arith, len))) in
+      let is : applied nv (Program (256 * number) (slot_bytes what)) ≡ written nv (256 * number) (slot_bytes what) = ap (λ (after : List ℕ). written nv (256 * number) after) same in
+      ap (λ (image : List ℕ). bytes_at image (256 * number) 72) is
+      ∙ subst (λ (n : ℕ). bytes_at (written nv (256 * number) (slot_bytes what)) (256 * number) n ≡ slot_bytes what) len (bytes_at-written nv (256 * number) (slot_bytes what) fits)
+
+  first_size : length (applied nv (Program (256 * number) (slot_bytes what))) ≡ length nv
+  first_size = length-applied nv (Program (256 * number) (slot_bytes what))
+
+  first_outside : SameOutside (256 * number) 256 nv (applied nv (Program (256 * number) (slot_bytes what)))
+  first_outside = SameOutside-wider (256 * number) (length (slot_bytes what)) (256 * number) 256 nv (applied nv (Program (256 * number) (slot_bytes what))) (omega arith) (omega (arith, len))
+      (SameOutside-applied nv (Program (256 * number) (slot_bytes what)))
+
+  first_along : Along nv what number (applied nv (Program (256 * number) (slot_bytes what)))
+  first_along = record { outside = first_outside; size = first_size; written = inr whole_bytes }
+
+  -- the gate, whole or torn
+  gate_along : (image : List ℕ) → length image ≡ length (applied nv (Program (256 * number) (slot_bytes what))) → SameOutside (256 * number + 255) 1 (applied nv (Program (256 * number) (slot_bytes what))) image
+      → Along nv what number image
+  gate_along image same h = record {
+    outside = then_outside first_outside (SameOutside-wider (256 * number + 255) 1 (256 * number) 256 (applied nv (Program (256 * number) (slot_bytes what))) image (omega arith) (omega arith) h);
+    size = same ∙ first_size;
+    written = inr (bytes_at-outside (256 * number + 255) 1 (applied nv (Program (256 * number) (slot_bytes what))) image (256 * number) 72 h same (inl (omega arith)) (omega (arith, first_size)) ∙ whole_bytes);
+  }
+
+  provision-part : (added : List Operation) → IsPart nv (provision_plan number what) added → Along nv what number (play nv added)
+  provision-part added h =
+      part_step (Along nv what number) nv (Program (256 * number) (slot_bytes what)) (Program (256 * number + 255) (0 ∷ []) ∷ []) added h start
+      (λ done t. part_written (applied nv done) (length-applied nv done) (SameOutside-torn nv (Program (256 * number) (slot_bytes what)) done t))
+      (λ ops q. part_step (Along nv what number) (applied nv (Program (256 * number) (slot_bytes what))) (Program (256 * number + 255) (0 ∷ [])) [] ops q first_along
+      (λ done t. gate_along (applied (applied nv (Program (256 * number) (slot_bytes what))) done) (length-applied (applied nv (Program (256 * number) (slot_bytes what))) done)
+      (SameOutside-torn (applied nv (Program (256 * number) (slot_bytes what))) (Program (256 * number + 255) (0 ∷ [])) done t))
+      (λ last r. part_end (Along nv what number) (applied (applied nv (Program (256 * number) (slot_bytes what))) (Program (256 * number + 255) (0 ∷ []))) last r
+      (gate_along (applied (applied nv (Program (256 * number) (slot_bytes what))) (Program (256 * number + 255) (0 ∷ [])))
+      (length-applied (applied nv (Program (256 * number) (slot_bytes what))) (Program (256 * number + 255) (0 ∷ [])))
+      (SameOutside-applied (applied nv (Program (256 * number) (slot_bytes what))) (Program (256 * number + 255) (0 ∷ []))))))
+
+  -- once all is done the gate is set
+  whole_gate : get_or (play nv (provision_plan number what)) (256 * number + 255) 0 ≡ 0
+  whole_gate = gate_is (applied nv (Program (256 * number) (slot_bytes what))) (omega (arith, first_size))
+    where
+      gate_is : (image : List ℕ) → 256 * number + 255 < length image → get_or (applied image (Program (256 * number + 255) (0 ∷ []))) (256 * number + 255) 0 ≡ 0
+      gate_is image below =
+          let place : 256 * number + 255 + 0 ≡ 256 * number + 255 = omega arith in
+          ap (λ (after : List ℕ). get_or after (256 * number + 255) 0) (applied-byte image (256 * number + 255) 0 below)
+          ∙ subst (λ (p : ℕ). get_or (written image (256 * number + 255) (bit_and (get_or image (256 * number + 255) 0) 0 ∷ [])) p 0 ≡ bit_and (get_or image (256 * number + 255) 0) 0) place
+          (get_or-written_inside image (256 * number + 255) (bit_and (get_or image (256 * number + 255) 0) 0 ∷ []) 0 0 (omega arith) (omega arith))
+          ∙ and_zero_r (get_or image (256 * number + 255) 0)
+
+  -- ---- what it means
+  gate_at : (image : List ℕ) → get_or (slot_at image number) 255 0 ≡ get_or image (256 * number + 255) 0
+  gate_at image = get_or-bytes_at image (256 * number) 256 255 0 (omega arith)
+
+  other_slot : (image : List ℕ) → Along nv what number image → (k : ℕ) → k < 8 → k ≢ number → slot_at image k ≡ slot_at nv k
+  other_slot image h k below other = bytes_at-outside (256 * number) 256 nv image (256 * k) 256 h.outside h.size (apart (cases_lt k number)) (omega arith)
+    where
+      apart : ((k < number) ⊎ (number ≤ k)) → AreOutside (256 * number) 256 (256 * k) 256
+      apart (inl less) = inl (omega arith)
+      apart (inr more) = inr (omega (arith, other))
+
+  provisioned_by : (image : List ℕ) → IsUnset nv → Along nv what number image → get_or image (256 * number + 255) 0 ≢ 255 → IsProvisionedBy image number
+  provisioned_by image unset h set = record {
+    within = within;
+    gate = λ (e : get_or (slot_at image number) 255 0 ≡ 255). set (sym (gate_at image) ∙ e);
+    first = λ k below. subst (λ (s : List ℕ). ¬ IsSet s) (sym (other_slot image h k (omega arith) (λ (e : k ≡ number). absurd (omega arith)))) (unset.gates k (omega arith));
+  }
+
+  provisioned_with : (image : List ℕ) → IsUnset nv → Along nv what number image → get_or image (256 * number + 255) 0 ≢ 255 → IsProvisionedWith image what
+  provisioned_with image unset h set = record { number = number; by = provisioned_by image unset h set; provision = says h.written }
+    where
+      says : ((get_or image (256 * number + 255) 0 ≡ 255) ⊎ (bytes_at image (256 * number) 72 ≡ slot_bytes what)) → provision_in (slot_at image number) ≡ what
+      says (inl gate) = absurd (set gate)
+      says (inr bytes) = ap slot_of (front ∙ bytes) ∙ slot_of-bytes what slot
+        where
+          front : bytes_at (slot_at image number) 0 72 ≡ bytes_at image (256 * number) 72
+          front =
+              let fits : 256 * number + 256 ≤ length image = omega (arith, h.size) in
+              let whole : length (slot_at image number) ≡ 256 = length-bytes_at image (256 * number) 256 fits in
+              let a : length (bytes_at (slot_at image number) 0 72) ≡ 72 = length-bytes_at (slot_at image number) 0 72 (omega arith) in
+              let b : length (bytes_at image (256 * number) 72) ≡ 72 = length-bytes_at image (256 * number) 72 (omega arith) in
+              ext_get_or 0 (bytes_at (slot_at image number) 0 72) (bytes_at image (256 * number) 72) (a ∙ sym b) (λ i below.
+              let inside : i < 72 = omega arith in
+              let place : 0 + i ≡ i = omega arith in
+              get_or-bytes_at (slot_at image number) 0 72 i 0 inside
+              ∙ ap (λ (p : ℕ). get_or (slot_at image number) p 0) place
+              ∙ get_or-bytes_at image (256 * number) 256 i 0 (omega arith)
+              ∙ sym (get_or-bytes_at image (256 * number) 72 i 0 inside))
+
+  still_unset : (image : List ℕ) → IsUnset nv → Along nv what number image → get_or image (256 * number + 255) 0 ≡ 255 → IsUnset image
+  still_unset image unset h gate = record { gates = λ k below. by_slot k below (cases_eq k number) }
+    where
+      by_slot : (k : ℕ) → k < 8 → ((k ≡ number) ⊎ (k ≢ number)) → ¬ IsSet (slot_at image k)
+      by_slot k below (inl same) = λ (set : IsSet (slot_at image k)). subst (λ (j : ℕ). IsSet (slot_at image j)) same set (gate_at image ∙ gate)
+      by_slot k below (inr other) = subst (λ (s : List ℕ). ¬ IsSet s) (sym (other_slot image h k below other)) (unset.gates k below)
+
+  as_before : (image : List ℕ) → Along nv what number image → IsBlank (slot_at image number) → image ≡ nv
+  as_before image h still = ext_get_or 0 image nv h.size (λ i below. by_place i (cases_lt i (256 * number)) (cases_lt i (256 * number + 256)))
+    where
+      in_slot : (i : ℕ) → 256 * number ≤ i → i < 256 * number + 256 → get_or image i 0 ≡ get_or nv i 0
+      in_slot i low high =
+          let place : 256 * number + (i - 256 * number) ≡ i = omega arith in
+          let inside : i - 256 * number < 256 = omega arith in
+          subst (λ (p : ℕ). get_or image p 0 ≡ get_or nv p 0) place
+          (blank_byte image number (i - 256 * number) (h.size ∙ size) within still inside ∙ sym (blank_byte nv number (i - 256 * number) size within blank inside))
+
+      by_place : (i : ℕ) → ((i < 256 * number) ⊎ (256 * number ≤ i)) → ((i < 256 * number + 256) ⊎ (256 * number + 256 ≤ i)) → get_or image i 0 ≡ get_or nv i 0
+      by_place i (inl less) q = h.outside.stays i (inl less)
+      by_place i (inr from) (inl to) = in_slot i from to
+      by_place i (inr from) (inr more) = h.outside.stays i (inr more)
+
+  what_is_left : (image : List ℕ) → IsUnset nv → Along nv what number image → IsProvisionedWith image what ⊎ (IsUsedUp nv image ⊎ (image ≡ nv))
+  what_is_left image unset h = by_gate (cases_eq (get_or image (256 * number + 255) 0) 255) (cases_Bool (is_blank (slot_at image number)))
+    where
+      by_gate : ((get_or image (256 * number + 255) 0 ≡ 255) ⊎ (get_or image (256 * number + 255) 0 ≢ 255)) → ((is_blank (slot_at image number) ≡ true) ⊎ (is_blank (slot_at image number) ≡ false))
+          → IsProvisionedWith image what ⊎ (IsUsedUp nv image ⊎ (image ≡ nv))
+      by_gate (inr set) q = inl (provisioned_with image unset h set)
+      by_gate (inl gate) (inl still) = inr (inr (as_before image h ((Decides-is_blank (slot_at image number)).0 still)))
+      by_gate (inl gate) (inr used) = inr (inl (record {
+        unset = still_unset image unset h gate;
+        number = number;
+        within = within;
+        was = blank;
+        used = not_from_Decides (is_blank (slot_at image number)) (Decides-is_blank (slot_at image number)) used;
+        others = λ k below other. other_slot image h k below other;
+      }))
+
+-- ---- the call
+-- what was done, whatever was answered
+record Did (plan : List Operation) (old new : FlashState) : Type 0 where
+  part : DoesPart plan old new
+  worked : Worked old new
+
+follows_did : (plan : List Operation) (old new : FlashState) (result : Result (Unit {0}) FuseFail) → FollowsAs plan old new result → Did plan old new
+follows_did plan old new (Ok u) h = record { part = h.part; worked = h.worked }
+follows_did plan old new (Err (Flash f)) h = record { part = h.part; worked = h.worked }
+follows_did plan old new (Err NotProvisioned) h = absurd h
+follows_did plan old new (Err SlotsSpent) h = absurd h
+follows_did plan old new (Err AlreadyProvisioned) h = absurd h
+follows_did plan old new (Err (LayoutBad bank rule)) h = absurd h
+
+reads_did : (old new : FlashState) → OnlyReads old new → Did [] old new
+reads_did old new h = record { part = record { added = []; is = h.ops ∙ sym (append-nil old.ops); part = tt {0} }; worked = h.worked }
+
+-- it programs in the slots alone
+record DidInSlots (old new : FlashState) : Type 0 where
+  plan : List Operation
+  did : Did plan old new
+  programs : AllPrograms 32768 plan
+  within : AllWithin 0 2048 plan
+
+did_in_slots : (old new : FlashState) (what : RootSlot) (bmc_size pch_size : ℕ) (result : Result (Unit {0}) FuseFail) → IsSlot what → (judged : Result ℕ FuseFail) → judge_provision (now old) what bmc_size pch_size ≡ judged
+    → Provisions what old new result judged → DidInSlots old new
+did_in_slots old new what bmc_size pch_size result slot (Ok number) is h =
+    let can = judged-ok (now old) what bmc_size pch_size number is in record {
+      plan = provision_plan number what;
+      did = follows_did (provision_plan number what) old new result h;
+      programs = plan-programs what number slot can.slot.within;
+      within = plan-slots what number slot can.slot.within;
+    }
+did_in_slots old new what bmc_size pch_size result slot (Err cause) is h = record { plan = []; did = reads_did old new h.1; programs = tt {0}; within = tt {0} }
+
+along_now : (old new : FlashState) (what : RootSlot) (number : ℕ) → size_of old ≡ 32768 → IsSlot what → IsFirstBlank (now old) number → Did (provision_plan number what) old new → Along (now old) what number (now new)
+along_now old new what number size slot first h =
+    subst (Along (now old) what number) (sym (DoesPart-now (provision_plan number what) old new h.worked.moved.start h.part))
+    (provision-part (now old) what number (length-now old ∙ size) first.within slot first.blank h.part.added h.part.part)
+
+gate_set : (old new : FlashState) (what : RootSlot) (number : ℕ) (u : Unit {0}) → size_of old ≡ 32768 → IsSlot what → IsFirstBlank (now old) number → Follows (provision_plan number what) old new (Ok u)
+    → get_or (now new) (256 * number + 255) 0 ≢ 255
+gate_set old new what number u size slot first h e =
+    let zero : get_or (now new) (256 * number + 255) 0 ≡ 0 =
+    ap (λ (image : List ℕ). get_or image (256 * number + 255) 0) (Follows-now (provision_plan number what) old new u h)
+    ∙ whole_gate (now old) what number (length-now old ∙ size) first.within slot first.blank in
+    absurd (omega (arith, zero, e))
+
+provision_ok : (old new : FlashState) (what : RootSlot) (bmc_size pch_size : ℕ) (result : Result (Unit {0}) FuseFail) → size_of old ≡ 32768 → IsSlot what → (judged : Result ℕ FuseFail)
+    → judge_provision (now old) what bmc_size pch_size ≡ judged → Provisions what old new result judged → OnOk result (IsProvisionedWith (now new) what)
+provision_ok old new what bmc_size pch_size (Ok u) size slot (Ok number) is h =
+    let can = judged-ok (now old) what bmc_size pch_size number is in
+    provisioned_with (now old) what number (length-now old ∙ size) can.slot.within slot can.slot.blank (now new) can.unset
+    (along_now old new what number size slot can.slot (record { part = h.part; worked = h.worked })) (gate_set old new what number u size slot can.slot h)
+provision_ok old new what bmc_size pch_size (Ok u) size slot (Err cause) is h = let e = h.0 in absurd cc
+provision_ok old new what bmc_size pch_size (Err cause) size slot judged is h = tt {0}
+
+provision_found : (old new : FlashState) (what : RootSlot) (bmc_size pch_size : ℕ) (result : Result (Unit {0}) FuseFail) → (judged : Result ℕ FuseFail)
+    → judge_provision (now old) what bmc_size pch_size ≡ judged → Provisions what old new result judged → OnOk result (CanProvision (now old) what bmc_size pch_size)
+provision_found old new what bmc_size pch_size (Ok u) (Ok number) is h = (number, judged-ok (now old) what bmc_size pch_size number is)
+provision_found old new what bmc_size pch_size (Ok u) (Err cause) is h = let e = h.0 in absurd cc
+provision_found old new what bmc_size pch_size (Err cause) judged is h = tt {0}
+
+barred : (old new : FlashState) (what : RootSlot) (bmc_size pch_size : ℕ) (cause other : FuseFail) → judge_provision (now old) what bmc_size pch_size ≡ Err other → refused {A = Unit {0}} other ≡ refused cause
+    → IsBarred (now old) what bmc_size pch_size cause
+barred old new what bmc_size pch_size cause other is same =
+    let e : other ≡ cause = cc in judged-err (now old) what bmc_size pch_size cause (is ∙ ap (λ (c : FuseFail). refused {A = ℕ} c) e)
+
+provision_err : (old new : FlashState) (what : RootSlot) (bmc_size pch_size : ℕ) (result : Result (Unit {0}) FuseFail) → size_of old ≡ 32768 → IsSlot what → (judged : Result ℕ FuseFail)
+    → judge_provision (now old) what bmc_size pch_size ≡ judged → Provisions what old new result judged → IfErr result (ProvisionFails old new what bmc_size pch_size)
+provision_err old new what bmc_size pch_size (Ok u) size slot judged is h = tt {0}
+provision_err old new what bmc_size pch_size (Err (Flash f)) size slot (Ok number) is h =
+    let can = judged-ok (now old) what bmc_size pch_size number is in (
+      h.failed,
+      what_is_left (now old) what number (length-now old ∙ size) can.slot.within slot can.slot.blank (now new) can.unset
+          (along_now old new what number size slot can.slot (record { part = h.part; worked = h.worked })),
+    )
+provision_err old new what bmc_size pch_size (Err (Flash f)) size slot (Err other) is h = (FailsWorking-reading f old new h.0, inr (inr h.1.content))
+provision_err old new what bmc_size pch_size (Err NotProvisioned) size slot (Ok number) is h = absurd h
+provision_err old new what bmc_size pch_size (Err NotProvisioned) size slot (Err other) is h = (barred old new what bmc_size pch_size NotProvisioned other is h.0, h.1.content)
+provision_err old new what bmc_size pch_size (Err SlotsSpent) size slot (Ok number) is h = absurd h
+provision_err old new what bmc_size pch_size (Err SlotsSpent) size slot (Err other) is h = (barred old new what bmc_size pch_size SlotsSpent other is h.0, h.1.content)
+provision_err old new what bmc_size pch_size (Err AlreadyProvisioned) size slot (Ok number) is h = absurd h
+provision_err old new what bmc_size pch_size (Err AlreadyProvisioned) size slot (Err other) is h = (barred old new what bmc_size pch_size AlreadyProvisioned other is h.0, h.1.content)
+provision_err old new what bmc_size pch_size (Err (LayoutBad bank rule)) size slot (Ok number) is h = absurd h
+provision_err old new what bmc_size pch_size (Err (LayoutBad bank rule)) size slot (Err other) is h = (barred old new what bmc_size pch_size (LayoutBad bank rule) other is h.0, h.1.content)
+
+provision_keeps : (old new : FlashState) (what : RootSlot) (bmc_size pch_size : ℕ) (result : Result (Unit {0}) FuseFail) → size_of old ≡ 32768 → (judged : Result ℕ FuseFail)
+    → judge_provision (now old) what bmc_size pch_size ≡ judged → Provisions what old new result judged → KeepsProvision old new
+provision_keeps old new what bmc_size pch_size result size (Ok number) is h = record { keeps = λ n other low high by. absurd ((judged-ok (now old) what bmc_size pch_size number is).unset.gates other by.within by.gate) }
+provision_keeps old new what bmc_size pch_size result size (Err cause) is h =
+    let did = reads_did old new h.1 in KeepsProvision-plan 2048 0 [] old new size did.worked.moved.start did.part (omega arith) (tt {0})
+
+slot_set : (old new : FlashState) (what : RootSlot) (number : ℕ) (result : Result (Unit {0}) FuseFail) → size_of old ≡ 32768 → IsSlot what → IsUnset (now old) → IsFirstBlank (now old) number
+    → FollowsAs (provision_plan number what) old new result → OnOk result (IsProvisionedBy (now new) number)
+slot_set old new what number (Ok u) size slot unset first h =
+    provisioned_by (now old) what number (length-now old ∙ size) first.within slot first.blank (now new) unset
+    (along_now old new what number size slot first (record { part = h.part; worked = h.worked })) (gate_set old new what number u size slot first h)
+slot_set old new what number (Err cause) size slot unset first h = tt {0}
+
+fuses_behind : (profile : Profile) (bank : Bank) → 2048 ≤ floor_at profile bank
+fuses_behind One Bmc = omega arith
+fuses_behind One Pch = omega arith
+fuses_behind Two Bmc = omega arith
+fuses_behind Two Pch = omega arith
+
+rows_behind : (profile : Profile) (type : ContentType) → IsSigning type → 2048 ≤ row_at profile type
+rows_behind One PchManifest s = omega arith
+rows_behind One PchCapsule s = omega arith
+rows_behind One BmcManifest s = omega arith
+rows_behind One BmcCapsule s = omega arith
+rows_behind One type s = absurd s
+rows_behind Two PchManifest s = omega arith
+rows_behind Two PchCapsule s = omega arith
+rows_behind Two BmcManifest s = omega arith
+rows_behind Two BmcCapsule s = omega arith
+rows_behind Two type s = absurd s
+
+pub KeepsFuses-slots : (old new : List ℕ) → length old ≡ 32768 → length new ≡ length old → SameOutside 0 2048 old new → KeepsFuses old new
+KeepsFuses-slots old new size same_size outside =
+    let profile : profile_of new ≡ profile_of old = profile-outside 0 2048 old new (inr (omega arith)) outside in record {
+      profile = profile;
+      floors = λ bank k. floor_bits-outside 0 2048 old new bank size same_size profile (inr (fuses_behind (profile_of old) bank)) outside k;
+      cancels = λ type k. row_bits-outside 0 2048 old new type size same_size profile (λ signing. inr (rows_behind (profile_of old) type signing)) outside k;
+    }
+
+module _ (old new : FlashState) (what : RootSlot) (bmc_size pch_size : ℕ) (result : Result (Unit {0}) FuseFail) (size : size_of old ≡ 32768) (slot : IsSlot what)
+    (exact : Provisions what old new result (judge_provision (now old) what bmc_size pch_size)) where
+  in_slots : DidInSlots old new
+  in_slots = did_in_slots old new what bmc_size pch_size result slot (judge_provision (now old) what bmc_size pch_size) refl exact
+
+  pub provision-ok : OnOk result (IsProvisionedWith (now new) what)
+  provision-ok = provision_ok old new what bmc_size pch_size result size slot (judge_provision (now old) what bmc_size pch_size) refl exact
+
+  pub provision-found : OnOk result (CanProvision (now old) what bmc_size pch_size)
+  provision-found = provision_found old new what bmc_size pch_size result (judge_provision (now old) what bmc_size pch_size) refl exact
+
+  pub provision-err : IfErr result (ProvisionFails old new what bmc_size pch_size)
+  provision-err = provision_err old new what bmc_size pch_size result size slot (judge_provision (now old) what bmc_size pch_size) refl exact
+
+  pub provision-slot : (number : ℕ) → IsProvisionable (now old) what bmc_size pch_size number
+      → FollowsAs (provision_plan number what) old new result × OnOk result (IsProvisionedBy (now new) number) × Adds (IsWithin (256 * number) 256) old new
+  provision-slot number can =
+      let follows : FollowsAs (provision_plan number what) old new result =
+      subst (λ (judged : Result ℕ FuseFail). Provisions what old new result judged) (provisionable-judged (now old) what bmc_size pch_size number can) exact in (
+        follows,
+        slot_set old new what number result size slot can.unset can.slot follows,
+        Adds-within (256 * number) 256 (provision_plan number what) old new (plan-within what number slot) (follows_did (provision_plan number what) old new result follows).part,
+      )
+
+  pub provision-within : Adds (IsWithin 0 2048) old new
+  provision-within = Adds-within 0 2048 in_slots.plan old new in_slots.within in_slots.did.part
+
+  pub provision-outside : SameOutside 0 2048 (now old) (now new)
+  provision-outside = DoesPart-outside 0 2048 in_slots.plan old new in_slots.within in_slots.did.worked.moved.start in_slots.did.part
+
+  pub provision-fuses : KeepsFuses (now old) (now new)
+  provision-fuses = KeepsFuses-slots (now old) (now new) (length-now old ∙ size) (length-now new ∙ ap length in_slots.did.worked.moved.start ∙ sym (length-now old)) provision-outside
+
+  pub provision-grows : NeverGoesBack old new
+  provision-grows = NeverGoesBack-programs 0 2048 in_slots.plan old new size in_slots.did.worked.moved.start in_slots.did.part in_slots.programs in_slots.within (inr (omega arith))
+
+  pub provision-keeps : KeepsProvision old new
+  provision-keeps = provision_keeps old new what bmc_size pch_size result size (judge_provision (now old) what bmc_size pch_size) refl exact
+
+  pub provision-worked : Worked old new
+  provision-worked = in_slots.did.worked

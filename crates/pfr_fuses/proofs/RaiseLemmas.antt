@@ -1,0 +1,296 @@
+-- What raising a floor leaves.
+use Rattle.std.proofs.Common.{◌≡◌, ℕ, ◌+◌, ◌-◌, ◌≤◌, ◌<◌, max, true, false, List, [], length, Result, Ok, Err, OnOk, OnErr, refl, sym, ap, ◌∙◌, subst, arith, ◌⊎◌, inl, inr}
+use Rattle.std.specs.Prelude.{◌↔◌, ◌≢◌, nat_le}
+use Rattle.std.proofs.lemmas.Bool.{cases_Bool, cases_eq, cases_lt}
+use Rattle.std.proofs.lemmas.Bool.Decides.{nat_tests}
+use Rattle.pfr_flash.specs.Bytes.{bytes_at}
+use Rattle.pfr_flash.specs.FlashState.{FlashState, now, size_of}
+use Rattle.pfr_flash.specs.FuseRow.{IsCleared, IsHighest, MayClear, fuse_at, with_cleared}
+use Rattle.pfr_flash.specs.Operation.{Operation, play}
+use Rattle.pfr_flash.specs.Plan.{IsPart, Follows}
+use Rattle.pfr_flash.specs.Range.{AllWithin, IsWithin, SameOutside}
+use Rattle.pfr_flash.specs.declared.names.Bank.{Bank}
+use Rattle.pfr_flash.specs.declared.names.Bank.TheVariants.{Bmc, Pch}
+use Rattle.pfr_flash.specs.declared.names.ContentType.{ContentType}
+use Rattle.pfr_flash.specs.declared.names.ContentType.TheVariants.{PchManifest, PchCapsule, BmcManifest, BmcCapsule}
+use Rattle.pfr_flash.specs.declared.flash.FlashFail.{FlashFail}
+use Rattle.pfr_flash.proofs.FollowsLemmas.{Follows-now, Follows-outside, DoesPart-now}
+use Rattle.pfr_flash.proofs.FuseLemmas.{IsCleared-program}
+use Rattle.pfr_flash.proofs.RangeLemmas.{length-now}
+use Rattle.pfr_fuses.specs.FuseMap.{IsBit, IsFloorBit, IsFloor, profile_of, floor_at}
+use Rattle.pfr_fuses.specs.FusesState.{FusesState, floor_row, row_of, floor_of}
+use Rattle.pfr_fuses.specs.FusesOf.{FloorStands}
+use Rattle.pfr_fuses.specs.Changes.{Raises, StaysButFloor, clearing, raise_plan, raised, with_floor}
+use Rattle.pfr_fuses.specs.Growth.{NeverGoesBack, KeepsProvision, Adds}
+use Rattle.pfr_fuses.specs.declared.profile.Profile.TheVariants.{Two}
+use Rattle.pfr_fuses.proofs.ClearingLemmas.{clearing-within, clearing-programs, clearing-part, MayClear-refl, floor_bit-two, floor_bit-stays}
+use Rattle.pfr_fuses.proofs.FloorLemmas.{floor_in-above, floor_in-highest}
+use Rattle.pfr_fuses.proofs.GrowthLemmas.{AllPrograms, part_end, profile-outside, NeverGoesBack-programs, KeepsProvision-plan, Adds-within, slots-outside}
+use Rattle.pfr_fuses.proofs.KeptLemmas.{raise_plan-none}
+use Rattle.pfr_fuses.proofs.StandsLemmas.{kept_floor}
+use Rattle.pfr_fuses.proofs.StaysLemmas.{floors_apart, row_behind_floors, floor_in_sector, floor_bits-outside, row_bits-outside, FloorStands-same, RowStands-same}
+
+-- ---- the plan
+-- a floor is raised or left
+pub raise_cases : (P : List Operation → Type 0) (floor : ℕ) (bank : Bank) (to : ℕ) → (to ≤ floor → P []) → (floor < to → P (clearing (floor_at Two bank) (to - 1))) → P (raise_plan floor bank to)
+raise_cases P floor bank to none some = by_test (cases_Bool (nat_le to floor))
+  where
+    by_test : ((nat_le to floor ≡ true) ⊎ (nat_le to floor ≡ false)) → P (raise_plan floor bank to)
+    by_test (inl low) = let le : to ≤ floor = grind (arith, nat_tests) in rw low (none le)
+    by_test (inr high) = let lt : floor < to = grind (arith, nat_tests) in rw high (some lt)
+
+pub raise-within : (floor : ℕ) (bank : Bank) (to : ℕ) → to ≤ 127 → AllWithin (floor_at Two bank) 16 (raise_plan floor bank to)
+raise-within floor bank to most = raise_cases (λ plan. AllWithin (floor_at Two bank) 16 plan) floor bank to (λ le. tt) (λ lt. clearing-within (floor_at Two bank) 16 (to - 1) (omega arith))
+
+pub raise-programs : (floor : ℕ) (bank : Bank) (to : ℕ) → to ≤ 127 → AllPrograms 32768 (raise_plan floor bank to)
+raise-programs floor bank to most =
+    raise_cases (λ plan. AllPrograms 32768 plan) floor bank to (λ le. tt) (λ lt. clearing-programs (floor_at Two bank) 16 (to - 1) (omega arith) (omega (arith, (floor_in_sector bank).1)))
+
+raise-part : (image : List ℕ) (floor : ℕ) (bank : Bank) (to : ℕ) (added : List Operation) → length image ≡ 32768 → to ≤ 127 → IsPart image (raise_plan floor bank to) added
+    → MayClear (floor_at Two bank) 16 (to - 1) image (play image added)
+raise-part image floor bank to added size most =
+    raise_cases (λ plan. IsPart image plan added → MayClear (floor_at Two bank) 16 (to - 1) image (play image added)) floor bank to
+    (λ le h. part_end (λ (after : List ℕ). MayClear (floor_at Two bank) 16 (to - 1) image after) image added h (MayClear-refl (floor_at Two bank) 16 (to - 1) image))
+    (λ lt h. clearing-part image (floor_at Two bank) 16 (to - 1) added (omega arith) (omega (arith, (floor_in_sector bank).1)) h)
+
+raise-whole : (image : List ℕ) (floor : ℕ) (bank : Bank) (to : ℕ) → length image ≡ 32768 → to ≤ 127 → floor < to
+    → IsCleared (bytes_at (play image (raise_plan floor bank to)) (floor_at Two bank) 16) (to - 1)
+raise-whole image floor bank to size most =
+    raise_cases (λ plan. floor < to → IsCleared (bytes_at (play image plan) (floor_at Two bank) 16) (to - 1)) floor bank to
+    (λ le lt. absurd (omega arith))
+    (λ lt above. IsCleared-program image (floor_at Two bank) 16 (to - 1) (omega arith) (omega (arith, (floor_in_sector bank).1)))
+
+-- ---- what is kept
+pub raised_cases : (P : FusesState → Type 0) (fuses : FusesState) (bank : Bank) (to : ℕ) → (to ≤ floor_of fuses bank → P fuses)
+    → (floor_of fuses bank < to → P (with_floor fuses bank (with_cleared (floor_row fuses bank) (to - 1)))) → P (raised fuses bank to)
+raised_cases P fuses bank to none some = by_test (cases_Bool (nat_le to (floor_of fuses bank)))
+  where
+    by_test : ((nat_le to (floor_of fuses bank) ≡ true) ⊎ (nat_le to (floor_of fuses bank) ≡ false)) → P (raised fuses bank to)
+    by_test (inl low) = let le : to ≤ floor_of fuses bank = grind (arith, nat_tests) in rw low (none le)
+    by_test (inr high) = let lt : floor_of fuses bank < to = grind (arith, nat_tests) in rw high (some lt)
+
+record SameElse (fuses : FusesState) (bank : Bank) (after : FusesState) : Type 0 where
+  floors : (other : Bank) → other ≢ bank → floor_row after other ≡ floor_row fuses other
+  rows : (type : ContentType) → row_of after type ≡ row_of fuses type
+  provision : after.provision ≡ fuses.provision
+  profile : after.profile ≡ fuses.profile
+
+same_fuses : (fuses : FusesState) (bank : Bank) → SameElse fuses bank fuses
+same_fuses fuses bank = record { floors = λ other ne. refl; rows = λ type. refl; provision = refl; profile = refl }
+
+other_floor : (fuses : FusesState) (bank other : Bank) (row : List ℕ) → other ≢ bank → floor_row (with_floor fuses bank row) other ≡ floor_row fuses other
+other_floor fuses Bmc Bmc row ne = absurd (ne refl)
+other_floor fuses Bmc Pch row ne = refl
+other_floor fuses Pch Bmc row ne = refl
+other_floor fuses Pch Pch row ne = absurd (ne refl)
+
+same_row : (fuses : FusesState) (bank : Bank) (row : List ℕ) (type : ContentType) → row_of (with_floor fuses bank row) type ≡ row_of fuses type
+same_row fuses Bmc row PchManifest = refl
+same_row fuses Bmc row PchCapsule = refl
+same_row fuses Bmc row BmcManifest = refl
+same_row fuses Bmc row BmcCapsule = refl
+same_row fuses Bmc row type = refl
+same_row fuses Pch row PchManifest = refl
+same_row fuses Pch row PchCapsule = refl
+same_row fuses Pch row BmcManifest = refl
+same_row fuses Pch row BmcCapsule = refl
+same_row fuses Pch row type = refl
+
+same_with_floor : (fuses : FusesState) (bank : Bank) (row : List ℕ) → SameElse fuses bank (with_floor fuses bank row)
+same_with_floor fuses Bmc row = record { floors = λ other ne. other_floor fuses Bmc other row ne; rows = λ type. same_row fuses Bmc row type; provision = refl; profile = refl }
+same_with_floor fuses Pch row = record { floors = λ other ne. other_floor fuses Pch other row ne; rows = λ type. same_row fuses Pch row type; provision = refl; profile = refl }
+
+same_raised : (fuses : FusesState) (bank : Bank) (to : ℕ) → SameElse fuses bank (raised fuses bank to)
+same_raised fuses bank to = raised_cases (λ after. SameElse fuses bank after) fuses bank to (λ le. same_fuses fuses bank) (λ lt. same_with_floor fuses bank (with_cleared (floor_row fuses bank) (to - 1)))
+
+-- ---- one store and the next
+record Changed (bank : Bank) (old new : List ℕ) : Type 0 where
+  size : length old ≡ 32768
+  same_size : length new ≡ length old
+  two : profile_of old ≡ Two
+  outside : SameOutside (floor_at Two bank) 16 old new
+
+new_profile : (bank : Bank) (old new : List ℕ) → Changed bank old new → profile_of new ≡ profile_of old
+new_profile bank old new h = profile-outside (floor_at Two bank) 16 old new (inl (omega (arith, (floor_in_sector bank).0))) h.outside
+
+new_two : (bank : Bank) (old new : List ℕ) → Changed bank old new → profile_of new ≡ Two
+new_two bank old new h = new_profile bank old new h ∙ h.two
+
+stays_but : (bank : Bank) (old new : List ℕ) (fuses after : FusesState) → Changed bank old new → SameElse fuses bank after → StaysButFloor bank old fuses new after
+stays_but bank old new fuses after h same = record {
+  floors = λ other ne stands. FloorStands-same old new fuses after other (same.floors other ne)
+      (floor_bits-outside (floor_at Two bank) 16 old new other h.size h.same_size (new_profile bank old new h) (rw h.two (floors_apart bank other ne)) h.outside) stands;
+  rows = λ type stands. RowStands-same old new fuses after type (same.rows type)
+      (row_bits-outside (floor_at Two bank) 16 old new type h.size h.same_size (new_profile bank old new h) (λ signing. rw h.two (inr (row_behind_floors bank type signing))) h.outside) stands;
+  store = record {
+    slots = slots-outside (floor_at Two bank) 16 old new (omega (arith, (floor_in_sector bank).0)) h.size h.same_size h.outside;
+    profile = new_profile bank old new h;
+  };
+  provision = same.provision;
+  profile = same.profile;
+}
+
+-- ---- the floor
+floor_stands_raised : (bank : Bank) (to : ℕ) (old new : List ℕ) (fuses after : FusesState) → Changed bank old new → MayClear (floor_at Two bank) 16 (to - 1) old new
+    → IsCleared (bytes_at new (floor_at Two bank) 16) (to - 1) → to ≤ 127 → floor_of fuses bank < to → Raises fuses bank to after → FloorStands old fuses bank → FloorStands new after bank
+floor_stands_raised bank to old new fuses after h may cleared most above raises stands = record { fuses_same = λ k below. by_fuse k below (cases_eq k (to - 1)) }
+  where
+    by_fuse : (k : ℕ) → k < 128 → ((k ≡ to - 1) ⊎ (k ≢ to - 1)) → (IsCleared (floor_row after bank) k ↔ IsFloorBit new bank k)
+    by_fuse k below (inl same) =
+        let kept : IsCleared (floor_row after bank) k = (raises.fuses above k below).1 (inr (omega arith)) in
+        let stored : IsFloorBit new bank k = (floor_bit-two new bank k (new_two bank old new h)).1 (record { within = below; cleared = rw same cleared }) in
+        (λ z. stored, λ b. kept)
+    by_fuse k below (inr other) =
+        let bits = floor_bit-stays old new bank (to - 1) k h.two (new_two bank old new h) may other in
+        let not_it : k + 1 ≢ to = λ (e : k + 1 ≡ to). other (omega arith) in
+        (λ z. bits.1 ((stands.fuses_same k below).0 (forget k not_it ((raises.fuses above k below).0 z))), λ b. (raises.fuses above k below).1 (inl ((stands.fuses_same k below).1 (bits.0 b))))
+      where
+        forget : (k : ℕ) → k + 1 ≢ to → (IsCleared (floor_row fuses bank) k ⊎ (k + 1 ≡ to)) → IsCleared (floor_row fuses bank) k
+        forget k ne (inl z) = z
+        forget k ne (inr e) = absurd (ne e)
+
+floor_left : (bank : Bank) (to : ℕ) (old new : List ℕ) (floor : ℕ) → Changed bank old new → MayClear (floor_at Two bank) 16 (to - 1) old new → to ≤ 127 → floor < to
+    → IsFloor old bank floor → IsFloor new bank floor ⊎ IsFloor new bank to
+floor_left bank to old new floor h may most above was = by_fuse (cases_eq (fuse_at (bytes_at new (floor_at Two bank) 16) (to - 1)) 0)
+  where
+    two_old : (k : ℕ) → (IsFloorBit old bank k ↔ IsBit old (floor_at Two bank) 16 k)
+    two_old k = floor_bit-two old bank k h.two
+
+    two_new : (k : ℕ) → (IsFloorBit new bank k ↔ IsBit new (floor_at Two bank) 16 k)
+    two_new k = floor_bit-two new bank k (new_two bank old new h)
+
+    others : (k : ℕ) → k ≢ to - 1 → (IsFloorBit new bank k ↔ IsFloorBit old bank k)
+    others k ne = floor_bit-stays old new bank (to - 1) k h.two (new_two bank old new h) may ne
+
+    below_to : (k : ℕ) → IsFloorBit new bank k → ((k ≡ to - 1) ⊎ (k ≢ to - 1)) → k < to
+    below_to k b (inl same) = omega arith
+    below_to k b (inr other) = omega (arith, was.above k ((others k other).0 b))
+
+    not_here : fuse_at (bytes_at new (floor_at Two bank) 16) (to - 1) ≢ 0 → (k : ℕ) → IsFloorBit new bank k → k ≢ to - 1
+    not_here set k b same = set (subst (λ (j : ℕ). IsCleared (bytes_at new (floor_at Two bank) 16) j) same ((two_new k).0 b).cleared)
+
+    was_not : fuse_at (bytes_at new (floor_at Two bank) 16) (to - 1) ≢ 0 → (k : ℕ) → IsFloorBit old bank k → k ≢ to - 1
+    was_not set k b same = set (may.keeps (subst (λ (j : ℕ). IsCleared (bytes_at old (floor_at Two bank) 16) j) same ((two_old k).0 b).cleared))
+
+    by_fuse : ((fuse_at (bytes_at new (floor_at Two bank) 16) (to - 1) ≡ 0) ⊎ (fuse_at (bytes_at new (floor_at Two bank) 16) (to - 1) ≢ 0)) → IsFloor new bank floor ⊎ IsFloor new bank to
+    by_fuse (inl cleared) = inr (record {
+      above = λ k b. below_to k b (cases_eq k (to - 1));
+      highest = λ k e. let same : to - 1 ≡ k = omega arith in subst (λ (j : ℕ). IsFloorBit new bank j) same ((two_new (to - 1)).1 (record { within = omega arith; cleared = cleared }));
+    })
+    by_fuse (inr set) = inl (record {
+      above = λ k b. was.above k ((others k (not_here set k b)).0 b);
+      highest = λ k e. let bit : IsFloorBit old bank k = was.highest k e in (others k (was_not set k bit)).1 bit;
+    })
+
+-- the floor is the greater of the two
+raised_floor : (fuses after : FusesState) (bank : Bank) (to : ℕ) → to ≤ 127 → floor_of fuses bank < to → Raises fuses bank to after → to ≡ floor_of after bank
+raised_floor fuses after bank to most above raises =
+    let bit : IsHighest 128 (floor_row after bank) (to - 1) = record {
+      within = omega arith;
+      cleared = (raises.fuses above (to - 1) (omega arith)).1 (inr (omega arith));
+      above = λ j more below z. too_high j more ((raises.fuses above j below).0 z) below;
+    } in
+    let is : to - 1 + 1 ≡ floor_of after bank = floor_in-highest 128 (floor_row after bank) (to - 1) bit in
+    omega (arith, is)
+  where
+    too_high : (j : ℕ) → to - 1 < j → (IsCleared (floor_row fuses bank) j ⊎ (j + 1 ≡ to)) → j < 128 → ⊥
+    too_high j more (inl z) below = let under : j < floor_of fuses bank = floor_in-above 128 (floor_row fuses bank) j below z in omega (arith, under)
+    too_high j more (inr e) below = omega arith
+
+-- ---- the call
+module _ (bank : Bank) (to : ℕ) (old new : FlashState) (fuses after : FusesState) (result : Result (Unit {0}) FlashFail) (size : size_of old ≡ 32768) (two : profile_of (now old) ≡ Two) (most : to ≤ 127)
+    (follows : Follows (raise_plan (floor_of fuses bank) bank to) old new result) where
+  changed : Changed bank (now old) (now new)
+  changed = record {
+    size = length-now old ∙ size;
+    same_size = length-now new ∙ ap length follows.worked.moved.start ∙ sym (length-now old);
+    two = two;
+    outside = Follows-outside (floor_at Two bank) 16 (raise_plan (floor_of fuses bank) bank to) old new result (raise-within (floor_of fuses bank) bank to most) follows;
+  }
+
+  may : MayClear (floor_at Two bank) 16 (to - 1) (now old) (now new)
+  may = subst (λ (image : List ℕ). MayClear (floor_at Two bank) 16 (to - 1) (now old) image)
+      (sym (DoesPart-now (raise_plan (floor_of fuses bank) bank to) old new follows.worked.moved.start follows.part))
+      (raise-part (now old) (floor_of fuses bank) bank to follows.part.added (length-now old ∙ size) most follows.part.part)
+
+  pub raise-outside : SameOutside (floor_at Two bank) 16 (now old) (now new)
+  raise-outside = changed.outside
+
+  pub raise-adds : Adds (λ op. IsWithin (floor_at Two bank) 16 op) old new
+  raise-adds = Adds-within (floor_at Two bank) 16 (raise_plan (floor_of fuses bank) bank to) old new (raise-within (floor_of fuses bank) bank to most) follows.part
+
+  pub raise-grows : NeverGoesBack old new
+  raise-grows = NeverGoesBack-programs (floor_at Two bank) 16 (raise_plan (floor_of fuses bank) bank to) old new size follows.worked.moved.start follows.part
+      (raise-programs (floor_of fuses bank) bank to most) (raise-within (floor_of fuses bank) bank to most) (inl (omega (arith, (floor_in_sector bank).0)))
+
+  pub raise-provision : KeepsProvision old new
+  raise-provision = KeepsProvision-plan (floor_at Two bank) 16 (raise_plan (floor_of fuses bank) bank to) old new size follows.worked.moved.start follows.part
+      (omega (arith, (floor_in_sector bank).0)) (raise-within (floor_of fuses bank) bank to most)
+
+  stays_kept : after ≡ fuses → StaysButFloor bank (now old) fuses (now new) after
+  stays_kept e = stays_but bank (now old) (now new) fuses after changed (subst (λ (kept : FusesState). SameElse fuses bank kept) (sym e) (same_fuses fuses bank))
+
+  stays_raised : after ≡ raised fuses bank to → StaysButFloor bank (now old) fuses (now new) after
+  stays_raised e = stays_but bank (now old) (now new) fuses after changed (subst (λ (kept : FusesState). SameElse fuses bank kept) (sym e) (same_raised fuses bank to))
+
+  pub raise-stays : OnOk result (after ≡ raised fuses bank to) → OnErr result (after ≡ fuses) → StaysButFloor bank (now old) fuses (now new) after
+  raise-stays ok err = by_result result ok err
+    where
+      by_result : (r : Result (Unit {0}) FlashFail) → OnOk r (after ≡ raised fuses bank to) → OnErr r (after ≡ fuses) → StaysButFloor bank (now old) fuses (now new) after
+      by_result (Ok u) is none = stays_raised is
+      by_result (Err f) none is = stays_kept is
+
+  done_now : OnOk result (now new ≡ play (now old) (raise_plan (floor_of fuses bank) bank to))
+  done_now = by_result result follows
+    where
+      by_result : (r : Result (Unit {0}) FlashFail) → Follows (raise_plan (floor_of fuses bank) bank to) old new r → OnOk r (now new ≡ play (now old) (raise_plan (floor_of fuses bank) bank to))
+      by_result (Ok u) h = Follows-now (raise_plan (floor_of fuses bank) bank to) old new u h
+      by_result (Err f) h = tt
+
+  kept_same : to ≤ floor_of fuses bank → after ≡ raised fuses bank to → after ≡ fuses
+  kept_same le e = e ∙ raised_cases (λ kept. kept ≡ fuses) fuses bank to (λ low. refl) (λ high. absurd (omega (arith, le, high)))
+
+  now_same : to ≤ floor_of fuses bank → now new ≡ play (now old) (raise_plan (floor_of fuses bank) bank to) → now new ≡ now old
+  now_same le e = e ∙ ap (λ (plan : List Operation). play (now old) plan) (raise_plan-none (floor_of fuses bank) bank to le)
+
+  stands_done : FloorStands (now old) fuses bank → now new ≡ play (now old) (raise_plan (floor_of fuses bank) bank to) → after ≡ raised fuses bank to → Raises fuses bank to after
+      → ((floor_of fuses bank < to) ⊎ (to ≤ floor_of fuses bank)) → FloorStands (now new) after bank
+  stands_done stands is kept raises (inl above) =
+      floor_stands_raised bank to (now old) (now new) fuses after changed may
+      (subst (λ (image : List ℕ). IsCleared (bytes_at image (floor_at Two bank) 16) (to - 1)) (sym is) (raise-whole (now old) (floor_of fuses bank) bank to (length-now old ∙ size) most above))
+      most above raises stands
+  stands_done stands is kept raises (inr low) =
+      subst (λ (image : List ℕ). FloorStands image after bank) (sym (now_same low is)) (subst (λ (k : FusesState). FloorStands (now old) k bank) (sym (kept_same low kept)) stands)
+
+  pub raise-ok : FloorStands (now old) fuses bank → OnOk result (after ≡ raised fuses bank to) → OnOk result (Raises fuses bank to after) → OnOk result (FloorStands (now new) after bank)
+  raise-ok stands ok raises = by_result result done_now ok raises
+    where
+      by_result : (r : Result (Unit {0}) FlashFail) → OnOk r (now new ≡ play (now old) (raise_plan (floor_of fuses bank) bank to)) → OnOk r (after ≡ raised fuses bank to) → OnOk r (Raises fuses bank to after)
+          → OnOk r (FloorStands (now new) after bank)
+      by_result (Ok u) is kept h = stands_done stands is kept h (cases_lt (floor_of fuses bank) to)
+      by_result (Err f) is kept h = tt
+
+  floor_done : after ≡ raised fuses bank to → Raises fuses bank to after → ((floor_of fuses bank < to) ⊎ (to ≤ floor_of fuses bank)) → floor_of after bank ≡ max (floor_of fuses bank) to
+  floor_done kept raises (inl above) = let is : to ≡ floor_of after bank = raised_floor fuses after bank to most above raises in omega (arith, is, above)
+  floor_done kept raises (inr low) = let is : floor_of after bank ≡ floor_of fuses bank = ap (λ (k : FusesState). floor_of k bank) (kept_same low kept) in omega (arith, is, low)
+
+  pub raise-floor : OnOk result (after ≡ raised fuses bank to) → OnOk result (Raises fuses bank to after) → OnOk result (floor_of after bank ≡ max (floor_of fuses bank) to)
+  raise-floor ok raises = by_result result ok raises
+    where
+      by_result : (r : Result (Unit {0}) FlashFail) → OnOk r (after ≡ raised fuses bank to) → OnOk r (Raises fuses bank to after) → OnOk r (floor_of after bank ≡ max (floor_of fuses bank) to)
+      by_result (Ok u) kept h = floor_done kept h (cases_lt (floor_of fuses bank) to)
+      by_result (Err f) kept h = tt
+
+  floor_after : IsFloor (now old) bank (floor_of fuses bank) → ((floor_of fuses bank < to) ⊎ (to ≤ floor_of fuses bank)) → IsFloor (now new) bank (floor_of fuses bank) ⊎ IsFloor (now new) bank to
+  floor_after was (inl above) = floor_left bank to (now old) (now new) (floor_of fuses bank) changed may most above was
+  floor_after was (inr low) =
+      inl (subst (λ (image : List ℕ). IsFloor image bank (floor_of fuses bank)) (sym (DoesPart-now (raise_plan (floor_of fuses bank) bank to) old new follows.worked.moved.start follows.part))
+      (part_end (λ (image : List ℕ). IsFloor image bank (floor_of fuses bank)) (now old) follows.part.added
+      (subst (λ (plan : List Operation). IsPart (now old) plan follows.part.added) (raise_plan-none (floor_of fuses bank) bank to low) follows.part.part) was))
+
+  pub raise-err : FloorStands (now old) fuses bank → OnErr result (IsFloor (now new) bank (floor_of fuses bank) ⊎ IsFloor (now new) bank to)
+  raise-err stands = by_result result
+    where
+      by_result : (r : Result (Unit {0}) FlashFail) → OnErr r (IsFloor (now new) bank (floor_of fuses bank) ⊎ IsFloor (now new) bank to)
+      by_result (Ok u) = tt
+      by_result (Err f) = floor_after (kept_floor (now old) fuses bank stands) (cases_lt (floor_of fuses bank) to)

@@ -1,0 +1,137 @@
+-- What stands for a store stands for one that is changed elsewhere.
+use Rattle.std.proofs.Common.{◌≡◌, ℕ, ◌+◌, ◌≤◌, List, length, refl, sym, subst, arith, ◌⊎◌, inl, inr}
+use Rattle.std.specs.Prelude.{◌↔◌, ◌≢◌}
+use Rattle.pfr_flash.specs.Bytes.{bytes_at}
+use Rattle.pfr_flash.specs.FuseRow.{IsCleared}
+use Rattle.pfr_flash.specs.Range.{SameOutside}
+use Rattle.pfr_flash.specs.declared.names.Bank.{Bank}
+use Rattle.pfr_flash.specs.declared.names.Bank.TheVariants.{Bmc, Pch}
+use Rattle.pfr_flash.specs.declared.names.ContentType.{ContentType}
+use Rattle.pfr_flash.specs.declared.names.ContentType.TheVariants.{PchManifest, PchCapsule, BmcManifest, BmcCapsule}
+use Rattle.pfr_flash.proofs.RangeLemmas.{bytes_at-outside}
+use Rattle.pfr_fuses.specs.FuseMap.{IsSigning, IsBit, IsFloorBit, IsCancelBit, profile_of, floor_at, floor_width, row_at, row_width}
+use Rattle.pfr_fuses.specs.FusesState.{FusesState, floor_row, row_of}
+use Rattle.pfr_fuses.specs.FusesOf.{FloorStands, RowStands}
+use Rattle.pfr_fuses.specs.declared.profile.Profile.{Profile}
+use Rattle.pfr_fuses.specs.declared.profile.Profile.TheVariants.{Two}
+use Rattle.pfr_fuses.proofs.StandsLemmas.{floor_fits, row_fits}
+
+-- so many bytes at a place lie outside of others
+abbrev pub AreOutside : ℕ → ℕ → ℕ → ℕ → Type 0
+AreOutside from len at count = (at + count ≤ from) ⊎ (from + len ≤ at)
+
+-- ---- bits
+abbrev SameBit : List ℕ → List ℕ → ℕ → ℕ → ℕ → Type 0
+SameBit old new at width k = IsBit new at width k ↔ IsBit old at width k
+
+same_bit : (old new : List ℕ) (at width k : ℕ) → bytes_at new at width ≡ bytes_at old at width → SameBit old new at width k
+same_bit old new at width k e = (
+  λ (b : IsBit new at width k). record { within = b.within; cleared = subst (λ (row : List ℕ). IsCleared row k) e b.cleared },
+  λ (b : IsBit old at width k). record { within = b.within; cleared = subst (λ (row : List ℕ). IsCleared row k) (sym e) b.cleared },
+)
+
+-- the bits of a bank's floor are those of the bytes where it lies
+pub floor_bits-same : (old new : List ℕ) (bank : Bank) → profile_of new ≡ profile_of old
+    → bytes_at new (floor_at (profile_of old) bank) (floor_width (profile_of old)) ≡ bytes_at old (floor_at (profile_of old) bank) (floor_width (profile_of old))
+    → (k : ℕ) → (IsFloorBit new bank k ↔ IsFloorBit old bank k)
+floor_bits-same old new bank same e k =
+    subst (λ (p : Profile). (IsBit new (floor_at p bank) (floor_width p) k ↔ IsFloorBit old bank k)) (sym same)
+    (same_bit old new (floor_at (profile_of old) bank) (floor_width (profile_of old)) k e)
+
+pub row_bits-same : (old new : List ℕ) (type : ContentType) → profile_of new ≡ profile_of old
+    → (IsSigning type → bytes_at new (row_at (profile_of old) type) (row_width (profile_of old)) ≡ bytes_at old (row_at (profile_of old) type) (row_width (profile_of old)))
+    → (k : ℕ) → (IsCancelBit new type k ↔ IsCancelBit old type k)
+row_bits-same old new type same e k = (
+  λ (c : IsCancelBit new type k). record {
+    signing = c.signing;
+    bit = (same_bit old new (row_at (profile_of old) type) (row_width (profile_of old)) k (e c.signing)).0 (subst (λ (p : Profile). IsBit new (row_at p type) (row_width p) k) same c.bit);
+  },
+  λ (c : IsCancelBit old type k). record {
+    signing = c.signing;
+    bit = subst (λ (p : Profile). IsBit new (row_at p type) (row_width p) k) (sym same) ((same_bit old new (row_at (profile_of old) type) (row_width (profile_of old)) k (e c.signing)).1 c.bit);
+  },
+)
+
+pub floor_bits-outside : (from len : ℕ) (old new : List ℕ) (bank : Bank) → length old ≡ 32768 → length new ≡ length old → profile_of new ≡ profile_of old
+    → AreOutside from len (floor_at (profile_of old) bank) (floor_width (profile_of old)) → SameOutside from len old new
+    → (k : ℕ) → (IsFloorBit new bank k ↔ IsFloorBit old bank k)
+floor_bits-outside from len old new bank whole size same apart outside =
+    floor_bits-same old new bank same (bytes_at-outside from len old new (floor_at (profile_of old) bank) (floor_width (profile_of old)) outside size apart (omega (arith, floor_fits (profile_of old) bank)))
+
+pub row_bits-outside : (from len : ℕ) (old new : List ℕ) (type : ContentType) → length old ≡ 32768 → length new ≡ length old → profile_of new ≡ profile_of old
+    → (IsSigning type → AreOutside from len (row_at (profile_of old) type) (row_width (profile_of old))) → SameOutside from len old new
+    → (k : ℕ) → (IsCancelBit new type k ↔ IsCancelBit old type k)
+row_bits-outside from len old new type whole size same apart outside =
+    row_bits-same old new type same (λ signing. bytes_at-outside from len old new (row_at (profile_of old) type) (row_width (profile_of old)) outside size (apart signing) (omega (arith, row_fits (profile_of old) type)))
+
+-- ---- what stands
+pub FloorStands-same : (old new : List ℕ) (fuses after : FusesState) (bank : Bank) → floor_row after bank ≡ floor_row fuses bank
+    → ((k : ℕ) → (IsFloorBit new bank k ↔ IsFloorBit old bank k)) → FloorStands old fuses bank → FloorStands new after bank
+FloorStands-same old new fuses after bank row same h = record {
+  fuses_same = λ k below. (
+    λ z. (same k).1 ((h.fuses_same k below).0 (subst (λ (r : List ℕ). IsCleared r k) row z)),
+    λ (b : IsFloorBit new bank k). subst (λ (r : List ℕ). IsCleared r k) (sym row) ((h.fuses_same k below).1 ((same k).0 b)),
+  );
+}
+
+pub RowStands-same : (old new : List ℕ) (fuses after : FusesState) (type : ContentType) → row_of after type ≡ row_of fuses type
+    → ((k : ℕ) → (IsCancelBit new type k ↔ IsCancelBit old type k)) → RowStands old fuses type → RowStands new after type
+RowStands-same old new fuses after type row same h = record {
+  fuses_same = λ k below. (
+    λ z. (same k).1 ((h.fuses_same k below).0 (subst (λ (r : List ℕ). IsCleared r k) row z)),
+    λ (b : IsCancelBit new type k). subst (λ (r : List ℕ). IsCleared r k) (sym row) ((h.fuses_same k below).1 ((same k).0 b)),
+  );
+}
+
+-- ---- where the rows of profile 2 lie
+pub floors_apart : (bank other : Bank) → other ≢ bank → AreOutside (floor_at Two bank) 16 (floor_at Two other) 16
+floors_apart Bmc Bmc h = absurd (h refl)
+floors_apart Bmc Pch h = inr (omega arith)
+floors_apart Pch Bmc h = inl (omega arith)
+floors_apart Pch Pch h = absurd (h refl)
+
+pub row_behind_floors : (bank : Bank) (type : ContentType) → IsSigning type → floor_at Two bank + 16 ≤ row_at Two type
+row_behind_floors Bmc PchManifest h = omega arith
+row_behind_floors Bmc PchCapsule h = omega arith
+row_behind_floors Bmc BmcManifest h = omega arith
+row_behind_floors Bmc BmcCapsule h = omega arith
+row_behind_floors Bmc type h = absurd h
+row_behind_floors Pch PchManifest h = omega arith
+row_behind_floors Pch PchCapsule h = omega arith
+row_behind_floors Pch BmcManifest h = omega arith
+row_behind_floors Pch BmcCapsule h = omega arith
+row_behind_floors Pch type h = absurd h
+
+pub rows_apart : (type other : ContentType) → IsSigning type → IsSigning other → other ≢ type → AreOutside (row_at Two type) 32 (row_at Two other) 32
+rows_apart PchManifest PchManifest s t h = absurd (h refl)
+rows_apart PchManifest PchCapsule s t h = inr (omega arith)
+rows_apart PchManifest BmcManifest s t h = inr (omega arith)
+rows_apart PchManifest BmcCapsule s t h = inr (omega arith)
+rows_apart PchManifest other s t h = absurd t
+rows_apart PchCapsule PchManifest s t h = inl (omega arith)
+rows_apart PchCapsule PchCapsule s t h = absurd (h refl)
+rows_apart PchCapsule BmcManifest s t h = inr (omega arith)
+rows_apart PchCapsule BmcCapsule s t h = inr (omega arith)
+rows_apart PchCapsule other s t h = absurd t
+rows_apart BmcManifest PchManifest s t h = inl (omega arith)
+rows_apart BmcManifest PchCapsule s t h = inl (omega arith)
+rows_apart BmcManifest BmcManifest s t h = absurd (h refl)
+rows_apart BmcManifest BmcCapsule s t h = inr (omega arith)
+rows_apart BmcManifest other s t h = absurd t
+rows_apart BmcCapsule PchManifest s t h = inl (omega arith)
+rows_apart BmcCapsule PchCapsule s t h = inl (omega arith)
+rows_apart BmcCapsule BmcManifest s t h = inl (omega arith)
+rows_apart BmcCapsule BmcCapsule s t h = absurd (h refl)
+rows_apart BmcCapsule other s t h = absurd t
+rows_apart type other s t h = absurd s
+
+pub row_in_sector : (type : ContentType) → IsSigning type → (0x7020 ≤ row_at Two type) × (row_at Two type + 32 ≤ 0x70A0)
+row_in_sector PchManifest h = (omega arith, omega arith)
+row_in_sector PchCapsule h = (omega arith, omega arith)
+row_in_sector BmcManifest h = (omega arith, omega arith)
+row_in_sector BmcCapsule h = (omega arith, omega arith)
+row_in_sector type h = absurd h
+
+pub floor_in_sector : (bank : Bank) → (0x7000 ≤ floor_at Two bank) × (floor_at Two bank + 16 ≤ 0x7020)
+floor_in_sector Bmc = (omega arith, omega arith)
+floor_in_sector Pch = (omega arith, omega arith)

@@ -1,0 +1,26 @@
+use Rattle.pfr_fuses.proofs.MigrationLemmas.{migrate-exact, migrate-ok, migrate-err, migrate-adds, migrate-grows, migrate-provision}
+use Rattle.pfr_fuses.proofs.fuses.Fuses.migrate.Goals as goal
+
+pub returns-clause-exact : goal.returns-clause-exact
+returns-clause-exact g c = migrate-exact (g.F.Flash.device c.args.nv.now) (g.F.Flash.device c.migrate_fuses.new.nv) c.args.self.now c.migrate_fuses.new.self c.migrate_fuses.result
+    c.requires.size c.requires.profile c.requires.stands c.migrate_fuses.ensures.follows c.migrate_fuses.ensures.rows c.migrate_fuses.ensures.bytes c.migrate_fuses.ensures.ok
+
+pub returns-clause-ok : goal.returns-clause-ok
+returns-clause-ok g c = migrate-ok (g.F.Flash.device c.args.nv.now) (g.F.Flash.device c.migrate_fuses.new.nv) c.args.self.now c.migrate_fuses.new.self c.migrate_fuses.result
+    c.requires.size c.requires.profile c.requires.stands c.migrate_fuses.ensures.follows c.migrate_fuses.ensures.rows c.migrate_fuses.ensures.bytes c.migrate_fuses.ensures.ok
+
+pub returns-clause-err : goal.returns-clause-err
+returns-clause-err g c = migrate-err (g.F.Flash.device c.args.nv.now) (g.F.Flash.device c.migrate_fuses.new.nv) c.args.self.now c.migrate_fuses.new.self c.migrate_fuses.result
+    c.requires.size c.requires.profile c.requires.stands c.migrate_fuses.ensures.follows c.migrate_fuses.ensures.rows c.migrate_fuses.ensures.bytes c.migrate_fuses.ensures.err
+
+pub returns-clause-within : goal.returns-clause-within
+returns-clause-within g c = migrate-adds (g.F.Flash.device c.args.nv.now) (g.F.Flash.device c.migrate_fuses.new.nv) c.args.self.now c.migrate_fuses.new.self c.migrate_fuses.result
+    c.requires.size c.requires.profile c.requires.stands c.migrate_fuses.ensures.follows c.migrate_fuses.ensures.rows c.migrate_fuses.ensures.bytes
+
+pub returns-clause-grows : goal.returns-clause-grows
+returns-clause-grows g c = migrate-grows (g.F.Flash.device c.args.nv.now) (g.F.Flash.device c.migrate_fuses.new.nv) c.args.self.now c.migrate_fuses.new.self c.migrate_fuses.result
+    c.requires.size c.requires.profile c.requires.stands c.migrate_fuses.ensures.follows c.migrate_fuses.ensures.rows c.migrate_fuses.ensures.bytes
+
+pub returns-clause-provision : goal.returns-clause-provision
+returns-clause-provision g c = migrate-provision (g.F.Flash.device c.args.nv.now) (g.F.Flash.device c.migrate_fuses.new.nv) c.args.self.now c.migrate_fuses.new.self c.migrate_fuses.result
+    c.requires.size c.requires.profile c.requires.stands c.migrate_fuses.ensures.follows c.migrate_fuses.ensures.rows c.migrate_fuses.ensures.bytes

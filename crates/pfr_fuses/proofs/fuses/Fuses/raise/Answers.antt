@@ -1,0 +1,34 @@
+use Rattle.pfr_fuses.proofs.RaiseLemmas.{raise-floor, raise-ok, raise-err, raise-stays, raise-adds, raise-outside, raise-grows, raise-provision}
+use Rattle.pfr_fuses.proofs.fuses.Fuses.raise.Goals as goal
+
+pub returns-clause-floor : goal.returns-clause-floor
+returns-clause-floor g c = raise-floor c.args.bank c.args.to (g.F.Flash.device c.args.nv.now) (g.F.Flash.device c.raise_fuse.new.nv) c.args.self.now c.raise_fuse.new.self c.raise_fuse.result
+    c.requires.size c.requires.profile c.requires.to c.raise_fuse.ensures.follows c.raise_fuse.ensures.ok c.raise_fuse.ensures.fuses
+
+pub returns-clause-ok : goal.returns-clause-ok
+returns-clause-ok g c = raise-ok c.args.bank c.args.to (g.F.Flash.device c.args.nv.now) (g.F.Flash.device c.raise_fuse.new.nv) c.args.self.now c.raise_fuse.new.self c.raise_fuse.result
+    c.requires.size c.requires.profile c.requires.to c.raise_fuse.ensures.follows c.requires.stands c.raise_fuse.ensures.ok c.raise_fuse.ensures.fuses
+
+pub returns-clause-err : goal.returns-clause-err
+returns-clause-err g c = raise-err c.args.bank c.args.to (g.F.Flash.device c.args.nv.now) (g.F.Flash.device c.raise_fuse.new.nv) c.args.self.now c.raise_fuse.new.self c.raise_fuse.result
+    c.requires.size c.requires.profile c.requires.to c.raise_fuse.ensures.follows c.requires.stands
+
+pub returns-clause-stays : goal.returns-clause-stays
+returns-clause-stays g c = raise-stays c.args.bank c.args.to (g.F.Flash.device c.args.nv.now) (g.F.Flash.device c.raise_fuse.new.nv) c.args.self.now c.raise_fuse.new.self c.raise_fuse.result
+    c.requires.size c.requires.profile c.requires.to c.raise_fuse.ensures.follows c.raise_fuse.ensures.ok c.raise_fuse.ensures.err
+
+pub returns-clause-within : goal.returns-clause-within
+returns-clause-within g c = raise-adds c.args.bank c.args.to (g.F.Flash.device c.args.nv.now) (g.F.Flash.device c.raise_fuse.new.nv) c.args.self.now c.raise_fuse.new.self c.raise_fuse.result
+    c.requires.size c.requires.profile c.requires.to c.raise_fuse.ensures.follows
+
+pub returns-clause-outside : goal.returns-clause-outside
+returns-clause-outside g c = raise-outside c.args.bank c.args.to (g.F.Flash.device c.args.nv.now) (g.F.Flash.device c.raise_fuse.new.nv) c.args.self.now c.raise_fuse.new.self c.raise_fuse.result
+    c.requires.size c.requires.profile c.requires.to c.raise_fuse.ensures.follows
+
+pub returns-clause-grows : goal.returns-clause-grows
+returns-clause-grows g c = raise-grows c.args.bank c.args.to (g.F.Flash.device c.args.nv.now) (g.F.Flash.device c.raise_fuse.new.nv) c.args.self.now c.raise_fuse.new.self c.raise_fuse.result
+    c.requires.size c.requires.profile c.requires.to c.raise_fuse.ensures.follows
+
+pub returns-clause-provision : goal.returns-clause-provision
+returns-clause-provision g c = raise-provision c.args.bank c.args.to (g.F.Flash.device c.args.nv.now) (g.F.Flash.device c.raise_fuse.new.nv) c.args.self.now c.raise_fuse.new.self c.raise_fuse.result
+    c.requires.size c.requires.profile c.requires.to c.raise_fuse.ensures.follows
