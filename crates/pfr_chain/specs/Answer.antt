@@ -1,7 +1,8 @@
 -- What a call over a flash answers, where it judges what the flash holds.
-use Rattle.std.specs.Prelude.{◌≡◌, Result, Ok, Err}
+use Rattle.std.specs.Prelude.{◌≡◌, Option, Some, None, Result, Ok, Err}
 use Rattle.pfr_flash.specs.FlashState.{FlashState}
 use Rattle.pfr_flash.specs.Reading.{FailsReading}
+use Rattle.pfr_flash.specs.declared.flash.FlashFail.{FlashFail}
 use Rattle.pfr_chain.specs.declared.fail.ChainFail.{ChainFail}
 use Rattle.pfr_chain.specs.declared.fail.ChainFail.TheVariants.{Flash}
 
@@ -9,6 +10,11 @@ use Rattle.pfr_chain.specs.declared.fail.ChainFail.TheVariants.{Flash}
 abbrev pub IsFound : ChainFail → Type 0
 IsFound (Flash f) = ⊥
 IsFound cause = Unit {0}
+
+-- the device's failure, where that is the cause
+abbrev pub chain_failure : ChainFail → Option FlashFail
+chain_failure (Flash fail) = Some fail
+chain_failure cause = None
 
 -- a refusal is the judgement's cause, or a failed call's of the device
 abbrev pub Refuses : {Y : Type 0} → FlashState → FlashState → ChainFail → Result Y ChainFail → Type 0

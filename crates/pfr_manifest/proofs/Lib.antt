@@ -9,3 +9,4 @@ pub mod PartLaws
 pub mod SpellingLaws
 pub mod ReadingLaw
 pub mod FindingLaw
+pub mod HashLemmas

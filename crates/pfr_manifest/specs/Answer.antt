@@ -1,7 +1,8 @@
 -- What a call over a flash answers, where it judges what the flash holds.
-use Rattle.std.specs.Prelude.{◌≡◌, Result, Ok, Err}
+use Rattle.std.specs.Prelude.{◌≡◌, Option, Some, None, Result, Ok, Err}
 use Rattle.pfr_flash.specs.FlashState.{FlashState}
 use Rattle.pfr_flash.specs.Reading.{FailsReading}
+use Rattle.pfr_flash.specs.declared.flash.FlashFail.{FlashFail}
 use Rattle.pfr_manifest.specs.declared.fail.ManifestFail.{ManifestFail}
 use Rattle.pfr_manifest.specs.declared.fail.ManifestFail.TheVariants.{Flash}
 
@@ -9,6 +10,11 @@ use Rattle.pfr_manifest.specs.declared.fail.ManifestFail.TheVariants.{Flash}
 abbrev pub IsFound : ManifestFail → Type 0
 IsFound (Flash f) = ⊥
 IsFound cause = Unit {0}
+
+-- the device's failure, where that is the cause
+abbrev pub manifest_failure : ManifestFail → Option FlashFail
+manifest_failure (Flash fail) = Some fail
+manifest_failure cause = None
 
 -- a refusal is the judgement's cause, or a failed call's of the device
 abbrev pub Refuses : {Y : Type 0} → FlashState → FlashState → ManifestFail → Result Y ManifestFail → Type 0

@@ -3,6 +3,7 @@ pub mod Regions
 pub mod Spelling
 pub mod Manifest
 pub mod Access
+pub mod Hashes
 pub mod Judging
 pub mod Judge
 pub mod Answer
