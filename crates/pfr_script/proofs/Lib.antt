@@ -1,0 +1,6 @@
+pub mod PieceLemmas
+pub mod NumberLemmas
+pub mod HexLemmas
+pub mod GrowLemmas
+pub mod WordLemmas
+pub mod GrammarLemmas

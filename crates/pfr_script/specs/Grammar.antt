@@ -1,0 +1,43 @@
+-- The lines of a script: which words say what.
+use Rattle.std.specs.Prelude.{◌≡◌, ℕ, ◌≤◌, codes, decimal, List, [], ◌∷◌, length, Option, Some, None, Ok}
+use Rattle.hex.specs.Hex.{decode_of}
+use Rattle.pfr_flash.specs.declared.names.Device.{Device}
+use Rattle.pfr_flash.specs.declared.names.Device.TheVariants.{Bmc, Pch, Nv}
+use Rattle.pfr_fuses.specs.RootSlot.{slot_of}
+use Rattle.pfr_script.specs.declared.arm.ArmWhat.TheVariants.{Cut, Fault, ReadFault}
+use Rattle.pfr_script.specs.declared.event.Event.TheVariants.{Power, Off, Provision}
+use Rattle.pfr_script.specs.declared.line.Line.{Line}
+use Rattle.pfr_script.specs.declared.line.Line.TheVariants.{Happens, Arms}
+
+abbrev pub device_word : Device → List ℕ
+device_word Bmc = codes "bmc"
+device_word Pch = codes "pch"
+device_word Nv = codes "nv"
+
+-- hex digits of either case that spell a slot's bytes before its gate
+pub record SaysSlot (word bytes : List ℕ) : Type 0 where
+  pub hex : decode_of word ≡ Ok bytes
+  pub count : length bytes ≡ 72
+
+-- `-`, or hex digits of either case that spell the tear
+abbrev pub SaysTear : Option (List ℕ) → List ℕ → Type 0
+SaysTear None word = word ≡ codes "-"
+SaysTear (Some bytes) word = (decode_of word ≡ Ok bytes) × (1 ≤ length bytes) × (length bytes ≤ 4096)
+
+abbrev pub IsNth : ℕ → Type 0
+IsNth nth = (1 ≤ nth) × (nth ≤ 4294967295)
+
+-- a word before a device, a number and a tear
+abbrev pub SaysTorn : List ℕ → Device → ℕ → Option (List ℕ) → List (List ℕ) → Type 0
+SaysTorn first device nth tear words = IsNth nth × (word : List ℕ) × SaysTear tear word
+    × (words ≡ first ∷ device_word device ∷ decimal nth ∷ word ∷ [])
+
+-- the words of a line that says this
+abbrev pub Says : Line → List (List ℕ) → Type 0
+Says (Happens Power) words = words ≡ codes "power" ∷ []
+Says (Happens Off) words = words ≡ codes "off" ∷ []
+Says (Happens (Provision slot)) words = (word : List ℕ) × (bytes : List ℕ) × SaysSlot word bytes × (slot ≡ slot_of bytes)
+    × (words ≡ codes "provision" ∷ word ∷ [])
+Says (Arms device Cut nth tear) words = SaysTorn (codes "cut") device nth tear words
+Says (Arms device Fault nth tear) words = SaysTorn (codes "fault") device nth tear words
+Says (Arms device ReadFault nth tear) words = IsNth nth × (tear ≡ None) × (words ≡ codes "readfault" ∷ device_word device ∷ decimal nth ∷ [])

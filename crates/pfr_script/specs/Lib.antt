@@ -1,0 +1,12 @@
+pub mod Why
+pub mod ScriptState
+pub mod Arms
+pub mod Counting
+pub mod ScriptInside
+pub mod Words
+pub mod Numbers
+pub mod Hex
+pub mod Line
+pub mod Grammar
+pub mod Growing
+pub mod Reading

@@ -1,0 +1,58 @@
+-- The words of a line, and the lines of a text.
+use Rattle.std.specs.Prelude.{ℕ, ◌==◌, codes, if◌then◌else◌, List, [], ◌∷◌, Option, Some, None, Result, Ok, Err}
+use Rattle.std.specs.List.{slice_split}
+use Rattle.std.specs.Str.{bytes_eq}
+use Rattle.pfr_engine.specs.Judging.{◌>>=◌, ◌>>◌, require}
+use Rattle.pfr_engine.specs.Words.{is_word, words_in}
+use Rattle.pfr_flash.specs.declared.names.Device.{Device}
+use Rattle.pfr_flash.specs.declared.names.Device.TheVariants.{Bmc, Pch, Nv}
+use Rattle.pfr_script.specs.declared.script_why.ScriptWhy.{ScriptWhy}
+use Rattle.pfr_script.specs.declared.script_why.ScriptWhy.TheVariants as causes
+
+-- what stands between the separators of a text
+abbrev pub pieces : ℕ → List ℕ → List (List ℕ)
+pieces separator text = slice_split (λ byte. byte == separator) text
+
+-- the words of a text that stands behind a space, where there is one
+abbrev pub words_behind : Option (List ℕ) → List (List ℕ)
+words_behind None = []
+words_behind (Some text) = words_in text
+
+-- the next word, which isn't empty, and those behind it
+abbrev pub next_word : List (List ℕ) → Result (List ℕ × List (List ℕ)) ScriptWhy
+next_word [] = Err causes.Word
+next_word (word ∷ words) = require causes.Word (is_word word) >> Ok (word, words)
+
+-- no word is left
+abbrev pub no_word : List (List ℕ) → Result (Unit {0}) ScriptWhy
+no_word [] = Ok tt
+no_word (word ∷ words) = Err causes.Word
+
+-- just one word is left, and it isn't empty
+unfoldable pub one_word : List (List ℕ) → Result (List ℕ) ScriptWhy
+one_word words = do
+  first ← next_word words
+  no_word first.1
+  Ok first.0
+
+-- just two words
+unfoldable pub two_words : List (List ℕ) → Result (List ℕ × List ℕ) ScriptWhy
+two_words words = do
+  first ← next_word words
+  second ← one_word first.1
+  Ok (first.0, second)
+
+-- just three words
+unfoldable pub three_words : List (List ℕ) → Result (List ℕ × List ℕ × List ℕ) ScriptWhy
+three_words words = do
+  first ← next_word words
+  others ← two_words first.1
+  Ok (first.0, others.0, others.1)
+
+-- the device of a name
+abbrev pub device_of : List ℕ → Option Device
+device_of word =
+    if bytes_eq word (codes "bmc") then Some Bmc
+    else if bytes_eq word (codes "pch") then Some Pch
+    else if bytes_eq word (codes "nv") then Some Nv
+    else None

@@ -1,0 +1,103 @@
+// Reads what a line says, word by word.
+ghost use Rattle.std.specs.Prelude.{◌≡◌, ◌↔◌, IfOk};
+ghost use Rattle.std.specs.Option.{option_copied};
+ghost use Rattle.pfr_engine.specs.Words.{words_in};
+ghost use Rattle.pfr_script.specs.Words.{words_behind};
+ghost use Rattle.pfr_script.specs.Grammar.{Says};
+ghost use Rattle.pfr_script.specs.Line.{IsNumbered, judge_alone, judge_provision, judge_torn, judge_read_fault, judge_words, judge_first};
+
+use crate::arm::ArmWhat;
+use crate::event::Event;
+use crate::hex_word::{read_slot, read_tear};
+use crate::line::Line;
+use crate::number::read_number;
+use crate::script_why::ScriptWhy;
+use crate::words::{device_of, first_word, no_word, one_word, three_words, two_words};
+use pfr_fuses::RootSlot;
+
+// An event whose word stands alone.
+fn read_alone(event: Event, rest: Option<&[u8]>) -> Result<Line, ScriptWhy>
+    ensures exact { result ≡ judge_alone event (words_behind (option_copied rest.entry)) }
+    ensures numbered { IfOk result IsNumbered }
+{
+    no_word(rest)?;
+    Ok(Line::Happens(event))
+}
+
+// `provision <hex>`
+#[tactic(auto, unfolding(crate::specs::Line::judge_provision))]
+fn read_provision(rest: Option<&[u8]>) -> Result<Line, ScriptWhy>
+    ensures exact { result ≡ judge_provision (words_behind (option_copied rest.entry)) }
+    ensures numbered { IfOk result IsNumbered }
+{
+    let word = one_word(rest)?;
+    let slot = read_slot(word)?;
+    Ok(Line::Happens(Event::Provision(RootSlot::from_slot(&slot))))
+}
+
+// `cut <device> <n> <tear>`, or the same for a fault
+#[tactic(auto, unfolding(crate::specs::Line::judge_torn))]
+fn read_torn(what: ArmWhat, rest: Option<&[u8]>) -> Result<Line, ScriptWhy>
+    ensures exact { result ≡ judge_torn what (words_behind (option_copied rest.entry)) }
+    ensures numbered { IfOk result IsNumbered }
+{
+    let (device, nth, tear) = three_words(rest)?;
+    let device = device_of(device).ok_or(ScriptWhy::Word)?;
+    let nth = read_number(nth)?;
+    let tear = read_tear(tear)?;
+    Ok(Line::Arms {
+        device,
+        what,
+        nth,
+        tear,
+    })
+}
+
+// `readfault <device> <n>`
+#[tactic(auto, unfolding(crate::specs::Line::judge_read_fault))]
+fn read_read_fault(rest: Option<&[u8]>) -> Result<Line, ScriptWhy>
+    ensures exact { result ≡ judge_read_fault (words_behind (option_copied rest.entry)) }
+    ensures numbered { IfOk result IsNumbered }
+{
+    let (device, nth) = two_words(rest)?;
+    let device = device_of(device).ok_or(ScriptWhy::Word)?;
+    let nth = read_number(nth)?;
+    Ok(Line::Arms {
+        device,
+        what: ArmWhat::ReadFault,
+        nth,
+        tear: None,
+    })
+}
+
+#[tactic(auto, unfolding(crate::specs::Line::judge_words))]
+fn read_words(word: &[u8], rest: Option<&[u8]>) -> Result<Line, ScriptWhy>
+    ensures exact { result ≡ judge_words word.now (words_behind (option_copied rest.entry)) }
+    ensures numbered { IfOk result IsNumbered }
+{
+    if word == b"power".as_slice() {
+        read_alone(Event::Power, rest)
+    } else if word == b"off".as_slice() {
+        read_alone(Event::Off, rest)
+    } else if word == b"provision".as_slice() {
+        read_provision(rest)
+    } else if word == b"cut".as_slice() {
+        read_torn(ArmWhat::Cut, rest)
+    } else if word == b"fault".as_slice() {
+        read_torn(ArmWhat::Fault, rest)
+    } else if word == b"readfault".as_slice() {
+        read_read_fault(rest)
+    } else {
+        Err(ScriptWhy::Word)
+    }
+}
+
+/// What a line says, by its first word.
+pub fn read_line(text: &[u8]) -> Result<Line, ScriptWhy>
+    ensures exact { result ≡ judge_first (words_in text.now) }
+    ensures numbered { IfOk result IsNumbered }
+    ensures spelled { (line : Line) → (result ≡ Ok line) ↔ Says line (words_in text.now) }
+{
+    let (word, rest) = first_word(text);
+    read_words(word, rest)
+}

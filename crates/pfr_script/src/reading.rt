@@ -1,0 +1,98 @@
+// Reads a script from its text.
+ghost use Rattle.std.specs.Prelude.{◌≡◌, ◌<◌, ◌≤◌, length};
+ghost use Rattle.pfr_script.specs.Line.{IsNumbered};
+ghost use Rattle.pfr_script.specs.Reading.{Answers, Leaves, added, at_line, is_no_item, judge_line, judge_script};
+
+use crate::line::Line;
+use crate::line_word::read_line;
+use crate::script::Script;
+use crate::script_fail::{ScriptFail, at_line};
+use crate::script_why::ScriptWhy;
+use crate::words::split_first;
+use std::alloc::Global;
+
+// An empty line and one that begins with `#` are no items.
+fn is_no_item(text: &[u8]) -> bool
+    ensures { result ≡ is_no_item text.now }
+{
+    match text {
+        [] => true,
+        [first, ..] => *first == b'#',
+    }
+}
+
+// Appends what a line says.
+fn add_line(script: &mut Script, number: u32, line: Line) -> Result<(), ScriptFail>
+    requires few { length script.old.items < 65536 }
+    requires numbered { IsNumbered line }
+    ensures { Leaves script.new result (at_line number (added script.old line)) }
+{
+    match line {
+        Line::Happens(event) => {
+            script.push_event(event)?;
+            Ok(())
+        }
+        Line::Arms {
+            device,
+            what,
+            nth,
+            tear,
+        } => {
+            if !script.may_arm(device, what) {
+                return Err(ScriptFail::Text {
+                    line: number,
+                    why: ScriptWhy::TooManyArms,
+                });
+            }
+            script.push_arm(device, what, nth, tear)?;
+            Ok(())
+        }
+    }
+}
+
+// Appends what the line of this number says, if it is an item.
+#[tactic(auto, unfolding(crate::specs::Reading::judge_line))]
+fn read_item(script: &mut Script, number: u32, text: &[u8]) -> Result<(), ScriptFail>
+    ensures { Leaves script.new result (at_line number (judge_line script.old text.now)) }
+{
+    if is_no_item(text) {
+        return Ok(());
+    }
+    if script.len() >= 65536 {
+        return Err(ScriptFail::Text {
+            line: number,
+            why: ScriptWhy::TooMany,
+        });
+    }
+    let line = at_line(number, read_line(text))?;
+    add_line(script, number, line)
+}
+
+/// Reads a script: one line is one item. An empty line and one that begins with `#` are none, and
+/// the last line may lack its newline.
+///
+/// A line is `power`, `off`, `provision <hex>` with a slot's 72 bytes before its gate,
+/// `cut <device> <n> <tear>`, `fault <device> <n> <tear>` or `readfault <device> <n>`, with single
+/// spaces between its words. A device is `bmc`, `pch` or `nv`, `n` is decimal from 1 to
+/// 4,294,967,295 without leading zeros, and a tear is `-` or hex of at most 4,096 bytes. Hex has
+/// digits of either case.
+///
+/// # Errors
+///
+/// The first thing that is wrong with the first bad line, or want of memory.
+#[tactic(auto, unfolding(crate::specs::Reading::judge_script))]
+pub fn parse(alloc: Global, text: &[u8]) -> Result<Script, ScriptFail>
+    requires { length text.now ≤ 4294967294 }
+    ensures exact { Answers result (judge_script text.now) }
+{
+    let mut script = Script::new(alloc)?;
+    let mut rest = text;
+    let mut line = 1;
+    'lines: while let Some((first, others)) = split_first(rest, b'\n') {
+        read_item(&mut script, line, first)?;
+        rest = others;
+        line += 1;
+    }
+    read_item(&mut script, line, rest)?;
+    Ok(script)
+}
