@@ -1,0 +1,292 @@
+-- A capsule is judged well exactly where it is good.
+use Rattle.std.proofs.Common.{◌≡◌, ◌∙◌, ap, refl, sym, subst, ℕ, ◌+◌, ◌*◌, ◌/◌, ◌==◌, nat_le, true, false, min, List, length, Option, Some, None, Ok, arith}
+use Rattle.std.proofs.lemmas.Bool.{eq-eqb, eqb-true, le-leb, leb-true}
+use Rattle.std.proofs.lemmas.Bool.Decides.{nat_tests}
+use Rattle.pfr_flash.specs.Bytes.{bytes_at}
+use Rattle.pfr_flash.specs.Layout.{IsValidLayout}
+use Rattle.pfr_flash.specs.Names.{capsule_type, manifest_type}
+use Rattle.pfr_flash.specs.declared.layout.Layout.{Layout}
+use Rattle.pfr_flash.specs.declared.names.Bank.{Bank}
+use Rattle.pfr_flash.specs.declared.names.Bank.TheVariants.{Bmc, Pch}
+use Rattle.pfr_flash.specs.declared.names.ContentType.{ContentType}
+use Rattle.pfr_engine.specs.Acceptance.{Acceptance}
+use Rattle.pfr_engine.specs.declared.engine.Curve.{Curve}
+use Rattle.pfr_chain.specs.Chain.{IsBlock1, IsChain}
+use Rattle.pfr_chain.specs.Form1.{IsSignedBy}
+use Rattle.pfr_chain.specs.Form2.{IsLongSignedBy}
+use Rattle.pfr_chain.specs.Types.{is_certificate}
+use Rattle.pfr_chain.specs.declared.form.Form.{Form}
+use Rattle.pfr_chain.specs.declared.form.Form.TheVariants.{One, Two}
+use Rattle.pfr_chain.specs.declared.judging.Chain.{Chain}
+use Rattle.pfr_chain.proofs.ChainLaw.{judge_ends as chain_ends}
+use Rattle.pfr_fuses.specs.FusesState.{FusesState, floor_of, row_of}
+use Rattle.pfr_fuses.specs.RootSlot.{layout_of}
+use Rattle.pfr_fuses.specs.declared.root_slot.RootSlot.{RootSlot}
+use Rattle.pfr_manifest.specs.declared.region.Region.{Region}
+use Rattle.pfr_manifest.proofs.FindingLaw.{judge_ends as manifest_ends}
+use Rattle.pfr_capsule.specs.CapsuleState.{CapsuleState, capsule_of}
+use Rattle.pfr_capsule.specs.Good.{IsGood, Serves, StandForBank}
+use Rattle.pfr_capsule.specs.Judge.{judge_capsule, judge_header, judge_maps, judge_numbers, judge_pages}
+use Rattle.pfr_capsule.specs.Judging.{◌>>◌, require_none}
+use Rattle.pfr_capsule.specs.Maps.{count_before, page_outside, uncovered_region, unerased_copy}
+use Rattle.pfr_capsule.specs.PageBytes.{incoherent_region}
+use Rattle.pfr_capsule.specs.PageHeader.{HasHeader, IsPageHeader, has_constants, page_header_of}
+use Rattle.pfr_capsule.specs.Pages.{copy_map, erase_map, pages_at}
+use Rattle.pfr_capsule.specs.Signed.{IsSigned, end_of, id_or_zero, key_of}
+use Rattle.pfr_capsule.specs.SignedJudge.{HasSigned, judge_capsule_chain, judge_inner_chain, judge_signed}
+use Rattle.pfr_capsule.specs.declared.fail.CapsuleFail.TheVariants as causes
+use Rattle.pfr_capsule.specs.declared.page_header.PageHeader.{PageHeader}
+use Rattle.pfr_capsule.specs.declared.pages.Pages.{Pages}
+use Rattle.pfr_capsule.specs.declared.signed.Signed.{Signed}
+use Rattle.pfr_capsule.proofs.Tests.{passed_part, passed_unit, passed_test, passed_none, passed_last, passed_last_none}
+use Rattle.pfr_capsule.proofs.MapsLaw.{none_copied, copied_none, none_outside, outside_none, none_uncovered, uncovered_none, none_incoherent, incoherent_none}
+
+-- ---- the header
+constants_hold : (header : PageHeader) → has_constants header ≡ true → IsPageHeader header
+constants_hold header h = grind (arith, nat_tests)
+
+constants_end : (header : PageHeader) → IsPageHeader header → has_constants header ≡ true
+constants_end header h = grind (arith, nat_tests)
+
+numbers_hold : (header : PageHeader) (at end size : ℕ) → judge_numbers header at end size ≡ Ok tt
+    → IsPageHeader header × (header.map_bits ≡ size / 4096) × (at + 128 + header.map_bits / 8 + header.map_bits / 8 + header.payload_len ≡ end)
+unfolding judge_numbers
+numbers_hold header at end size h =
+    let filled : ℕ = at + 128 + header.map_bits / 8 + header.map_bits / 8 + header.payload_len in
+    let a = passed_test causes.PbcHeader (has_constants header) _ tt h in
+    let b = passed_test causes.MapBits (header.map_bits == size / 4096) _ tt a.1 in
+    (constants_hold header a.0, eqb-true header.map_bits (size / 4096) b.0, eqb-true filled end (passed_last causes.BodyLength (filled == end) b.1))
+
+numbers_end : (header : PageHeader) (at end size : ℕ) → IsPageHeader header → header.map_bits ≡ size / 4096 → at + 128 + header.map_bits / 8 + header.map_bits / 8 + header.payload_len ≡ end
+    → judge_numbers header at end size ≡ Ok tt
+unfolding judge_numbers
+numbers_end header at end size constants bits fills =
+    let a : has_constants header ≡ true = constants_end header constants in
+    let b : (header.map_bits == size / 4096) ≡ true = eq-eqb header.map_bits (size / 4096) bits in
+    let filled : ℕ = at + 128 + header.map_bits / 8 + header.map_bits / 8 + header.payload_len in
+    let d : (filled == end) ≡ true = eq-eqb filled end fills in
+    rw (a, b, d) refl
+
+header_holds : (image : List ℕ) (at end : ℕ) (header : PageHeader) → judge_header image at end ≡ Ok header → HasHeader image at end header
+unfolding judge_header
+header_holds image at end header h =
+    let said : PageHeader = page_header_of (bytes_at image at 128) in
+    let a = passed_test causes.PbcHeader (nat_le (at + 128) end) _ header h in
+    let b = passed_unit (judge_numbers said at end (length image)) (Ok said) header a.1 in
+    let n = numbers_hold said at end (length image) b.0 in
+    let is : said ≡ header = cc in
+    let P : PageHeader → Type 0 = λ said. HasHeader image at end said in
+    subst P is (record { within = leb-true (at + 128) end a.0; spelled = refl; constants = n.0; map_bits = n.1; fills = n.2 })
+
+header_ends : (image : List ℕ) (at end : ℕ) (header : PageHeader) → HasHeader image at end header → judge_header image at end ≡ Ok header
+unfolding judge_header
+header_ends image at end header h =
+    let within = le-leb (at + 128) end h.within in
+    let numbers = numbers_end header at end (length image) h.constants h.map_bits h.fills in
+    rw (within, ← h.spelled, numbers) refl
+
+-- ---- the maps
+maps_hold : (image : List ℕ) (pages : Pages) (payload_len : ℕ) (regions : List Region) → judge_maps (erase_map image pages) (copy_map image pages) pages.bits payload_len regions ≡ Ok tt
+    → incoherent_region image pages regions ≡ None → Serves image pages payload_len regions
+unfolding judge_maps
+maps_hold image pages payload_len regions h coherent =
+    let erase : List ℕ = erase_map image pages in
+    let copy : List ℕ = copy_map image pages in
+    let a = passed_none causes.CopyNotErase (unerased_copy erase copy pages.bits) _ tt h in
+    let b = passed_none causes.PageOutside (page_outside erase regions pages.bits) _ tt a.1 in
+    let d = passed_test causes.PayloadLength (payload_len == 4096 * count_before copy pages.bits) _ tt b.1 in
+    record {
+      erased = none_copied erase copy pages.bits a.0;
+      within_regions = none_outside erase regions pages.bits b.0;
+      payload = eqb-true payload_len (4096 * count_before copy pages.bits) d.0;
+      covered = none_uncovered erase regions pages.bits (passed_last_none causes.StaticNotCovered (uncovered_region erase regions pages.bits) d.1);
+      coherent = none_incoherent image pages regions coherent;
+    }
+
+maps_end : (image : List ℕ) (pages : Pages) (payload_len : ℕ) (regions : List Region) → Serves image pages payload_len regions
+    → judge_maps (erase_map image pages) (copy_map image pages) pages.bits payload_len regions ≡ Ok tt
+unfolding judge_maps
+maps_end image pages payload_len regions s =
+    let erase : List ℕ = erase_map image pages in
+    let copy : List ℕ = copy_map image pages in
+    let a = copied_none erase copy pages.bits s.erased in
+    let b = outside_none erase regions pages.bits s.within_regions in
+    let d : (payload_len == 4096 * count_before copy pages.bits) ≡ true = eq-eqb payload_len (4096 * count_before copy pages.bits) s.payload in
+    let e = uncovered_none erase regions pages.bits s.covered in
+    rw (a, b, d, e) refl
+
+pages_hold : (image : List ℕ) (at : ℕ) (header : PageHeader) (regions : List Region) (pages : Pages) → judge_pages image at header regions ≡ Ok pages
+    → (judge_maps (erase_map image pages) (copy_map image pages) pages.bits header.payload_len regions ≡ Ok tt) × (pages ≡ pages_at image at header.map_bits)
+unfolding judge_pages
+pages_hold image at header regions pages h =
+    let here : Pages = pages_at image at header.map_bits in
+    let a = passed_unit (judge_maps (erase_map image here) (copy_map image here) header.map_bits header.payload_len regions) (Ok here) pages h in
+    let is : here ≡ pages = cc in
+    let P : Pages → Type 0 = λ p. (judge_maps (erase_map image p) (copy_map image p) p.bits header.payload_len regions ≡ Ok tt) × (p ≡ here) in
+    subst P is (a.0, refl)
+
+pages_end : (image : List ℕ) (at : ℕ) (header : PageHeader) (regions : List Region) → Serves image (pages_at image at header.map_bits) header.payload_len regions
+    → judge_pages image at header regions ≡ Ok (pages_at image at header.map_bits)
+unfolding judge_pages
+pages_end image at header regions s =
+    let maps = maps_end image (pages_at image at header.map_bits) header.payload_len regions s in
+    rw maps refl
+
+-- ---- what is signed
+signed_ends : (image : List ℕ) (place len : ℕ) (bank : Bank) (layout : Layout) (fuses : FusesState) (accepts : Acceptance) (signed : Signed) →
+    IsSigned image place len bank layout fuses accepts signed → judge_signed image place len bank layout fuses accepts ≡ Ok signed
+unfolding judge_signed judge_capsule_chain judge_inner_chain
+signed_ends image place len bank layout fuses accepts signed s =
+    let outer = chain_ends image place len (capsule_type bank) fuses.provision.root (row_of fuses (capsule_type bank)) accepts signed.capsule s.capsule in
+    let inner = chain_ends image signed.capsule.content_at (min signed.capsule.length layout.manifest_len) (manifest_type bank) fuses.provision.root (row_of fuses (manifest_type bank)) accepts signed.inner s.inner in
+    let spelled = manifest_ends (bytes_at image signed.inner.content_at signed.inner.length) layout (length image) signed.manifest s.spelled in
+    let above = le-leb (floor_of fuses bank) signed.manifest.svn s.svn in
+    rw (outer, inner, spelled, above) refl
+
+-- only the provision, the floor and both rows of the bank are looked at
+judge_signed-same : (image : List ℕ) (place len : ℕ) (bank : Bank) (layout : Layout) (accepts : Acceptance) (fuses other : FusesState) → fuses.provision ≡ other.provision → floor_of fuses bank ≡ floor_of other bank
+    → row_of fuses (capsule_type bank) ≡ row_of other (capsule_type bank) → row_of fuses (manifest_type bank) ≡ row_of other (manifest_type bank)
+    → judge_signed image place len bank layout fuses accepts ≡ judge_signed image place len bank layout other accepts
+unfolding judge_signed judge_capsule_chain judge_inner_chain
+judge_signed-same image place len bank layout accepts fuses other provision floor capsule_row manifest_row = rw (provision, floor, capsule_row, manifest_row) refl
+
+IsSigned-same : (image : List ℕ) (place len : ℕ) (bank : Bank) (layout : Layout) (accepts : Acceptance) (fuses other : FusesState) (signed : Signed) → fuses.provision ≡ other.provision → floor_of fuses bank ≡ floor_of other bank
+    → row_of fuses (capsule_type bank) ≡ row_of other (capsule_type bank) → row_of fuses (manifest_type bank) ≡ row_of other (manifest_type bank)
+    → IsSigned image place len bank layout fuses accepts signed → IsSigned image place len bank layout other accepts signed
+IsSigned-same image place len bank layout accepts fuses other signed provision floor capsule_row manifest_row s = record {
+  capsule = rw (provision, capsule_row) at s.capsule;
+  inner = rw (provision, manifest_row) at s.inner;
+  spelled = s.spelled;
+  svn = rw floor at s.svn;
+}
+
+pub judge_capsule-same : (image : List ℕ) (place len : ℕ) (bank : Bank) (layout : Layout) (accepts : Acceptance) (fuses other : FusesState) → fuses.provision ≡ other.provision → floor_of fuses bank ≡ floor_of other bank
+    → row_of fuses (capsule_type bank) ≡ row_of other (capsule_type bank) → row_of fuses (manifest_type bank) ≡ row_of other (manifest_type bank)
+    → judge_capsule image place len bank layout fuses accepts ≡ judge_capsule image place len bank layout other accepts
+unfolding judge_capsule
+judge_capsule-same image place len bank layout accepts fuses other provision floor capsule_row manifest_row =
+    rw (judge_signed-same image place len bank layout accepts fuses other provision floor capsule_row manifest_row) refl
+
+-- ---- the keys that signed
+form1_key : (key : Option ℕ) (block : List ℕ) (curve : Curve) (type : ContentType) (row : List ℕ) (accepts : Acceptance) → is_certificate type ≡ false → IsSignedBy key block curve type row accepts → key ≡ Some (id_or_zero key)
+form1_key None block curve type row accepts plain s = let e = s.certificate in cc
+form1_key (Some id) block curve type row accepts plain s = refl
+
+form2_key : (key : Option ℕ) (block : List ℕ) (type : ContentType) (row : List ℕ) (accepts : Acceptance) → is_certificate type ≡ false → IsLongSignedBy key block type row accepts → key ≡ Some (id_or_zero key)
+form2_key None block type row accepts plain s = let e = s.certificate in cc
+form2_key (Some id) block type row accepts plain s = refl
+
+block1_key : (form : Form) (key : Option ℕ) (block : List ℕ) (type : ContentType) (root row : List ℕ) (accepts : Acceptance) → is_certificate type ≡ false → IsBlock1 form block type root row accepts key → key ≡ Some (id_or_zero key)
+block1_key One key block type root row accepts plain s = form1_key key block s.curve type row accepts plain s.signer
+block1_key Two key block type root row accepts plain s = form2_key key block type row accepts plain s.signer
+
+chain_key : (image : List ℕ) (place len : ℕ) (type : ContentType) (root row : List ℕ) (accepts : Acceptance) (chain : Chain) → is_certificate type ≡ false → IsChain image place len type root row accepts chain → chain.key ≡ Some (key_of chain)
+chain_key image place len type root row accepts chain plain s = block1_key s.block.form chain.key (bytes_at image place s.blen) type root row accepts plain s.signed
+
+no_capsule_certificate : (bank : Bank) → is_certificate (capsule_type bank) ≡ false
+no_capsule_certificate Bmc = refl
+no_capsule_certificate Pch = refl
+
+no_manifest_certificate : (bank : Bank) → is_certificate (manifest_type bank) ≡ false
+no_manifest_certificate Bmc = refl
+no_manifest_certificate Pch = refl
+
+module _ (image : List ℕ) (place len : ℕ) (bank : Bank) (layout : Layout) (fuses : FusesState) (accepts : Acceptance) (signed : Signed) (s : IsSigned image place len bank layout fuses accepts signed) where
+  capsule_key_is : signed.capsule.key ≡ Some (key_of signed.capsule)
+  capsule_key_is = chain_key image place len (capsule_type bank) fuses.provision.root (row_of fuses (capsule_type bank)) accepts signed.capsule (no_capsule_certificate bank) s.capsule
+
+  manifest_key_is : signed.inner.key ≡ Some (key_of signed.inner)
+  manifest_key_is = chain_key image signed.capsule.content_at (min signed.capsule.length layout.manifest_len) (manifest_type bank) fuses.provision.root (row_of fuses (manifest_type bank)) accepts signed.inner (no_manifest_certificate bank) s.inner
+
+-- ---- What is judged well is good, where what is signed was found to be.
+-- the parts of a capsule that was judged well
+record Parts (image : List ℕ) (place len : ℕ) (bank : Bank) (layout : Layout) (fuses : FusesState) (accepts : Acceptance) (capsule : CapsuleState) : Type 0 where
+  signed : Signed
+  header : PageHeader
+  judged : judge_signed image place len bank layout fuses accepts ≡ Ok signed
+  framed : HasHeader image (end_of signed.inner) (end_of signed.capsule) header
+  paged : Serves image capsule.pages header.payload_len signed.manifest.regions
+  found : capsule ≡ capsule_of image place signed (pages_at image (end_of signed.inner + 128) header.map_bits)
+
+assembled : (image : List ℕ) (place len : ℕ) (bank : Bank) (layout : Layout) (fuses : FusesState) (accepts : Acceptance) (capsule : CapsuleState) (signed : Signed) (header : PageHeader) (pages : Pages) →
+    judge_signed image place len bank layout fuses accepts ≡ Ok signed → judge_header image (end_of signed.inner) (end_of signed.capsule) ≡ Ok header →
+    judge_pages image (end_of signed.inner + 128) header signed.manifest.regions ≡ Ok pages →
+    (require_none causes.Incoherent (incoherent_region image pages signed.manifest.regions) >> Ok (capsule_of image place signed pages)) ≡ Ok capsule → Parts image place len bank layout fuses accepts capsule
+assembled image place len bank layout fuses accepts capsule signed header pages judged framed paged h =
+    let a = pages_hold image (end_of signed.inner + 128) header signed.manifest.regions pages paged in
+    let b = passed_none causes.Incoherent (incoherent_region image pages signed.manifest.regions) (Ok (capsule_of image place signed pages)) capsule h in
+    let is : capsule_of image place signed pages ≡ capsule = cc in
+    let P : CapsuleState → Type 0 = λ c. Serves image c.pages header.payload_len signed.manifest.regions in
+    record {
+      signed = signed;
+      header = header;
+      judged = judged;
+      framed = header_holds image (end_of signed.inner) (end_of signed.capsule) header framed;
+      paged = subst P is (maps_hold image pages header.payload_len signed.manifest.regions a.0 b.0);
+      found = sym is ∙ ap (λ (p : Pages). capsule_of image place signed p) a.1;
+    }
+
+judged_parts : (image : List ℕ) (place len : ℕ) (bank : Bank) (layout : Layout) (fuses : FusesState) (accepts : Acceptance) (capsule : CapsuleState) →
+    judge_capsule image place len bank layout fuses accepts ≡ Ok capsule → Parts image place len bank layout fuses accepts capsule
+unfolding judge_capsule
+judged_parts image place len bank layout fuses accepts capsule h =
+    let a = passed_part (judge_signed image place len bank layout fuses accepts) _ capsule h in
+    let b = passed_part (judge_header image (end_of a.0.inner) (end_of a.0.capsule)) _ capsule a.2 in
+    let d = passed_part (judge_pages image (end_of a.0.inner + 128) b.0 a.0.manifest.regions) _ capsule b.2 in
+    assembled image place len bank layout fuses accepts capsule a.0 b.0 d.0 a.1 b.1 d.1 d.2
+
+pub judged_good : (image nv : List ℕ) (place len : ℕ) (bank : Bank) (accepts : Acceptance) (fuses : FusesState) (capsule : CapsuleState) → StandForBank nv fuses bank
+    → IsValidLayout (layout_of fuses.provision bank) (length image) → HasSigned image place len bank (layout_of fuses.provision bank) fuses accepts
+    → judge_capsule image place len bank (layout_of fuses.provision bank) fuses accepts ≡ Ok capsule → (g : IsGood image place len nv bank accepts) × (g.capsule ≡ capsule)
+judged_good image nv place len bank accepts fuses capsule p valid s h =
+    let layout : Layout = layout_of fuses.provision bank in
+    let j = judged_parts image place len bank layout fuses accepts capsule h in
+    let found = s.found in
+    let judged = j.judged in
+    let same : s.signed ≡ j.signed = cc in
+    let P : Signed → Type 0 = λ signed. IsSigned image place len bank layout fuses accepts signed in
+    let signed : IsSigned image place len bank layout fuses accepts j.signed = subst P same s.is in
+    let Q : RootSlot → Type 0 = λ slot. IsSigned image place len bank (layout_of slot bank) p.all accepts j.signed in
+    let V : RootSlot → Type 0 = λ slot. IsValidLayout (layout_of slot bank) (length image) in
+    let g : IsGood image place len nv bank accepts = record {
+      fuses = p.all;
+      parts = j.signed;
+      header = j.header;
+      capsule = capsule;
+      provisioned = p.provisioned;
+      layout = subst V p.provision valid;
+      signed = subst Q p.provision (IsSigned-same image place len bank layout accepts fuses p.all j.signed p.provision p.floor p.capsule_row p.manifest_row signed);
+      framed = j.framed;
+      paged = j.paged;
+      capsule_key = capsule_key_is image place len bank layout fuses accepts j.signed signed ∙ ap (λ (c : CapsuleState). Some c.capsule_key) (sym j.found);
+      manifest_key = manifest_key_is image place len bank layout fuses accepts j.signed signed ∙ ap (λ (c : CapsuleState). Some c.manifest_key) (sym j.found);
+      found = j.found;
+    } in
+    (g, refl)
+
+-- ---- What is good is judged well.
+pub good_judged : (image nv : List ℕ) (place len : ℕ) (bank : Bank) (accepts : Acceptance) (g : IsGood image place len nv bank accepts) →
+    judge_capsule image place len bank (layout_of g.fuses.provision bank) g.fuses accepts ≡ Ok g.capsule
+unfolding judge_capsule
+good_judged image nv place len bank accepts g =
+    let here : Pages = pages_at image (end_of g.parts.inner + 128) g.header.map_bits in
+    let regions : List Region = g.parts.manifest.regions in
+    let same : g.capsule.pages ≡ here = ap (λ (c : CapsuleState). c.pages) g.found in
+    let P : Pages → Type 0 = λ pages. Serves image pages g.header.payload_len regions in
+    let serves : Serves image here g.header.payload_len regions = subst P same g.paged in
+    let a = signed_ends image place len bank (layout_of g.fuses.provision bank) g.fuses accepts g.parts g.signed in
+    let b = header_ends image (end_of g.parts.inner) (end_of g.parts.capsule) g.header g.framed in
+    let d = pages_end image (end_of g.parts.inner + 128) g.header regions serves in
+    let e = incoherent_none image here regions serves.coherent in
+    rw (a, b, d, e) (ap (λ (c : CapsuleState). Ok c) (sym g.found))
+
+pub good_found : (image nv : List ℕ) (place len : ℕ) (bank : Bank) (accepts : Acceptance) (fuses : FusesState) → StandForBank nv fuses bank → (g : IsGood image place len nv bank accepts) →
+    judge_capsule image place len bank (layout_of fuses.provision bank) fuses accepts ≡ Ok g.capsule
+good_found image nv place len bank accepts fuses p g =
+    let is = p.provisioned in
+    let here = g.provisioned in
+    let e : g.fuses ≡ p.all = cc in
+    let P : FusesState → Type 0 = λ f. judge_capsule image place len bank (layout_of f.provision bank) f accepts ≡ Ok g.capsule in
+    judge_capsule-same image place len bank (layout_of fuses.provision bank) accepts fuses p.all p.provision p.floor p.capsule_row p.manifest_row
+    ∙ ap (λ (slot : RootSlot). judge_capsule image place len bank (layout_of slot bank) p.all accepts) p.provision
+    ∙ subst P e (good_judged image nv place len bank accepts g)

@@ -1,0 +1,15 @@
+pub mod CountLaws
+pub mod LeastLaws
+pub mod IndexLaws
+pub mod PageLaws
+pub mod PageBytesLaws
+pub mod Fields
+pub mod Tests
+pub mod AnswerLemmas
+pub mod Parts
+pub mod PagesRead
+pub mod MapsLaw
+pub mod RegionBytesLaw
+pub mod GoodLaw
+pub mod GoodFacts
+pub mod MovedLaw

@@ -1,0 +1,83 @@
+-- The parts of the judgement of a capsule, as its calls find them one after the other.
+use Rattle.std.proofs.Common.{◌≡◌, ◌∙◌, ap, refl, sym, ℕ, ◌+◌, ◌<◌, ◌≤◌, nat_le, false, List, length, Result, Ok, Err}
+use Rattle.std.proofs.lemmas.Bool.{le-leb, lt-leb}
+use Rattle.pfr_flash.specs.Bytes.{bytes_at}
+use Rattle.pfr_flash.specs.FlashState.{FlashState, now, size_of}
+use Rattle.pfr_flash.specs.Reading.{OnlyReads}
+use Rattle.pfr_flash.specs.declared.layout.Layout.{Layout}
+use Rattle.pfr_flash.specs.declared.names.Bank.{Bank}
+use Rattle.pfr_flash.proofs.RangeLemmas.{length-now}
+use Rattle.pfr_flash.proofs.ReadingLemmas.{then_reads}
+use Rattle.pfr_engine.specs.Acceptance.{Acceptance}
+use Rattle.pfr_chain.specs.declared.judging.Chain.{Chain}
+use Rattle.pfr_fuses.specs.FusesState.{FusesState, floor_of}
+use Rattle.pfr_manifest.specs.Answer.{Refuses as Misreads}
+use Rattle.pfr_manifest.specs.Judge.{judge_manifest}
+use Rattle.pfr_manifest.specs.Manifest.{IsManifestOf}
+use Rattle.pfr_manifest.specs.declared.fail.ManifestFail.{ManifestFail}
+use Rattle.pfr_manifest.specs.declared.manifest.Manifest.{Manifest}
+use Rattle.pfr_capsule.specs.Answer.{Answers}
+use Rattle.pfr_capsule.specs.Judge.{judge_header, judge_numbers}
+use Rattle.pfr_capsule.specs.Judging.{◌>>=◌, ◌>>◌, require, by_manifest}
+use Rattle.pfr_capsule.specs.PageHeader.{page_header_of}
+use Rattle.pfr_capsule.specs.Signed.{IsSigned, IsCapsuleChain, IsInnerChain}
+use Rattle.pfr_capsule.specs.SignedJudge.{judge_capsule_chain, judge_inner_chain, judge_signed}
+use Rattle.pfr_capsule.specs.declared.fail.CapsuleFail.{CapsuleFail}
+use Rattle.pfr_capsule.specs.declared.fail.CapsuleFail.TheVariants as causes
+use Rattle.pfr_capsule.specs.declared.page_header.PageHeader.{PageHeader}
+use Rattle.pfr_capsule.proofs.AnswerLemmas.{manifest_refuses, refused_later}
+
+-- ---- the header, as its bytes are read
+pub header_judged : (image : List ℕ) (at end size : ℕ) (bytes : List ℕ) (header : PageHeader) → at + 128 ≤ end → bytes ≡ bytes_at image at 128 → header ≡ page_header_of bytes → size ≡ length image
+    → (answer : Result (Unit {0}) CapsuleFail) → judge_numbers header at end size ≡ answer → judge_header image at end ≡ (answer >> Ok header)
+unfolding judge_header
+header_judged image at end size bytes header fits read is long answer h =
+    let within = le-leb (at + 128) end fits in
+    let said : page_header_of (bytes_at image at 128) ≡ header = ap page_header_of (sym read) ∙ sym is in
+    let same : judge_numbers header at end (length image) ≡ answer = ap (λ (n : ℕ). judge_numbers header at end n) (sym long) ∙ h in
+    rw (within, said, same) refl
+
+-- ---- what is signed, as the chains and the manifest are found one after the other
+module _ (old mid late : FlashState) (place len : ℕ) (bank : Bank) (layout : Layout) (fuses : FusesState) (accepts : Acceptance) (capsule inner : Chain)
+    (first : OnlyReads old mid) (second : OnlyReads mid late)
+    (outer_found : judge_capsule_chain (now old) place len bank fuses accepts ≡ Ok capsule) (inner_found : judge_inner_chain (now mid) bank layout fuses accepts capsule ≡ Ok inner) where
+  -- reading leaves what is judged
+  same_content : judge_manifest (bytes_at (now old) inner.content_at inner.length) layout (length (now old)) ≡ judge_manifest (bytes_at (now late) inner.content_at inner.length) layout (size_of late)
+  same_content =
+      let same : now late ≡ now old = second.content ∙ first.content in
+      rw (← same, length-now late) refl
+
+  rest : judge_signed (now old) place len bank layout fuses accepts ≡ (by_manifest (judge_manifest (bytes_at (now late) inner.content_at inner.length) layout (size_of late)) >>= λ manifest.
+      require causes.SvnFloor (nat_le (floor_of fuses bank) manifest.svn) >> Ok (record { capsule = capsule; inner = inner; manifest = manifest }))
+  unfolding judge_signed
+  rest =
+      let found : judge_inner_chain (now old) bank layout fuses accepts capsule ≡ Ok inner = ap (λ (image : List ℕ). judge_inner_chain image bank layout fuses accepts capsule) (sym first.content) ∙ inner_found in
+      rw (outer_found, found, same_content) refl
+
+  pub manifest_refused : (new : FlashState) (cause : ManifestFail) → Misreads late new cause (judge_manifest (bytes_at (now late) inner.content_at inner.length) layout (size_of late)) →
+      Answers old new (Err (causes.Manifest cause)) (judge_signed (now old) place len bank layout fuses accepts)
+  manifest_refused new cause h =
+      let judged : Result Manifest ManifestFail = judge_manifest (bytes_at (now late) inner.content_at inner.length) layout (size_of late) in
+      refused_later old late new (causes.Manifest cause) (by_manifest judged) _ (then_reads first second) (λ e. rest ∙ rw e refl) (manifest_refuses late new cause judged h)
+
+  pub below_floor : (manifest : Manifest) → judge_manifest (bytes_at (now late) inner.content_at inner.length) layout (size_of late) ≡ Ok manifest → manifest.svn < floor_of fuses bank →
+      judge_signed (now old) place len bank layout fuses accepts ≡ Err causes.SvnFloor
+  below_floor manifest h below =
+      let test : nat_le (floor_of fuses bank) manifest.svn ≡ false = lt-leb (floor_of fuses bank) manifest.svn below in
+      rest ∙ rw (h, test) refl
+
+  pub signed_found : (manifest : Manifest) → judge_manifest (bytes_at (now late) inner.content_at inner.length) layout (size_of late) ≡ Ok manifest → floor_of fuses bank ≤ manifest.svn →
+      judge_signed (now old) place len bank layout fuses accepts ≡ Ok (record { capsule = capsule; inner = inner; manifest = manifest })
+  signed_found manifest h above =
+      let test = le-leb (floor_of fuses bank) manifest.svn above in
+      rest ∙ rw (h, test) refl
+
+  pub signed_is : (manifest : Manifest) → IsCapsuleChain (now old) place len bank fuses accepts capsule → IsInnerChain (now mid) bank layout fuses accepts capsule inner →
+      IsManifestOf (bytes_at (now late) inner.content_at inner.length) manifest layout (size_of late) → floor_of fuses bank ≤ manifest.svn →
+      IsSigned (now old) place len bank layout fuses accepts (record { capsule = capsule; inner = inner; manifest = manifest })
+  signed_is manifest outer within spelled above = record {
+    capsule = outer;
+    inner = rw first.content at within;
+    spelled = (let same : now late ≡ now old = second.content ∙ first.content in rw (← length-now late, same) at spelled);
+    svn = above;
+  }

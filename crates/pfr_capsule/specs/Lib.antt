@@ -1,0 +1,11 @@
+pub mod Answer
+pub mod Judging
+pub mod Signed
+pub mod SignedJudge
+pub mod PageHeader
+pub mod Maps
+pub mod Pages
+pub mod PageBytes
+pub mod CapsuleState
+pub mod Good
+pub mod Judge
