@@ -2,3 +2,6 @@ pub mod AnswerLemmas
 pub mod Parts
 pub mod RegionLemmas
 pub mod TrustedLaw
+pub mod RebuiltLaw
+pub mod LastingLaw
+pub mod LeavingLaw

@@ -1,24 +1,20 @@
 -- The regions of a manifest, one after the other.
-use Rattle.std.proofs.Common.{◌≡◌, ◌∙◌, ap, sym, refl, ℕ, ◌+◌, ◌<◌, ◌≤◌, Bool, true, false, List, [], ◌∷◌, length, drop, get_or, All, Ok, Err, arith}
+use Rattle.std.proofs.Common.{◌≡◌, ◌∙◌, ap, sym, subst, refl, ℕ, zero, suc, ◌+◌, ◌<◌, ◌≤◌, Bool, true, false, cond, List, [], ◌∷◌, length, drop, get_or, filter, All, Ok, Err, arith}
 use Rattle.std.specs.Bool.{Decides}
 use Rattle.std.proofs.lemmas.List.{drop_more, drop_all}
 use Rattle.std.proofs.lemmas.List.Elements.{All-nil, All-cons, All-head, All-tail, All-weaker}
-use Rattle.std.proofs.lemmas.Slice.Eq.{bytes_eq-Decides}
 use Rattle.pfr_flash.specs.declared.layout.Layout.{Layout}
-use Rattle.pfr_manifest.specs.Regions.{IsRegion}
+use Rattle.pfr_manifest.specs.Hashes.{HasHash, bytes_of}
+use Rattle.pfr_manifest.specs.Regions.{IsRegion, has_hash}
 use Rattle.pfr_manifest.specs.declared.region.Region.{Region}
 use Rattle.pfr_manifest.specs.declared.region.RegionHash.{RegionHash}
 use Rattle.pfr_manifest.specs.declared.region.RegionHash.TheVariants as hashes
 use Rattle.pfr_auth.specs.Judging.{◌>>◌, require}
-use Rattle.pfr_auth.specs.Judge.{have_hash, is_hashed, judge_regions}
-use Rattle.pfr_auth.specs.Regions.{HaveHash, IsHashed, IsInside, bytes_of}
+use Rattle.pfr_manifest.proofs.HashLemmas.{Decides-hash}
+use Rattle.pfr_auth.specs.Judge.{is_hashed, judge_regions}
+use Rattle.pfr_auth.specs.Regions.{IsHashed, IsInside}
 use Rattle.pfr_auth.specs.declared.fail.ActiveFail.TheVariants as causes
 use Rattle.pfr_auth.proofs.Parts.{passed_test}
-
-Decides-hash : (bytes : List ℕ) (hash : RegionHash) → Decides (have_hash bytes hash) (HaveHash bytes hash)
-Decides-hash bytes hashes.None = (λ _. tt, λ _. refl)
-Decides-hash bytes (hashes.Sha256 digest) = bytes_eq-Decides _ digest
-Decides-hash bytes (hashes.Sha384 digest) = bytes_eq-Decides _ digest
 
 Decides-hashed : (image : List ℕ) (region : Region) → Decides (is_hashed image region) (IsHashed image region)
 unfolding is_hashed
@@ -72,3 +68,25 @@ inside layout size region h = record { begins = omega (arith, h.some); ends = h.
 
 pub regions_inside : (layout : Layout) (size : ℕ) (regions : List Region) → All (IsRegion layout size) regions → All (IsInside size) regions
 regions_inside layout size regions h = All-weaker (IsRegion layout size) (IsInside size) (inside layout size) regions h
+
+-- ---- hashes
+-- where there is a hash, these bytes are those that have it
+pub same_hash : (bytes other : List ℕ) (hash : RegionHash) → (has_hash hash ≡ true → other ≡ bytes) → HasHash bytes hash → HasHash other hash
+same_hash bytes other hashes.None same h = tt
+same_hash bytes other (hashes.Sha256 digest) same h = subst (λ (b : List ℕ). HasHash b (hashes.Sha256 digest)) (sym (same refl)) h
+same_hash bytes other (hashes.Sha384 digest) same h = subst (λ (b : List ℕ). HasHash b (hashes.Sha384 digest)) (sym (same refl)) h
+
+-- ---- the static regions
+-- what holds of the elements that pass a test holds of each element that passes it
+pub of_filtered : {X : Type 0} (p : X → Bool) (P : X → Type 0) (xs : List X) → All P (filter p xs) → (k : ℕ) (d : X) → k < length xs → p (get_or xs k d) ≡ true → P (get_or xs k d)
+of_filtered p P [] h k d below e = absurd (omega (arith, below))
+of_filtered p P (x ∷ xs) h zero d below e = first (p x) e h
+  where
+    first : (b : Bool) → b ≡ true → All P (cond b (x ∷ filter p xs) (filter p xs)) → P x
+    first true e h = h 0 d (omega arith)
+    first false e h = absurd cc
+of_filtered p P (x ∷ xs) h (suc k) d below e = of_filtered p P xs (rest (p x) h) k d (omega arith) e
+  where
+    rest : (b : Bool) → All P (cond b (x ∷ filter p xs) (filter p xs)) → All P (filter p xs)
+    rest true h = λ j d below. h (suc j) d (omega arith)
+    rest false h = h

@@ -3,20 +3,10 @@ use Rattle.std.specs.Prelude.{◌≡◌, Option, Some, None, Result, Ok, Err, Ma
 use Rattle.pfr_flash.specs.FlashState.{FlashState}
 use Rattle.pfr_flash.specs.Reading.{FailsReading}
 use Rattle.pfr_flash.specs.declared.flash.FlashFail.{FlashFail}
-use Rattle.pfr_chain.specs.declared.fail.ChainFail.{ChainFail}
-use Rattle.pfr_chain.specs.declared.fail.ChainFail.TheVariants as chain
-use Rattle.pfr_manifest.specs.declared.fail.ManifestFail.{ManifestFail}
-use Rattle.pfr_manifest.specs.declared.fail.ManifestFail.TheVariants as manifest
+use Rattle.pfr_chain.specs.Answer.{chain_failure}
+use Rattle.pfr_manifest.specs.Answer.{manifest_failure}
 use Rattle.pfr_auth.specs.declared.fail.ActiveFail.{ActiveFail}
 use Rattle.pfr_auth.specs.declared.fail.ActiveFail.TheVariants.{Chain, Manifest, SvnFloor, RegionHash, Flash}
-
-abbrev pub chain_failure : ChainFail → Option FlashFail
-chain_failure (chain.Flash fail) = Some fail
-chain_failure cause = None
-
-abbrev pub manifest_failure : ManifestFail → Option FlashFail
-manifest_failure (manifest.Flash fail) = Some fail
-manifest_failure cause = None
 
 -- the device's failure, where that is the cause
 abbrev pub failure_of : ActiveFail → Option FlashFail

@@ -1,8 +1,5 @@
 -- The judgement of a bank's active image: its parts in the order of the causes, the first that fails is the answer.
-use Rattle.std.specs.Prelude.{ℕ, ◌+◌, Bool, true, nat_le, List, [], ◌∷◌, length, Result, Ok}
-use Rattle.std.specs.Str.{bytes_eq}
-use Rattle.sha2.specs.Sha256.{sha256}
-use Rattle.sha2.specs.Sha512.{sha384}
+use Rattle.std.specs.Prelude.{ℕ, ◌+◌, Bool, nat_le, List, [], ◌∷◌, length, Result, Ok}
 use Rattle.pfr_flash.specs.Bytes.{bytes_at}
 use Rattle.pfr_flash.specs.Names.{manifest_type}
 use Rattle.pfr_flash.specs.declared.layout.Layout.{Layout}
@@ -11,13 +8,11 @@ use Rattle.pfr_engine.specs.Acceptance.{Acceptance}
 use Rattle.pfr_chain.specs.Judge.{judge}
 use Rattle.pfr_fuses.specs.FusesState.{FusesState, floor_of, row_of}
 use Rattle.pfr_fuses.specs.RootSlot.{layout_of}
+use Rattle.pfr_manifest.specs.Hashes.{bytes_of, have_hash}
 use Rattle.pfr_manifest.specs.Judge.{judge_manifest}
 use Rattle.pfr_manifest.specs.declared.manifest.Manifest.{Manifest}
 use Rattle.pfr_manifest.specs.declared.region.Region.{Region}
-use Rattle.pfr_manifest.specs.declared.region.RegionHash.{RegionHash}
-use Rattle.pfr_manifest.specs.declared.region.RegionHash.TheVariants as hashes
 use Rattle.pfr_auth.specs.Judging.{◌>>=◌, ◌>>◌, require, by_chain, by_manifest}
-use Rattle.pfr_auth.specs.Regions.{bytes_of}
 use Rattle.pfr_auth.specs.declared.fail.ActiveFail.{ActiveFail}
 use Rattle.pfr_auth.specs.declared.fail.ActiveFail.TheVariants.{SvnFloor, RegionHash as WrongHash}
 
@@ -27,11 +22,6 @@ judge_signed image bank fuses accepts = do
   let layout : Layout = layout_of fuses.provision bank
   chain ← by_chain (judge image layout.manifest_at layout.manifest_len (manifest_type bank) fuses.provision.root (row_of fuses (manifest_type bank)) accepts)
   by_manifest (judge_manifest (bytes_at image chain.content_at chain.length) layout (length image))
-
-abbrev pub have_hash : List ℕ → RegionHash → Bool
-have_hash bytes hashes.None = true
-have_hash bytes (hashes.Sha256 digest) = bytes_eq (sha256 bytes) digest
-have_hash bytes (hashes.Sha384 digest) = bytes_eq (sha384 bytes) digest
 
 -- whether a region of an image has its hash
 unfoldable pub is_hashed : List ℕ → Region → Bool

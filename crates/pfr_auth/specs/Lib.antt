@@ -3,3 +3,6 @@ pub mod Regions
 pub mod Judging
 pub mod Judge
 pub mod Trusted
+pub mod Areas
+pub mod Lasting
+pub mod Leaving

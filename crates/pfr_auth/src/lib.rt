@@ -1,4 +1,4 @@
-//! When the active image of a bank is trusted.
+//! When the active image of a bank is trusted, and the capsule in an area of it is good.
 #![tactic(auto)]
 
 ghost use Rattle.std.specs.Prelude.{◌≡◌, ℕ, List, IfOk, Ok};
@@ -8,12 +8,15 @@ ghost use Rattle.pfr_flash.specs.Reading.{OnlyReads};
 ghost use Rattle.pfr_fuses.specs.RootSlot.{layout_of};
 ghost use Rattle.pfr_auth.specs.Answer.{Answers};
 ghost use Rattle.pfr_auth.specs.Judge.{judge_active};
+ghost use Rattle.pfr_auth.specs.Lasting.{KeepsTrustedBytes, KeepsTrustedFuses};
 ghost use Rattle.pfr_auth.specs.Trusted.{IsTrusted, StandFor};
 
+mod areas;
 mod fail;
 mod hashes;
 mod judging;
 
+pub use areas::{Area, capsule_at};
 pub use fail::ActiveFail;
 use pfr_chain::Engine;
 use pfr_flash::{Bank, Flash, Layout};
@@ -37,6 +40,10 @@ pub fn active<F: Flash, E: Engine>(
     // What is found to be trusted is, by this manifest, with each store that the fuses stand for.
     ensures ok { let image = now (F.device flash.old) in
         IfOk result (λ m. (nv : List ℕ) → StandFor nv fuses.now bank → (t : IsTrusted image nv bank (E.accepts engine.now)) × (t.manifest ≡ m)) }
+    // It stays trusted while the bytes stay that its trust rests on.
+    ensures lasts { let image = now (F.device flash.old) in
+        IfOk result (λ m. (nv later after : List ℕ) → StandFor nv fuses.now bank → KeepsTrustedBytes layout.now m image later → KeepsTrustedFuses bank nv after →
+        (t : IsTrusted later after bank (E.accepts engine.now)) × (t.manifest ≡ m)) }
     // What is trusted is found to be, unless the device fails.
     ensures only { let image = now (F.device flash.old) in
         (nv : List ℕ) → StandFor nv fuses.now bank → (t : IsTrusted image nv bank (E.accepts engine.now)) →

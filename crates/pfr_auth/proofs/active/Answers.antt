@@ -12,6 +12,7 @@ use Rattle.pfr_auth.specs.Answer.{Answers}
 use Rattle.pfr_auth.specs.Judge.{judge_active}
 use Rattle.pfr_auth.specs.Trusted.{IsSigned, IsTrusted, StandFor}
 use Rattle.pfr_auth.specs.declared.fail.ActiveFail.{ActiveFail}
+use Rattle.pfr_auth.proofs.LastingLaw.{answer_lasts}
 use Rattle.pfr_auth.proofs.TrustedLaw.{judged_trusted_by, trusted_found}
 use Rattle.pfr_auth.proofs.active.Goals as goal
 
@@ -30,3 +31,6 @@ returns-clause-ok g c =
 
 pub returns-clause-only : goal.returns-clause-only
 returns-clause-only g c = λ nv p t. rw (trusted_found _ nv _ _ _ p t) at c.judged.ensures.exact
+
+pub returns-clause-lasts : goal.returns-clause-lasts
+returns-clause-lasts g c = answer_lasts (now (g.F.Flash.device c.args.flash.now)) c.args.bank _ c.args.fuses.now c.args.layout.now c.judged.result c.requires.layout (returns-clause-ok g c)
