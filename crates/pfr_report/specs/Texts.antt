@@ -1,13 +1,17 @@
 -- The lines of a report.
-use Rattle.std.specs.Prelude.{◌≡◌, ◌⊎◌, ℕ, List, [], ◌∷◌, ◌++◌, codes, decimal}
+use Rattle.std.specs.Prelude.{◌≡◌, ◌⊎◌, ℕ, List, [], ◌∷◌, ◌++◌, Option, Some, None, codes, decimal}
 use Rattle.std.specs.List.{flat_map}
 use Rattle.pfr_flash.specs.declared.names.Bank.{Bank}
 use Rattle.pfr_flash.specs.declared.names.Bank.TheVariants as bank
+use Rattle.pfr_flash.specs.declared.names.Device.{Device}
+use Rattle.pfr_flash.specs.declared.names.Device.TheVariants as device
 use Rattle.pfr_report.specs.Words.{rule_word, active_text, IsFound}
 use Rattle.pfr_report.specs.declared.note.LockWhy.{LockWhy}
-use Rattle.pfr_report.specs.declared.note.LockWhy.TheVariants.{Unprovisioned, Layout, NotRestored}
+use Rattle.pfr_report.specs.declared.note.LockWhy.TheVariants.{Unprovisioned, SlotsSpent, Layout, FlashFault, StoreFault, NotRestored}
+use Rattle.pfr_report.specs.declared.note.ProvisionWhy.{ProvisionWhy}
+use Rattle.pfr_report.specs.declared.note.ProvisionWhy.TheVariants as provision
 use Rattle.pfr_report.specs.declared.note.What.{What}
-use Rattle.pfr_report.specs.declared.note.What.TheVariants.{Power, Held, Released, Locked, Untrusted}
+use Rattle.pfr_report.specs.declared.note.What.TheVariants.{Power, Held, Released, Locked, Lost, Untrusted, Provisioned, ProvisionRefused, Ignored}
 use Rattle.pfr_report.specs.declared.note.Note.{Note}
 
 abbrev pub bank_word : Bank → List ℕ
@@ -16,15 +20,37 @@ bank_word bank.Pch = codes "pch"
 
 abbrev pub lock_word : LockWhy → List ℕ
 lock_word Unprovisioned = codes "unprovisioned"
+lock_word SlotsSpent = codes "slots-spent"
 lock_word (Layout rule) = codes "layout " ++ rule_word rule
+lock_word FlashFault = codes "flash-fault"
+lock_word StoreFault = codes "store-fault"
 lock_word NotRestored = codes "not-restored"
+
+abbrev pub device_word : Device → List ℕ
+device_word device.Bmc = codes "bmc"
+device_word device.Pch = codes "pch"
+device_word device.Nv = codes "nv"
+
+-- the word behind `lost`, and a space before it, where a device lost the power
+abbrev pub lost_word : Option Device → List ℕ
+lost_word None = []
+lost_word (Some device) = codes " " ++ device_word device
+
+abbrev pub provision_word : ProvisionWhy → List ℕ
+provision_word provision.AlreadyProvisioned = codes "already-provisioned"
+provision_word (provision.LayoutBad bank rule) = codes "layout " ++ (bank_word bank ++ (codes " " ++ rule_word rule))
+provision_word provision.SlotsSpent = codes "slots-spent"
 
 abbrev pub what_text : What → List ℕ
 what_text Power = codes "power"
 what_text (Held bank counts) = bank_word bank ++ codes " held"
 what_text (Released bank svn counts) = bank_word bank ++ (codes " released svn " ++ decimal svn)
 what_text (Locked bank why counts) = bank_word bank ++ (codes " locked " ++ lock_word why)
+what_text (Lost device counts) = codes "lost" ++ lost_word device
 what_text (Untrusted bank why) = bank_word bank ++ (codes " untrusted " ++ active_text why)
+what_text Provisioned = codes "provisioned"
+what_text (ProvisionRefused why) = codes "provision refused " ++ provision_word why
+what_text Ignored = codes "ignored"
 
 -- the line of a note: the item's number, a space, the text
 unfoldable pub note_text : Note → List ℕ

@@ -1,12 +1,13 @@
 // The words of causes.
 ghost use Rattle.std.specs.Prelude.{◌≡◌, None, Some};
 ghost use Rattle.pfr_report.specs.Words.{chain_word, manifest_number, manifest_word, rule_word};
-ghost use Rattle.pfr_auth.specs.Answer.{chain_failure, manifest_failure};
-ghost use Rattle.pfr_report.specs.Texts.{bank_word, lock_word};
+ghost use Rattle.pfr_chain.specs.Answer.{chain_failure};
+ghost use Rattle.pfr_manifest.specs.Answer.{manifest_failure};
+ghost use Rattle.pfr_report.specs.Texts.{bank_word, lock_word, lost_word, provision_word};
 
-use crate::note::LockWhy;
+use crate::note::{LockWhy, ProvisionWhy};
 use pfr_chain::ChainFail;
-use pfr_flash::{Bank, LayoutRule};
+use pfr_flash::{Bank, Device, LayoutRule};
 use pfr_manifest::ManifestFail;
 
 pub fn bank_word(bank: Bank) -> &'static [u8]
@@ -23,10 +24,41 @@ pub fn lock_word(why: LockWhy) -> &'static [u8]
 {
     match why {
         LockWhy::Unprovisioned => b"unprovisioned",
+        LockWhy::SlotsSpent => b"slots-spent",
         LockWhy::Layout(LayoutRule::Align) => b"layout align",
         LockWhy::Layout(LayoutRule::Outside) => b"layout outside",
         LockWhy::Layout(LayoutRule::Overlap) => b"layout overlap",
+        LockWhy::FlashFault => b"flash-fault",
+        LockWhy::StoreFault => b"store-fault",
         LockWhy::NotRestored => b"not-restored",
+    }
+}
+
+/// The word of a provision's cause.
+pub fn provision_word(why: ProvisionWhy) -> &'static [u8]
+    ensures { result.now ≡ provision_word why }
+{
+    match why {
+        ProvisionWhy::AlreadyProvisioned => b"already-provisioned",
+        ProvisionWhy::LayoutBad(Bank::Bmc, LayoutRule::Align) => b"layout bmc align",
+        ProvisionWhy::LayoutBad(Bank::Bmc, LayoutRule::Outside) => b"layout bmc outside",
+        ProvisionWhy::LayoutBad(Bank::Bmc, LayoutRule::Overlap) => b"layout bmc overlap",
+        ProvisionWhy::LayoutBad(Bank::Pch, LayoutRule::Align) => b"layout pch align",
+        ProvisionWhy::LayoutBad(Bank::Pch, LayoutRule::Outside) => b"layout pch outside",
+        ProvisionWhy::LayoutBad(Bank::Pch, LayoutRule::Overlap) => b"layout pch overlap",
+        ProvisionWhy::SlotsSpent => b"slots-spent",
+    }
+}
+
+/// The word behind `lost`, with a space before it; empty where no device lost the power.
+pub fn lost_word(device: Option<Device>) -> &'static [u8]
+    ensures { result.now ≡ lost_word device }
+{
+    match device {
+        None => b"",
+        Some(Device::Bmc) => b" bmc",
+        Some(Device::Pch) => b" pch",
+        Some(Device::Nv) => b" nv",
     }
 }
 

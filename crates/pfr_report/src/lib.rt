@@ -7,5 +7,5 @@ mod note;
 mod notes;
 
 pub use lines::write_note;
-pub use note::{LockWhy, Note, What};
+pub use note::{LockWhy, Note, ProvisionWhy, What};
 pub use notes::Notes;

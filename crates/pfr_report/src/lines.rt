@@ -2,10 +2,12 @@
 ghost use Rattle.std.specs.Prelude.{None, ◌≡◌, ◌++◌, ℕ, codes, decimal};
 ghost use Rattle.pfr_shelf.specs.Pieces.{Writes};
 ghost use Rattle.pfr_report.specs.Words.{active_text, manifest_number, manifest_word, numbered, IsFound};
-ghost use Rattle.pfr_auth.specs.Answer.{manifest_failure};
+ghost use Rattle.pfr_manifest.specs.Answer.{manifest_failure};
 ghost use Rattle.pfr_report.specs.Texts.{bank_word, note_text, HasText};
 
-use crate::cause_words::{bank_word, chain_word, lock_word, manifest_number, manifest_word};
+use crate::cause_words::{
+    bank_word, chain_word, lock_word, lost_word, manifest_number, manifest_word, provision_word,
+};
 use crate::note::{Note, What};
 use itoa::Buffer;
 use pfr_auth::ActiveFail;
@@ -125,6 +127,15 @@ pub fn write_note<K: Sink>(note: &Note, out: &mut K) -> Result<(), SinkFail>
                 b"\n",
             ],
         ),
+        What::Lost { device, .. } => {
+            write_pieces(out, &[item, b" lost", lost_word(device), b"\n"])
+        }
         What::Untrusted { bank, why } => write_untrusted(note.item, bank, why, out),
+        What::Provisioned => write_pieces(out, &[item, b" provisioned\n"]),
+        What::ProvisionRefused { why } => write_pieces(
+            out,
+            &[item, b" provision refused ", provision_word(why), b"\n"],
+        ),
+        What::Ignored => write_pieces(out, &[item, b" ignored\n"]),
     }
 }

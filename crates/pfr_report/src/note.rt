@@ -1,17 +1,34 @@
 // What the platform notes.
 
 use pfr_auth::ActiveFail;
-use pfr_flash::{Bank, Counts, LayoutRule};
+use pfr_flash::{Bank, Counts, Device, LayoutRule};
 
 /// Why a bank is locked.
 #[derive(Clone, Copy, Debug, PartialEq, Eq)]
 pub enum LockWhy {
-    /// No slot of the store provisions the platform.
+    /// No slot of the store provisions the platform, and one is blank yet.
     Unprovisioned,
+    /// No slot of the store provisions the platform, and none is blank.
+    SlotsSpent,
     /// The layout that the store provisions for the bank breaks this rule.
     Layout(LayoutRule),
+    /// The bank's own device failed while the bank was in work.
+    FlashFault,
+    /// The store failed while the bank was in work.
+    StoreFault,
     /// The active image isn't trusted, and was not restored.
     NotRestored,
+}
+
+/// Why a provision is refused.
+#[derive(Clone, Copy, Debug, PartialEq, Eq)]
+pub enum ProvisionWhy {
+    /// The platform is provisioned already.
+    AlreadyProvisioned,
+    /// The layout for this bank breaks this rule.
+    LayoutBad(Bank, LayoutRule),
+    /// No slot of the store is blank.
+    SlotsSpent,
 }
 
 /// What happened. Counts are those of the operations done on each device up to that moment.
@@ -36,11 +53,25 @@ pub enum What {
         why: LockWhy,
         counts: Counts,
     },
+    /// The platform's power was lost in a call of this device, or was taken by an event where there is none.
+    /// Both banks are off.
+    Lost {
+        device: Option<Device>,
+        counts: Counts,
+    },
     /// The bank's active image isn't trusted.
     Untrusted {
         bank: Bank,
         why: ActiveFail,
     },
+    /// The platform was provisioned.
+    Provisioned,
+    /// The platform was not provisioned, and no slot was written.
+    ProvisionRefused {
+        why: ProvisionWhy,
+    },
+    /// The banks don't take the event as they stand.
+    Ignored,
 }
 
 /// What happened in an item of the script; items are numbered from 1.
