@@ -1,0 +1,333 @@
+-- Fuses are never taken back, and a provision never changes.
+use Rattle.std.proofs.Common.{◌≡◌, ◌∙◌, refl, sym, ap, subst, ℕ, ◌<◌, ◌≤◌, arith, List, [], ◌∷◌, ◌++◌, length, length-append, take, drop, All, Result, Ok, Err, ◌⊎◌, inl, inr}
+use Rattle.std.specs.Prelude.{slice_index_or}
+use Rattle.std.proofs.lemmas.Bool.{cases_lt}
+use Rattle.std.proofs.lemmas.List.{append-nil, take_all}
+use Rattle.std.proofs.lemmas.Nat.{and_le_l}
+use Rattle.std.specs.Prelude.{bit_and, zero, suc, ◌*◌}
+use Rattle.std.proofs.lemmas.List.Elements.{All-cons, All-append, All-take, All-drop, All-replicate}
+use Rattle.pfr_flash.specs.Bytes.{and_bytes, blank, bytes_at, continued, written}
+use Rattle.pfr_flash.specs.Operation.{Operation, Erase, Program, Torn, applied, play}
+use Rattle.pfr_flash.specs.FlashState.{FlashState, now, upto, size_of, op_count_of}
+use Rattle.pfr_flash.specs.Moved.{Extends}
+use Rattle.pfr_flash.specs.Plan.{IsPart, DoesPart}
+use Rattle.pfr_flash.specs.Range.{AllWithin}
+use Rattle.pfr_flash.proofs.MovedLemmas.{Extends-trans, Extends-length}
+use Rattle.pfr_flash.proofs.PlayLemmas.{length-play}
+use Rattle.pfr_flash.proofs.StateLemmas.{upto-Extends}
+use Rattle.pfr_engine.specs.Acceptance.{Acceptance}
+use Rattle.pfr_fuses.specs.Changes.{migration, migrated, AreRows}
+use Rattle.pfr_fuses.specs.FusesState.{FusesState}
+use Rattle.pfr_fuses.specs.FusesOf.{fuses_of, fuses_with, floor_fuses, row_fuses}
+use Rattle.pfr_fuses.specs.Growth.{NeverGoesBack, KeepsProvision}
+use Rattle.pfr_fuses.specs.Provisioning.{judge_provision, provision_plan}
+use Rattle.pfr_fuses.specs.RootSlot.{IsSlot}
+use Rattle.pfr_fuses.specs.Slots.{IsProvisionedBy, slot_at}
+use Rattle.pfr_fuses.specs.declared.fuse_fail.FuseFail.{FuseFail}
+use Rattle.pfr_fuses.specs.declared.profile.Profile.{Profile}
+use Rattle.pfr_fuses.specs.declared.profile.Profile.TheVariants.{One, Two}
+use Rattle.pfr_fuses.specs.declared.root_slot.RootSlot.{RootSlot}
+use Rattle.pfr_fuses.proofs.BlankLemmas.{judged-ok}
+use Rattle.pfr_fuses.proofs.GrowthLemmas.{at_each, KeepsProvision-plan, NeverGoesBack-programs, NeverGoesBack-trans}
+use Rattle.pfr_fuses.proofs.MigrationLemmas.{Holds, migration-part, first_holds, Grows-holds}
+use Rattle.pfr_fuses.proofs.RootSlotLemmas.{length-slot}
+use Rattle.pfr_fuses.proofs.StandsLemmas.{fuses_of-ok, fuses_of-stands}
+use Rattle.pfr_script.specs.declared.arm.Arm.{Arm}
+use Rattle.pfr_script.specs.declared.event.Event.{Event}
+use Rattle.pfr_script.specs.declared.event.Event.TheVariants as event
+use Rattle.pfr_script.specs.declared.item.Item.{Item}
+use Rattle.pfr_script.specs.declared.item.Item.TheVariants as item
+use Rattle.pfr_calm.specs.Story.{Past, Story}
+use Rattle.pfr_calm.specs.World.{World, story_of}
+use Rattle.pfr_calm.specs.Plans.{migration_in, migration_by}
+use Rattle.pfr_calm.specs.Turn.{Turn}
+use Rattle.pfr_calm.specs.Run.{Did, Reached, armed}
+use Rattle.pfr_calm.proofs.NoteLaws.{Turn-moved}
+use Rattle.pfr_calm.proofs.FuseLaws.{profile_kept, rows_kept}
+use Rattle.pfr_calm.proofs.StoreLaws.{Stored, operations_in, judged_here, Turn-stored}
+use Rattle.pfr_calm.proofs.RunLaws.{armed_story}
+
+-- ---- a step
+did_part : (plan : List Operation) (old new : World) → Stored plan (story_of old) (story_of new) → DoesPart plan old.nv new.nv
+did_part plan old new p = record { added = p.added; is = p.is; part = p.part }
+
+migration_within : (fuses : FusesState) → AreRows fuses → AllWithin 2048 30720 (migration fuses)
+migration_within fuses rows = (
+  record { low = omega arith; high = omega arith },
+  (record { low = omega arith; high = omega (arith, length_migrated fuses rows) }, (record { low = omega arith; high = omega arith }, tt)),
+)
+  where
+    length_migrated : (fuses : FusesState) → AreRows fuses → length (migrated fuses) ≡ 160
+    length_migrated fuses rows = simp (length-append, rows.bmc_floor, rows.pch_floor, rows.pch_manifest, rows.pch_capsule, rows.bmc_manifest, rows.bmc_capsule) (omega arith)
+
+by_within : (p : Profile) (fuses : FusesState) → AreRows fuses → AllWithin 2048 30720 (migration_by p fuses)
+by_within One fuses rows = migration_within fuses rows
+by_within Two fuses rows = tt
+
+in_within : (nv : List ℕ) (read : Result FusesState FuseFail) → fuses_of nv ≡ read → AllWithin 2048 30720 (migration_in read)
+in_within nv (Ok fuses) f = by_within fuses.profile fuses (rows_kept nv fuses f)
+in_within nv (Err cause) f = tt
+
+provision_keeps : (root : RootSlot) (old new : FlashState) (m n : ℕ) (r : Result ℕ FuseFail) → judge_provision (now old) root m n ≡ r → size_of old ≡ 32768 → new.start ≡ old.start
+    → DoesPart (operations_in root r) old new → KeepsProvision old new
+provision_keeps root old new m n (Ok number) j size start did = record {
+  keeps = λ k slot low high by. absurd (let can = judged-ok (now old) root m n number j in can.unset.gates slot by.within by.gate);
+}
+provision_keeps root old new m n (Err cause) j size start did = KeepsProvision-plan 2048 0 [] old new size start did (omega arith) tt
+
+-- A slot that provisions the platform keeps doing so, with the same bytes, at each moment of a step.
+pub Turn-keeps_provision : (accepts : Acceptance) (e : Event) (old new : World) → size_of old.nv ≡ 32768 → Turn accepts e old new → KeepsProvision old.nv new.nv
+Turn-keeps_provision accepts event.Power old new size t =
+    let did = Turn-stored accepts event.Power old new t in
+    KeepsProvision-plan 2048 30720 (migration_in (fuses_of (now old.nv))) old.nv new.nv size did.start (did_part (migration_in (fuses_of (now old.nv))) old new did) (omega arith)
+    (in_within (now old.nv) (fuses_of (now old.nv)) refl)
+Turn-keeps_provision accepts event.Off old new size t =
+    let did = Turn-stored accepts event.Off old new t in KeepsProvision-plan 2048 0 [] old.nv new.nv size did.start (did_part [] old new did) (omega arith) tt
+Turn-keeps_provision accepts (event.Provision root) old new size t =
+    let did = Turn-stored accepts (event.Provision root) old new t in
+    provision_keeps root old.nv new.nv (length old.bmc.start) (length old.pch.start) (judged_here root (story_of old)) refl size did.start
+    (did_part (operations_in root (judged_here root (story_of old))) old new did)
+
+-- ---- fuses that are bytes
+abbrev pub AreBytes : List ℕ → Type 0
+AreBytes xs = All (λ (x : ℕ). x < 256) xs
+
+bytes_continued : (xs : List ℕ) (n : ℕ) → AreBytes xs → AreBytes (continued xs n)
+unfolding continued
+bytes_continued xs n p = All-take (λ (x : ℕ). x < 256) n _ (All-append (λ (x : ℕ). x < 256) xs _ p (All-replicate (λ (x : ℕ). x < 256) n 255 (omega arith)))
+
+bytes_row : (nv : List ℕ) (at count n : ℕ) → AreBytes nv → AreBytes (continued (bytes_at nv at count) n)
+bytes_row nv at count n p = bytes_continued (bytes_at nv at count) n (All-take (λ (x : ℕ). x < 256) count (drop at nv) (All-drop (λ (x : ℕ). x < 256) at nv p))
+
+both_bytes : (xs ys : List ℕ) → AreBytes xs → AreBytes ys → AreBytes (xs ++ ys)
+both_bytes xs ys p q = All-append (λ (x : ℕ). x < 256) xs ys p q
+
+bytes_with : (nv slot : List ℕ) → AreBytes nv → AreBytes (migrated (fuses_with nv slot))
+unfolding floor_fuses row_fuses
+bytes_with nv slot p =
+    both_bytes _ _ (bytes_row nv _ _ 16 p) (both_bytes _ _ (bytes_row nv _ _ 16 p) (both_bytes _ _ (bytes_row nv _ _ 32 p)
+    (both_bytes _ _ (bytes_row nv _ _ 32 p) (both_bytes _ _ (bytes_row nv _ _ 32 p) (bytes_row nv _ _ 32 p)))))
+
+bytes_migrated : (nv : List ℕ) (fuses : FusesState) → fuses_of nv ≡ Ok fuses → AreBytes nv → AreBytes (migrated fuses)
+bytes_migrated nv fuses f p = let found = fuses_of-ok nv fuses f in subst (λ (x : FusesState). AreBytes (migrated x)) (sym found.2) (bytes_with nv (slot_at nv found.0) p)
+
+-- ---- growth over a step
+migrated_grows : (old new : FlashState) (fuses : FusesState) → size_of old ≡ 32768 → new.start ≡ old.start → fuses_of (now old) ≡ Ok fuses → fuses.profile ≡ One → AreBytes (now old)
+    → DoesPart (migration fuses) old new → NeverGoesBack old new
+migrated_grows old new fuses size start f one bytes did =
+    let nv = now old in
+    let nv_size : length nv ≡ 32768 = length-play old.start old.ops ∙ size in
+    let stands = fuses_of-stands nv fuses nv_size f in
+    let rows = rows_kept nv fuses f in
+    let length_is : length (migrated fuses) ≡ 160 = simp (length-append, rows.bmc_floor, rows.pch_floor, rows.pch_manifest, rows.pch_capsule, rows.bmc_manifest, rows.bmc_capsule) (omega arith) in
+    let are = bytes_migrated nv fuses f bytes in
+    let each : (added : List Operation) → IsPart nv (migration fuses) added → Holds nv fuses (play nv added) =
+    λ added h. migration-part nv fuses nv_size (sym (profile_kept nv fuses f) ∙ one) rows (λ i below. are i 0 (omega (arith, below, length_is))) (first_holds nv fuses stands) added h in
+    let at : (n : ℕ) → op_count_of old ≤ n → Holds nv fuses (upto new n) = λ n le. at_each (Holds nv fuses) (migration fuses) old new start did each n le in
+    record { grows = λ m n low order high. Grows-holds nv fuses (upto new m) (upto new n) (at m low) (at n (omega arith)) }
+
+nothing_grows : (old new : FlashState) → size_of old ≡ 32768 → new.start ≡ old.start → DoesPart [] old new → NeverGoesBack old new
+nothing_grows old new size start did = NeverGoesBack-programs 0 0 [] old new size start did tt tt (inr (omega arith))
+
+by_grows : (old new : FlashState) (fuses : FusesState) (p : Profile) → size_of old ≡ 32768 → new.start ≡ old.start → fuses_of (now old) ≡ Ok fuses → fuses.profile ≡ p → AreBytes (now old)
+    → DoesPart (migration_by p fuses) old new → NeverGoesBack old new
+by_grows old new fuses One size start f e bytes did = migrated_grows old new fuses size start f e bytes did
+by_grows old new fuses Two size start f e bytes did = nothing_grows old new size start did
+
+in_grows : (old new : FlashState) (read : Result FusesState FuseFail) → size_of old ≡ 32768 → new.start ≡ old.start → fuses_of (now old) ≡ read → AreBytes (now old)
+    → DoesPart (migration_in read) old new → NeverGoesBack old new
+in_grows old new (Ok fuses) size start f bytes did = by_grows old new fuses fuses.profile size start f refl bytes did
+in_grows old new (Err cause) size start f bytes did = nothing_grows old new size start did
+
+provision_grows : (root : RootSlot) (old new : FlashState) (m n : ℕ) (r : Result ℕ FuseFail) → judge_provision (now old) root m n ≡ r → size_of old ≡ 32768 → new.start ≡ old.start → IsSlot root
+    → DoesPart (operations_in root r) old new → NeverGoesBack old new
+provision_grows root old new m n (Ok number) j size start slot did =
+    let can = judged-ok (now old) root m n number j in
+    let below = can.slot.within in
+    let long = length-slot root slot in
+    NeverGoesBack-programs 0 2048 (provision_plan number root) old new size start did
+    (omega (arith, long, below), (omega (arith, below), tt))
+    (record { low = omega arith; high = omega (arith, long, below) }, (record { low = omega arith; high = omega (arith, below) }, tt))
+    (inr (omega arith))
+provision_grows root old new m n (Err cause) j size start slot did = nothing_grows old new size start did
+
+-- what a script provisions is a slot
+abbrev pub IsKnownSlot : Event → Type 0
+IsKnownSlot (event.Provision root) = IsSlot root
+IsKnownSlot e = Unit {0}
+
+-- Fuses are never taken back in a step.
+pub Turn-grows : (accepts : Acceptance) (e : Event) (old new : World) → size_of old.nv ≡ 32768 → AreBytes (now old.nv) → IsKnownSlot e → Turn accepts e old new → NeverGoesBack old.nv new.nv
+Turn-grows accepts event.Power old new size bytes slot t =
+    let did = Turn-stored accepts event.Power old new t in
+    in_grows old.nv new.nv (fuses_of (now old.nv)) size did.start refl bytes (did_part (migration_in (fuses_of (now old.nv))) old new did)
+Turn-grows accepts event.Off old new size bytes slot t =
+    let did = Turn-stored accepts event.Off old new t in nothing_grows old.nv new.nv size did.start (did_part [] old new did)
+Turn-grows accepts (event.Provision root) old new size bytes slot t =
+    let did = Turn-stored accepts (event.Provision root) old new t in
+    provision_grows root old.nv new.nv (length old.bmc.start) (length old.pch.start) (judged_here root (story_of old)) refl size did.start slot
+    (did_part (operations_in root (judged_here root (story_of old))) old new did)
+
+-- ---- whole runs
+-- what was done to the store between two moments
+pub record StoreMoved (old new : World) : Type 0 where
+  pub start : new.nv.start ≡ old.nv.start
+  pub ops : Extends old.nv.ops new.nv.ops
+
+StoreMoved-refl : (w : World) → StoreMoved w w
+StoreMoved-refl w = record { start = refl; ops = record { more = []; is = sym (append-nil w.nv.ops) } }
+
+StoreMoved-trans : (a b c : World) → StoreMoved a b → StoreMoved b c → StoreMoved a c
+StoreMoved-trans a b c p q = record { start = q.start ∙ p.start; ops = Extends-trans a.nv.ops b.nv.ops c.nv.ops p.ops q.ops }
+
+armed_nv : (arm : Arm) (tear : List ℕ) (w : World) → ((armed arm tear w).nv.start ≡ w.nv.start) × ((armed arm tear w).nv.ops ≡ w.nv.ops)
+armed_nv arm tear w = let e = ap (λ (s : Story). s.nv) (armed_story arm tear w) in (ap (λ (p : Past). p.start) e, ap (λ (p : Past). p.ops) e)
+
+StoreMoved-did : (accepts : Acceptance) (tears : List (List ℕ)) (i : Item) (old new : World) → Did accepts tears i old new → StoreMoved old new
+StoreMoved-did accepts tears (item.Event e) old new t = let m = Turn-moved accepts e old new t in record { start = m.nv.start; ops = m.nv.ops }
+StoreMoved-did accepts tears (item.Arm arm) old new e =
+    subst (λ (w : World). StoreMoved old w) (sym e)
+    (let a = armed_nv arm (slice_index_or tears arm.tear []) old in record { start = a.0; ops = record { more = []; is = a.1 ∙ sym (append-nil old.nv.ops) } })
+
+pub Reached-store : (accepts : Acceptance) (tears : List (List ℕ)) (items : List Item) (old new : World) → Reached (Did accepts tears) items old new → StoreMoved old new
+Reached-store accepts tears [] old new r = subst (λ (w : World). StoreMoved old w) (sym r) (StoreMoved-refl old)
+Reached-store accepts tears (i ∷ items) old new (mid, d, r) =
+    StoreMoved-trans old mid new (StoreMoved-did accepts tears i old mid d) (Reached-store accepts tears items mid new r)
+
+same_done : (old new : World) → (new.nv.start ≡ old.nv.start) × (new.nv.ops ≡ old.nv.ops) → DoesPart [] old.nv new.nv
+same_done old new e = record { added = []; is = e.1 ∙ sym (append-nil old.nv.ops); part = tt }
+
+armed_keeps : (arm : Arm) (tear : List ℕ) (w : World) → size_of w.nv ≡ 32768 → KeepsProvision w.nv (armed arm tear w).nv
+armed_keeps arm tear w size =
+    let a = armed_nv arm tear w in KeepsProvision-plan 2048 0 [] w.nv (armed arm tear w).nv size a.0 (same_done w (armed arm tear w) a) (omega arith) tt
+
+did_keeps : (accepts : Acceptance) (tears : List (List ℕ)) (i : Item) (old new : World) → size_of old.nv ≡ 32768 → Did accepts tears i old new → KeepsProvision old.nv new.nv
+did_keeps accepts tears (item.Event e) old new size t = Turn-keeps_provision accepts e old new size t
+did_keeps accepts tears (item.Arm arm) old new size e = subst (λ (w : World). KeepsProvision old.nv w.nv) (sym e) (armed_keeps arm (slice_index_or tears arm.tear []) old size)
+
+upto_all : (d : FlashState) → upto d (op_count_of d) ≡ now d
+upto_all d = ap (λ (ops : List Operation). play d.start ops) (take_all (op_count_of d) d.ops (omega arith))
+
+pub KeepsProvision-trans : (a b c : FlashState) → c.start ≡ b.start → Extends a.ops b.ops → Extends b.ops c.ops → KeepsProvision a b → KeepsProvision b c → KeepsProvision a c
+KeepsProvision-trans a b c start first more h k = record { keeps = λ n number low high by. by_place n number low high by (cases_lt n (op_count_of b)) }
+  where
+    by_place : (n number : ℕ) → op_count_of a ≤ n → n ≤ op_count_of c → IsProvisionedBy (now a) number → ((n < op_count_of b) ⊎ (op_count_of b ≤ n))
+        → IsProvisionedBy (upto c n) number × (slot_at (upto c n) number ≡ slot_at (now a) number)
+    by_place n number low high by (inl less) =
+        rw (upto-Extends b c n start more (omega (arith, less))) (h.keeps n number low (omega (arith, less)) by)
+    by_place n number low high by (inr more_than) =
+        let mid : IsProvisionedBy (now b) number × (slot_at (now b) number ≡ slot_at (now a) number) =
+        rw (upto_all b) at (h.keeps (op_count_of b) number (Extends-length a.ops b.ops first) (omega arith) by) in
+        let end = k.keeps n number more_than high mid.0 in
+        (end.0, end.1 ∙ mid.1)
+
+KeepsProvision-refl : (d : FlashState) → size_of d ≡ 32768 → KeepsProvision d d
+KeepsProvision-refl d size = KeepsProvision-plan 2048 0 [] d d size refl (record { added = []; is = sym (append-nil d.ops); part = tt }) (omega arith) tt
+
+-- A slot that provisions the platform keeps doing so, with the same bytes, at each moment of a run.
+pub Reached-provision : (accepts : Acceptance) (tears : List (List ℕ)) (items : List Item) (old new : World) → size_of old.nv ≡ 32768 → Reached (Did accepts tears) items old new
+    → KeepsProvision old.nv new.nv
+Reached-provision accepts tears [] old new size r = subst (λ (w : World). KeepsProvision old.nv w.nv) (sym r) (KeepsProvision-refl old.nv size)
+Reached-provision accepts tears (i ∷ items) old new size (mid, d, r) =
+    let first = StoreMoved-did accepts tears i old mid d in
+    let rest = Reached-store accepts tears items mid new r in
+    KeepsProvision-trans old.nv mid.nv new.nv rest.start first.ops rest.ops (did_keeps accepts tears i old mid size d)
+    (Reached-provision accepts tears items mid new (ap (λ (xs : List ℕ). length xs) first.start ∙ size) r)
+
+-- what the scripts provision are slots
+abbrev pub AreKnownSlots : List Item → Type 0
+AreKnownSlots [] = Unit {0}
+AreKnownSlots (item.Event e ∷ items) = IsKnownSlot e × AreKnownSlots items
+AreKnownSlots (item.Arm arm ∷ items) = AreKnownSlots items
+
+-- at each moment of a run the store holds bytes
+abbrev pub AlwaysBytes : FlashState → FlashState → Type 0
+AlwaysBytes old new = (n : ℕ) → op_count_of old ≤ n → n ≤ op_count_of new → AreBytes (upto new n)
+
+armed_grows : (arm : Arm) (tear : List ℕ) (w : World) → size_of w.nv ≡ 32768 → NeverGoesBack w.nv (armed arm tear w).nv
+armed_grows arm tear w size = let a = armed_nv arm tear w in nothing_grows w.nv (armed arm tear w).nv size a.0 (same_done w (armed arm tear w) a)
+
+bytes_before : (old mid new : World) → StoreMoved old mid → StoreMoved mid new → AlwaysBytes old.nv new.nv → AreBytes (now mid.nv)
+bytes_before old mid new p q always =
+    let le = Extends-length old.nv.ops mid.nv.ops p.ops in
+    let le' = Extends-length mid.nv.ops new.nv.ops q.ops in
+    let same : upto new.nv (op_count_of mid.nv) ≡ now mid.nv = upto-Extends mid.nv new.nv (op_count_of mid.nv) q.start q.ops (omega arith) ∙ upto_all mid.nv in
+    subst AreBytes same (always (op_count_of mid.nv) le le')
+
+later_bytes : (old mid new : World) → StoreMoved old mid → AlwaysBytes old.nv new.nv → AlwaysBytes mid.nv new.nv
+later_bytes old mid new p always n low high = always n (let le = Extends-length old.nv.ops mid.nv.ops p.ops in omega (arith, le, low)) high
+
+-- Fuses are never taken back in a run.
+pub Reached-grows : (accepts : Acceptance) (tears : List (List ℕ)) (items : List Item) (old new : World) → size_of old.nv ≡ 32768 → AlwaysBytes old.nv new.nv → AreKnownSlots items
+    → Reached (Did accepts tears) items old new → NeverGoesBack old.nv new.nv
+Reached-grows accepts tears [] old new size always slots r = subst (λ (w : World). NeverGoesBack old.nv w.nv) (sym r) (nothing_grows old.nv old.nv size refl (record { added = []; is = sym (append-nil old.nv.ops); part = tt }))
+Reached-grows accepts tears (item.Event e ∷ items) old new size always slots (mid, t, r) =
+    let first = StoreMoved-did accepts tears (item.Event e) old mid t in
+    let rest = Reached-store accepts tears items mid new r in
+    let bytes = bytes_before old old new (StoreMoved-refl old) (StoreMoved-trans old mid new first rest) always in
+    NeverGoesBack-trans old.nv mid.nv new.nv rest.start rest.ops (Turn-grows accepts e old mid size bytes slots.0 t)
+    (Reached-grows accepts tears items mid new (ap (λ (xs : List ℕ). length xs) first.start ∙ size) (later_bytes old mid new first always) slots.1 r)
+Reached-grows accepts tears (item.Arm arm ∷ items) old new size always slots (mid, e, r) =
+    let first = StoreMoved-did accepts tears (item.Arm arm) old mid e in
+    let rest = Reached-store accepts tears items mid new r in
+    NeverGoesBack-trans old.nv mid.nv new.nv rest.start rest.ops
+    (subst (λ (w : World). NeverGoesBack old.nv w.nv) (sym e) (armed_grows arm (slice_index_or tears arm.tear []) old size))
+    (Reached-grows accepts tears items mid new (ap (λ (xs : List ℕ). length xs) first.start ∙ size) (later_bytes old mid new first always) slots r)
+
+-- ---- a store whose operations write bytes holds bytes
+abbrev pub IsOfBytes : Operation → Type 0
+IsOfBytes (Erase sector) = Unit {0}
+IsOfBytes (Program at bytes) = AreBytes bytes
+IsOfBytes (Torn at after) = AreBytes after
+
+abbrev pub AllOfBytes : List Operation → Type 0
+AllOfBytes [] = Unit {0}
+AllOfBytes (op ∷ ops) = IsOfBytes op × AllOfBytes ops
+
+bytes_nil : AreBytes []
+bytes_nil k d h = absurd (omega (arith, h))
+
+tail_bytes : (x : ℕ) (xs : List ℕ) → AreBytes (x ∷ xs) → AreBytes xs
+tail_bytes x xs p = All-drop (λ (y : ℕ). y < 256) 1 (x ∷ xs) p
+
+cons_bytes : (x : ℕ) (xs : List ℕ) → x < 256 → AreBytes xs → AreBytes (x ∷ xs)
+cons_bytes x xs h p = All-cons (λ (y : ℕ). y < 256) x xs h p
+
+head_byte : (x : ℕ) (xs : List ℕ) → AreBytes (x ∷ xs) → x < 256
+head_byte x xs p = p 0 0 (omega arith)
+
+bytes_written : (image : List ℕ) (at : ℕ) (bytes : List ℕ) → AreBytes image → AreBytes bytes → AreBytes (written image at bytes)
+unfolding written
+bytes_written [] at bytes p q = bytes_nil
+bytes_written (x ∷ xs) (suc at) bytes p q = cons_bytes x (written xs at bytes) (head_byte x xs p) (bytes_written xs at bytes (tail_bytes x xs p) q)
+bytes_written (x ∷ xs) zero [] p q = p
+bytes_written (x ∷ xs) zero (y ∷ ys) p q = cons_bytes y (written xs zero ys) (head_byte y ys q) (bytes_written xs zero ys (tail_bytes x xs p) (tail_bytes y ys q))
+
+bytes_and : (old new : List ℕ) → AreBytes old → AreBytes (and_bytes old new)
+bytes_and [] new p = bytes_nil
+bytes_and (x ∷ xs) [] p = bytes_nil
+bytes_and (x ∷ xs) (y ∷ ys) p = cons_bytes (bit_and x y) (and_bytes xs ys) (let le = and_le_l x y in omega (arith, le, head_byte x xs p)) (bytes_and xs ys (tail_bytes x xs p))
+
+bytes_blank : AreBytes blank
+unfolding blank
+bytes_blank = All-replicate (λ (y : ℕ). y < 256) 4096 255 (omega arith)
+
+bytes_applied : (image : List ℕ) (op : Operation) → AreBytes image → IsOfBytes op → AreBytes (applied image op)
+bytes_applied image (Erase sector) p q = bytes_written image (4096 * sector) blank p bytes_blank
+bytes_applied image (Program at bytes) p q =
+    bytes_written image at (and_bytes (bytes_at image at (length bytes)) bytes) p
+    (bytes_and (bytes_at image at (length bytes)) bytes (All-take (λ (y : ℕ). y < 256) (length bytes) (drop at image) (All-drop (λ (y : ℕ). y < 256) at image p)))
+bytes_applied image (Torn at after) p q = bytes_written image at after p q
+
+bytes_play : (image : List ℕ) (ops : List Operation) (n : ℕ) → AreBytes image → AllOfBytes ops → AreBytes (play image (take n ops))
+bytes_play image [] n p q = subst (λ (ops : List Operation). AreBytes (play image ops)) (sym (take_nothing n)) p
+  where
+    take_nothing : (n : ℕ) → take {A = Operation} n [] ≡ []
+    take_nothing zero = refl
+    take_nothing (suc n) = refl
+bytes_play image (op ∷ ops) zero p q = p
+bytes_play image (op ∷ ops) (suc n) p q = bytes_play (applied image op) ops n (bytes_applied image op p q.0) q.1
+
+-- A device that held bytes at first and whose operations wrote bytes held bytes at each moment.
+pub AlwaysBytes-operations : (old new : FlashState) → AreBytes new.start → AllOfBytes new.ops → AlwaysBytes old new
+AlwaysBytes-operations old new p q n low high = bytes_play new.start new.ops n p q

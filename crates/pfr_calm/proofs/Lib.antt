@@ -1,0 +1,17 @@
+pub mod Sequence
+pub mod Lift
+pub mod Courses
+pub mod Traces
+pub mod Findings
+pub mod Facts
+pub mod StretchLaws
+pub mod StepTraces
+pub mod NoteLaws
+pub mod LossLaws
+pub mod PowerLaws
+pub mod FuseLaws
+pub mod StoreLaws
+pub mod SpanLaws
+pub mod RunLaws
+pub mod GrowthLaws
+pub mod ProvisionLaws

@@ -1,0 +1,201 @@
+-- What is known of the notes and operations of each stretch.
+use Rattle.std.proofs.Common.{◌≡◌, ◌∙◌, refl, sym, ap, subst, ℕ, ◌+◌, ◌<◌, ◌≤◌, arith, true, false, List, [], ◌∷◌, length, Result, Ok, Err, ◌⊎◌, inl, inr}
+use Rattle.std.proofs.lemmas.Bool.{cases_Bool}
+use Rattle.pfr_flash.specs.FlashState.{FlashState, Rose}
+use Rattle.pfr_flash.specs.Moved.{Moved, was_done}
+use Rattle.pfr_flash.specs.declared.flash.FlashFail.TheVariants.{Fault, Lost as Loses}
+use Rattle.pfr_flash.specs.declared.names.Bank.{Bank}
+use Rattle.pfr_flash.specs.declared.names.Bank.TheVariants as bank
+use Rattle.pfr_flash.specs.declared.names.Device.{Device}
+use Rattle.pfr_flash.specs.declared.names.Device.TheVariants as device
+use Rattle.pfr_fuses.specs.FusesOf.{fuses_of}
+use Rattle.pfr_fuses.specs.Provisioning.{judge_provision, provision_plan}
+use Rattle.pfr_fuses.specs.declared.fuse_fail.FuseFail.{FuseFail}
+use Rattle.pfr_fuses.specs.declared.root_slot.RootSlot.{RootSlot}
+use Rattle.pfr_report.specs.declared.note.LockWhy.TheVariants as why
+use Rattle.pfr_report.specs.declared.note.Note.{Note}
+use Rattle.pfr_report.specs.declared.note.What.TheVariants as what
+use Rattle.pfr_calm.specs.Story.{Story, Move, Says, after, noted, device_of, image_at, all_do, IsCut}
+use Rattle.pfr_calm.specs.World.{World, story_of, state_at, AllMoved, LostAt}
+use Rattle.pfr_calm.specs.Plans.{authentication_at, concluded, brought_up, migration_in, migrated, provisioned_in, provisioned}
+use Rattle.pfr_calm.specs.Course.{Crosses, Faults, LosesPower, lost}
+use Rattle.pfr_calm.specs.Turn.{fault_of, is_store, bank_or_store, bank_stretch, fuse_stretch, provision_stretch, unreadable}
+use Rattle.pfr_calm.proofs.Sequence.{Moved-at}
+use Rattle.pfr_calm.proofs.Traces.{AllGood, AllGood-append, AllGood-cut, Traced, Traced-then, Traced-ran, Traced-stopped, image_noted}
+use Rattle.pfr_calm.proofs.Findings.{found}
+use Rattle.pfr_calm.proofs.Facts.{Setting, IsGood, good_torn, ops_good, conclusion_good, concluded_says, at_most_one, says_nv, IsLater, IsLater-trans}
+
+-- ---- what calls do never lets faults or losses fall
+losses_moved : (old new : FlashState) → Moved old new → old.losses ≤ new.losses
+losses_moved old new h = by_case (cases_Bool (was_done old new old.cut_due))
+  where
+    by_case : ((was_done old new old.cut_due ≡ true) ⊎ (was_done old new old.cut_due ≡ false)) → old.losses ≤ new.losses
+    by_case (inl done) = let e : new.losses ≡ old.losses + 1 = rw done at h.losses in omega (arith, e)
+    by_case (inr not_done) = let e : new.losses ≡ old.losses = rw not_done at h.losses in omega (arith, e)
+
+pub IsLater-moved : (a b : World) → AllMoved a b → IsLater a b
+IsLater-moved a b m = record {
+  faults = λ which. (Moved-at which a b m).faults;
+  losses = λ which. losses_moved (state_at which a) (state_at which b) (Moved-at which a b m);
+}
+
+-- The worlds of a part of a step lie between the two ends that are looked at.
+pub record Between (s : Setting) (old new : World) : Type 0 where
+  pub before : IsLater s.first old
+  pub behind : IsLater new s.last
+
+pub between_front : (s : Setting) (a b c : World) → AllMoved b c → Between s a c → Between s a b
+between_front s a b c m p = record { before = p.before; behind = IsLater-trans b c s.last (IsLater-moved b c m) p.behind }
+
+pub between_back : (s : Setting) (a b c : World) → AllMoved a b → Between s a c → Between s b c
+between_back s a b c m p = record { before = IsLater-trans s.first a b p.before (IsLater-moved a b m); behind = p.behind }
+
+rose_between : (s : Setting) (which : Device) (old new : World) → Between s old new → Rose (state_at which old).faults (state_at which new).faults
+    → Rose (state_at which s.first).faults (state_at which s.last).faults
+rose_between s which old new p r = omega (arith, p.before.faults which, r, p.behind.faults which)
+
+lost_between : (s : Setting) (which : Device) (old new : World) → Between s old new → LostAt which old new
+    → (state_at which s.first).losses < (state_at which s.last).losses
+lost_between s which old new p l = omega (arith, p.before.losses which, l.once, p.behind.losses which)
+
+-- ---- what is noted at a failed call
+lost_good : (s : Setting) (which : Device) (story : Story) → (state_at which s.first).losses < (state_at which s.last).losses → AllGood (IsGood s) (lost which) story
+lost_good s which story h = ((refl, h), tt)
+
+lock_good : (s : Setting) (b : Bank) (which : Device) (story : Story) → bank_or_store b which ≡ true
+    → Rose (state_at which s.first).faults (state_at which s.last).faults → AllGood (IsGood s) (Says (what.Locked b (fault_of which)) ∷ []) story
+lock_good s bank.Bmc device.Bmc story c r = ((refl, r), tt)
+lock_good s bank.Bmc device.Pch story c r = absurd cc
+lock_good s bank.Bmc device.Nv story c r = ((refl, r), tt)
+lock_good s bank.Pch device.Bmc story c r = absurd cc
+lock_good s bank.Pch device.Pch story c r = ((refl, r), tt)
+lock_good s bank.Pch device.Nv story c r = ((refl, r), tt)
+
+store_rose : (s : Setting) (which : Device) → is_store which ≡ true → Rose (state_at which s.first).faults (state_at which s.last).faults → Rose s.first.nv.faults s.last.nv.faults
+store_rose s device.Bmc c r = absurd cc
+store_rose s device.Pch c r = absurd cc
+store_rose s device.Nv c r = r
+
+unreadable_good : (s : Setting) (story : Story) → Rose s.first.nv.faults s.last.nv.faults → AllGood (IsGood s) unreadable story
+unreadable_good s story r = (refl, ((refl, r), (refl, ((refl, r), tt))))
+
+-- ---- a bank is brought up
+module _ (s : Setting) (b : Bank) where
+  held_good : (story : Story) → AllGood (IsGood s) (Says (what.Held b) ∷ []) story
+  held_good story = (refl, tt)
+
+  few_good : (trace : List Move) (story : Story) → ((trace ≡ []) ⊎ (trace ≡ Says (what.Held b) ∷ [])) → AllGood (IsGood s) trace story
+  few_good trace story (inl e) = subst (λ (ms : List Move). AllGood (IsGood s) ms story) (sym e) tt
+  few_good trace story (inr e) = subst (λ (ms : List Move). AllGood (IsGood s) ms story) (sym e) (held_good story)
+
+  few_nv : (trace : List Move) (story : Story) → ((trace ≡ []) ⊎ (trace ≡ Says (what.Held b) ∷ [])) → (after trace story).nv ≡ story.nv
+  few_nv trace story (inl e) = rw e refl
+  few_nv trace story (inr e) = rw e refl
+
+  -- no more was made than one note, where a call failed
+  early : (which : Device) (old at : World) (trace : List Move) → IsCut which (brought_up s.accepts b (story_of old)) (story_of old) trace → story_of at ≡ after trace (story_of old)
+      → length at.notes.list ≤ length old.notes.list + 1 → (trace ≡ []) ⊎ (trace ≡ Says (what.Held b) ∷ [])
+  early which old at trace cut is h =
+      let a = authentication_at s.accepts b (story_of old) in
+      let same = ap (λ (t : Story). length t.notes) is in
+      at_most_one which (what.Held b) (concluded b a) trace (story_of old) (concluded_says b a) cut (omega (arith, h, same))
+
+  pub record Brought (old new : World) : Type 0 where
+    pub traced : Traced (IsGood s) old new
+    pub store : (story_of new).nv ≡ (story_of old).nv
+
+  pub bank_crossed : (old new : World) → s.Fits (image_at device.Nv (story_of old)) → Crosses (bank_stretch s.accepts b) old new → Brought old new
+  bank_crossed old new fits p =
+      let story = story_of old in
+      let a = authentication_at s.accepts b story in
+      let f = found b (image_at (device_of b) story) (image_at device.Nv story) s.accepts p.shown in
+      record {
+        traced = Traced-ran (IsGood s) (brought_up s.accepts b story) old new p.ran (
+          refl,
+          conclusion_good s b (image_at (device_of b) story) (image_at device.Nv story) a (noted (what.Held b) story) f fits
+              (image_noted (device_of b) (what.Held b) story) refl,
+        );
+        store = ap (λ (t : Story). t.nv) p.ran.is ∙ says_nv (brought_up s.accepts b story) story (concluded_says b a);
+      }
+
+  pub bank_faulted : (old new : World) → Between s old new → Faults (bank_stretch s.accepts b) old new → Brought old new
+  bank_faulted old new within p =
+      let few = early p.which old p.at p.stopped.trace p.stopped.cut p.stopped.is p.early in
+      let first = Traced-stopped (IsGood s) (brought_up s.accepts b (story_of old)) p.which Fault old p.at p.stopped (few_good p.stopped.trace (story_of old) few) in
+      let rose = rose_between s p.which old p.at (between_front s old p.at new p.noted.moved within) p.stopped.cause.0 in
+      record {
+        traced = Traced-then (IsGood s) old p.at new first
+            (Traced-ran (IsGood s) (Says (what.Locked b (fault_of p.which)) ∷ []) p.at new p.noted (lock_good s b p.which (story_of p.at) p.called rose));
+        store = ap (λ (t : Story). t.nv) p.noted.is ∙ ap (λ (t : Story). t.nv) p.stopped.is ∙ few_nv p.stopped.trace (story_of old) few;
+      }
+
+  pub bank_lost : (old new : World) → Between s old new → LosesPower (bank_stretch s.accepts b) old new → Traced (IsGood s) old new
+  bank_lost old new within p =
+      let few = early p.which old p.at p.stopped.trace p.stopped.cut p.stopped.is p.early in
+      let first = Traced-stopped (IsGood s) (brought_up s.accepts b (story_of old)) p.which Loses old p.at p.stopped (few_good p.stopped.trace (story_of old) few) in
+      let fell = lost_between s p.which old p.at (between_front s old p.at new p.noted.moved within) p.stopped.cause in
+      Traced-then (IsGood s) old p.at new first (Traced-ran (IsGood s) (lost p.which) p.at new p.noted (lost_good s p.which (story_of p.at) fell))
+
+-- ---- the fuses are migrated
+-- there is nothing to do, or it may be done
+abbrev pub MayMigrate : Setting → Story → Type 0
+MayMigrate s story = (migration_in (fuses_of (image_at device.Nv story)) ≡ []) ⊎ s.Works story.notes
+
+module _ (s : Setting) where
+  migrated_good : (story : Story) → MayMigrate s story → AllGood (IsGood s) (migrated story) story
+  migrated_good story (inl e) = rw e tt
+  migrated_good story (inr w) = ops_good s device.Nv (migration_in (fuses_of (image_at device.Nv story))) story w
+
+  pub fuses_crossed : (old new : World) → MayMigrate s (story_of old) → Crosses fuse_stretch old new → Traced (IsGood s) old new
+  fuses_crossed old new may p = Traced-ran (IsGood s) (migrated (story_of old)) old new p.ran (migrated_good (story_of old) may)
+
+  pub fuses_faulted : (old new : World) → Between s old new → MayMigrate s (story_of old) → Faults fuse_stretch old new → Traced (IsGood s) old new
+  fuses_faulted old new within may p =
+      let good = AllGood-cut (IsGood s) p.which (migrated (story_of old)) p.stopped.trace (story_of old) (good_torn s) (migrated_good (story_of old) may) p.stopped.cut in
+      let first = Traced-stopped (IsGood s) (migrated (story_of old)) p.which Fault old p.at p.stopped good in
+      let rose = rose_between s p.which old p.at (between_front s old p.at new p.noted.moved within) p.stopped.cause.0 in
+      Traced-then (IsGood s) old p.at new first (Traced-ran (IsGood s) unreadable p.at new p.noted (unreadable_good s (story_of p.at) (store_rose s p.which p.called rose)))
+
+  pub fuses_lost : (old new : World) → Between s old new → MayMigrate s (story_of old) → LosesPower fuse_stretch old new → Traced (IsGood s) old new
+  fuses_lost old new within may p =
+      let good = AllGood-cut (IsGood s) p.which (migrated (story_of old)) p.stopped.trace (story_of old) (good_torn s) (migrated_good (story_of old) may) p.stopped.cut in
+      let first = Traced-stopped (IsGood s) (migrated (story_of old)) p.which Loses old p.at p.stopped good in
+      let fell = lost_between s p.which old p.at (between_front s old p.at new p.noted.moved within) p.stopped.cause in
+      Traced-then (IsGood s) old p.at new first (Traced-ran (IsGood s) (lost p.which) p.at new p.noted (lost_good s p.which (story_of p.at) fell))
+
+-- ---- the platform is provisioned
+-- it is refused, or it may be done
+pub data MayProvision (s : Setting) (notes : List Note) : Result ℕ FuseFail → Type 0 where
+  works : {number : ℕ} → s.Works notes → MayProvision s notes (Ok number)
+  refused : {cause : FuseFail} → MayProvision s notes (Err cause)
+
+abbrev pub judged_in : RootSlot → Story → Result ℕ FuseFail
+judged_in root story = judge_provision (image_at device.Nv story) root (length story.bmc.start) (length story.pch.start)
+
+module _ (s : Setting) (root : RootSlot) where
+  provisioned_good : (story : Story) (r : Result ℕ FuseFail) → MayProvision s story.notes r → AllGood (IsGood s) (provisioned_in root r) story
+  provisioned_good story (Ok number) (works w) =
+      AllGood-append (IsGood s) (all_do device.Nv (provision_plan number root)) (Says (λ _. what.Provisioned) ∷ []) story
+      (ops_good s device.Nv (provision_plan number root) story w) (tt, tt)
+  provisioned_good story (Err cause) refused = (tt, tt)
+
+  pub provision_crossed : (old new : World) → MayProvision s old.notes.list (judged_in root (story_of old)) → Crosses (provision_stretch root) old new → Traced (IsGood s) old new
+  provision_crossed old new may p = Traced-ran (IsGood s) (provisioned root (story_of old)) old new p.ran (provisioned_good (story_of old) (judged_in root (story_of old)) may)
+
+  pub provision_faulted : (old new : World) → Between s old new → MayProvision s old.notes.list (judged_in root (story_of old)) → Faults (provision_stretch root) old new → Traced (IsGood s) old new
+  provision_faulted old new within may p =
+      let whole = provisioned_good (story_of old) (judged_in root (story_of old)) may in
+      let good = AllGood-cut (IsGood s) p.which (provisioned root (story_of old)) p.stopped.trace (story_of old) (good_torn s) whole p.stopped.cut in
+      let first = Traced-stopped (IsGood s) (provisioned root (story_of old)) p.which Fault old p.at p.stopped good in
+      let rose = rose_between s p.which old p.at (between_front s old p.at new p.noted.moved within) p.stopped.cause.0 in
+      let nv = store_rose s p.which p.called rose in
+      Traced-then (IsGood s) old p.at new first
+      (Traced-ran (IsGood s) (Says (what.Locked bank.Bmc why.StoreFault) ∷ Says (what.Locked bank.Pch why.StoreFault) ∷ []) p.at new p.noted ((refl, nv), ((refl, nv), tt)))
+
+  pub provision_lost : (old new : World) → Between s old new → MayProvision s old.notes.list (judged_in root (story_of old)) → LosesPower (provision_stretch root) old new → Traced (IsGood s) old new
+  provision_lost old new within may p =
+      let whole = provisioned_good (story_of old) (judged_in root (story_of old)) may in
+      let good = AllGood-cut (IsGood s) p.which (provisioned root (story_of old)) p.stopped.trace (story_of old) (good_torn s) whole p.stopped.cut in
+      let first = Traced-stopped (IsGood s) (provisioned root (story_of old)) p.which Loses old p.at p.stopped good in
+      let fell = lost_between s p.which old p.at (between_front s old p.at new p.noted.moved within) p.stopped.cause in
+      Traced-then (IsGood s) old p.at new first (Traced-ran (IsGood s) (lost p.which) p.at new p.noted (lost_good s p.which (story_of p.at) fell))

@@ -1,0 +1,103 @@
+-- How a whole step goes: stretch by stretch, each of which a failed device call may cut short.
+use Rattle.std.specs.Prelude.{◌≡◌, ◌+◌, ◌≤◌, Bool, true, false, List, [], ◌∷◌, length, ◌⊎◌, Option, Some, None}
+use Rattle.pfr_flash.specs.declared.names.Bank.{Bank}
+use Rattle.pfr_flash.specs.declared.names.Device.TheVariants as device
+use Rattle.pfr_engine.specs.Acceptance.{Acceptance}
+use Rattle.pfr_flash.specs.declared.flash.FlashFail.TheVariants.{Fault, Lost as Loses}
+use Rattle.pfr_flash.specs.declared.names.Device.{Device}
+use Rattle.pfr_report.specs.declared.note.What.TheVariants.{Lost}
+use Rattle.pfr_calm.specs.Authentication.{IsBacked}
+use Rattle.pfr_calm.specs.Plans.{authentication_at}
+use Rattle.pfr_calm.specs.Story.{Story, Move, Says, Plan, image_at, device_of}
+use Rattle.pfr_calm.specs.World.{World, story_of}
+use Rattle.pfr_calm.specs.Goes.{Ran, Stopped}
+
+-- the check of a bank's image by an engine
+pub record Check : Type 0 where
+  pub bank : Bank
+  pub accepts : Acceptance
+
+-- what is found to be trusted in these contents is
+abbrev pub Shown : Option Check → Story → Type 0
+Shown None story = Unit {0}
+Shown (Some check) story = IsBacked (authentication_at check.accepts check.bank story) check.bank
+    (image_at (device_of check.bank) story) (image_at device.Nv story) check.accepts
+
+-- no more than Held was noted of a bank whose image is checked
+abbrev pub IsEarly : Option Check → World → World → Type 0
+IsEarly None old new = Unit {0}
+IsEarly (Some check) old new = length new.notes.list ≤ length old.notes.list + 1
+
+-- One stretch of a step.
+pub record Stretch : Type 0 where
+  -- what is to be done, and the bank whose image is checked in it
+  pub plan : Plan
+  pub checks : Option Check
+  -- whether it calls this device
+  pub calls : Device → Bool
+  -- what is noted where a device answers Fault, in place of the rest, and whether the step goes on then
+  pub on_fault : Device → List Move
+  pub goes_on : Bool
+
+abbrev pub lost : Device → List Move
+lost which = Says (Lost (Some which)) ∷ []
+
+-- all of it was done
+pub record Crosses (stretch : Stretch) (old new : World) : Type 0 where
+  pub ran : Ran (stretch.plan (story_of old)) old new
+  pub shown : Shown stretch.checks (story_of old)
+
+-- it was cut short at a fault of this device, whose count rose, and this was noted
+pub record Faults (stretch : Stretch) (old new : World) : Type 0 where
+  pub which : Device
+  pub called : stretch.calls which ≡ true
+  pub at : World
+  pub stopped : Stopped (stretch.plan (story_of old)) which Fault old at
+  pub early : IsEarly stretch.checks old at
+  pub noted : Ran (stretch.on_fault which) at new
+
+-- this device lost the power on the way, and this was noted
+pub record LosesPower (stretch : Stretch) (old new : World) : Type 0 where
+  pub which : Device
+  pub called : stretch.calls which ≡ true
+  pub at : World
+  pub stopped : Stopped (stretch.plan (story_of old)) which Loses old at
+  pub early : IsEarly stretch.checks old at
+  pub noted : Ran (lost which) at new
+
+-- nothing more is done
+abbrev pub Ends : World → World → Type 0
+Ends old new = Ran [] old new
+
+abbrev pub goes_on_if : Bool → (World → World → Type 0) → World → World → Type 0
+goes_on_if true steps = steps
+goes_on_if false steps = Ends
+
+-- the first of these, and the second from where it leads
+abbrev pub After : (World → World → Type 0) → (World → World → Type 0) → World → World → Type 0
+After first second old new = (mid : World) × first old mid × second mid new
+
+-- A step along these stretches.
+abbrev pub Steps : List Stretch → World → World → Type 0
+Steps [] old new = Ends old new
+Steps (stretch ∷ stretches) old new =
+    After (Crosses stretch) (Steps stretches) old new
+    ⊎ After (Faults stretch) (goes_on_if stretch.goes_on (Steps stretches)) old new
+    ⊎ LosesPower stretch old new
+
+-- the step goes on after the first stretch
+abbrev pub CrossesOrFaults : Stretch → World → World → Type 0
+CrossesOrFaults stretch old new = Crosses stretch old new ⊎ Faults stretch old new
+
+-- it was cut short where this device lost the power, which isn't noted yet
+pub record Halt (stretch : Stretch) (which : Device) (old new : World) : Type 0 where
+  pub called : stretch.calls which ≡ true
+  pub stopped : Stopped (stretch.plan (story_of old)) which Loses old new
+  pub early : IsEarly stretch.checks old new
+
+abbrev pub Halts : List Stretch → Device → World → World → Type 0
+Halts [] which old new = ⊥
+Halts (stretch ∷ stretches) which old new =
+    Halt stretch which old new
+    ⊎ After (Crosses stretch) (Halts stretches which) old new
+    ⊎ After (Faults stretch) (λ mid end. (stretch.goes_on ≡ true) × Halts stretches which mid end) old new

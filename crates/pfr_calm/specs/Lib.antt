@@ -1,0 +1,11 @@
+pub mod Story
+pub mod World
+pub mod Goes
+pub mod Standing
+pub mod Authentication
+pub mod Plans
+pub mod Course
+pub mod Turn
+pub mod Run
+pub mod Spans
+pub mod Promises

@@ -1,0 +1,100 @@
+-- The spans in which a bank stands released.
+use Rattle.std.specs.Prelude.{ℕ, ◌+◌, ◌-◌, ◌≤◌, List, [], ◌∷◌, ◌++◌, length, take, drop, All, if◌then◌else◌, ◌⊎◌}
+use Rattle.pfr_flash.specs.Operation.{Operation, play}
+use Rattle.pfr_flash.specs.Range.{place_of, len_of}
+use Rattle.pfr_flash.specs.Names.{manifest_type}
+use Rattle.pfr_flash.specs.declared.layout.Layout.{Layout}
+use Rattle.pfr_flash.specs.declared.names.Bank.{Bank}
+use Rattle.pfr_flash.specs.declared.names.Bank.TheVariants as bank
+use Rattle.pfr_flash.specs.declared.names.Counts.{Counts}
+use Rattle.pfr_engine.specs.Acceptance.{Acceptance}
+use Rattle.pfr_fuses.specs.FuseMap.{floor_at, floor_width, row_at, row_width}
+use Rattle.pfr_fuses.specs.FusesState.{FusesState}
+use Rattle.pfr_fuses.specs.RootSlot.{layout_of}
+use Rattle.pfr_manifest.specs.Access.{static_regions}
+use Rattle.pfr_manifest.specs.declared.manifest.Manifest.{Manifest}
+use Rattle.pfr_auth.specs.Trusted.{IsTrusted}
+use Rattle.pfr_report.specs.declared.note.Note.{Note}
+use Rattle.pfr_report.specs.declared.note.What.{What}
+use Rattle.pfr_report.specs.declared.note.What.TheVariants as what
+use Rattle.pfr_calm.specs.Story.{Past, Story, counts_of, past_at, device_of}
+use Rattle.pfr_calm.specs.Standing.{same_bank}
+
+-- the begins of the bank's spans that are open once this is noted
+abbrev pub opens_after : Bank → What → List Counts → List Counts
+opens_after which (what.Held b counts) opens = if same_bank which b then [] else opens
+opens_after which (what.Released b svn counts) opens = if same_bank which b then counts ∷ opens else opens
+opens_after which (what.Locked b why counts) opens = if same_bank which b then [] else opens
+opens_after which (what.Lost device counts) opens = []
+opens_after which _ opens = opens
+
+-- spans that end so
+abbrev pub closes : Counts → List Counts → List (Counts × Counts)
+closes end [] = []
+closes end (begin ∷ begins) = (begin, end) ∷ closes end begins
+
+-- the spans that this note ends
+abbrev pub ended : Bank → What → List Counts → List (Counts × Counts)
+ended which (what.Held b counts) opens = if same_bank which b then closes counts opens else []
+ended which (what.Locked b why counts) opens = if same_bank which b then closes counts opens else []
+ended which (what.Lost device counts) opens = closes counts opens
+ended which _ opens = []
+
+abbrev pub opens_from : Bank → List Counts → List Note → List Counts
+opens_from which opens [] = opens
+opens_from which opens (note ∷ notes) = opens_from which (opens_after which note.what opens) notes
+
+abbrev pub ended_from : Bank → List Counts → List Note → List (Counts × Counts)
+ended_from which opens [] = []
+ended_from which opens (note ∷ notes) = ended which note.what opens ++ ended_from which (opens_after which note.what opens) notes
+
+-- From each note Released of the bank to the next note Held or Locked of it or Lost, or to the end where none follows.
+abbrev pub spans_of : Bank → List Note → Counts → List (Counts × Counts)
+spans_of which notes end = ended_from which [] notes ++ closes end (opens_from which [] notes)
+
+-- the bytes after so many operations
+abbrev pub upto : Past → ℕ → List ℕ
+upto past count = play past.start (take count past.ops)
+
+-- the operations from one count to another
+abbrev pub between : ℕ → ℕ → Past → List Operation
+between begin end past = drop begin (take end past.ops)
+
+abbrev pub count_at : Bank → Counts → ℕ
+count_at bank.Bmc counts = counts.bmc
+count_at bank.Pch counts = counts.pch
+
+-- the operation touches none of so many bytes from a place on
+abbrev pub Leaves : ℕ → ℕ → Operation → Type 0
+Leaves from len op = (place_of op + len_of op ≤ from) ⊎ (from + len ≤ place_of op)
+
+-- It touches no byte of a bank that Trusted reads: the manifest area, and the regions that have a hash.
+pub record LeavesImage (layout : Layout) (manifest : Manifest) (op : Operation) : Type 0 where
+  pub area : Leaves layout.manifest_at layout.manifest_len op
+  pub static : All (λ region. Leaves region.start (region.end - region.start) op) (static_regions manifest)
+
+-- It touches no byte of the store that Trusted reads for a bank: the slots, the profile gate, the bank's floor, and the
+-- row of its manifests' keys.
+pub record LeavesStore (fuses : FusesState) (which : Bank) (op : Operation) : Type 0 where
+  pub slots : Leaves 0 0x800 op
+  pub gate : Leaves 0xA00 1 op
+  pub floor : Leaves (floor_at fuses.profile which) (floor_width fuses.profile) op
+  pub row : Leaves (row_at fuses.profile (manifest_type which)) (row_width fuses.profile) op
+
+-- The bank was trusted where the span begins, and no operation in the span touches a byte that this reads.
+pub record IsSpan (accepts : Acceptance) (which : Bank) (mine nv : Past) (begin end : Counts) : Type 0 where
+  pub forth : count_at which begin ≤ count_at which end
+  pub forth_store : begin.nv ≤ end.nv
+  pub done : count_at which end ≤ length mine.ops
+  pub done_store : end.nv ≤ length nv.ops
+  pub trusted : IsTrusted (upto mine (count_at which begin)) (upto nv begin.nv) which accepts
+  pub image : All (LeavesImage (layout_of trusted.fuses.provision which) trusted.manifest) (between (count_at which begin) (count_at which end) mine)
+  pub store : All (LeavesStore trusted.fuses which) (between begin.nv end.nv nv)
+
+abbrev pub AllSpans : Acceptance → Bank → Past → Past → List (Counts × Counts) → Type 0
+AllSpans accepts which mine nv [] = Unit {0}
+AllSpans accepts which mine nv (span ∷ spans) = IsSpan accepts which mine nv span.0 span.1 × AllSpans accepts which mine nv spans
+
+-- each span of the bank is such
+abbrev pub ReleasedSpans : Acceptance → Bank → Story → Type 0
+ReleasedSpans accepts which story = AllSpans accepts which (past_at (device_of which) story) story.nv (spans_of which story.notes (counts_of story))
