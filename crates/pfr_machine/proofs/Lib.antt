@@ -1,2 +1,6 @@
-pub mod PromiseLemmas
-pub mod PowerLemmas
+pub mod WorldLemmas
+pub mod ReadLemmas
+pub mod WakeLemmas
+pub mod ProvisionLemmas
+pub mod TurnLemmas
+pub mod StoreLemmas

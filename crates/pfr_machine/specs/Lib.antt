@@ -1,5 +1,3 @@
-pub mod Readable
-pub mod Authentication
 pub mod PlatformState
-pub mod Power
-pub mod Promises
+pub mod WorksInside
+pub mod Checks

@@ -1,32 +1,31 @@
-// What the devices' contents say of a bank.
-ghost use Rattle.std.specs.Prelude.{◌≡◌, ◌≤◌, ℕ, List, length, Some, Ok};
+// What the contents of the devices say of a bank.
+ghost use Rattle.std.specs.Prelude.{◌≡◌, ℕ, List, Ok, IfOk, IfErr};
 ghost use Rattle.pfr_flash.specs.FlashState.{now, size_of};
-ghost use Rattle.pfr_flash.specs.Layout.{IsValidLayout};
-ghost use Rattle.pfr_flash.specs.Reading.{OnlyReads};
-ghost use Rattle.pfr_flash.specs.Layout.{IsBankSize};
+ghost use Rattle.pfr_flash.specs.Layout.{IsBankSize, IsValidLayout};
+ghost use Rattle.pfr_flash.specs.Reading.{OnlyReads, FailsReading};
 ghost use Rattle.pfr_auth.specs.Judge.{judge_active};
 ghost use Rattle.pfr_fuses.specs.FusesOf.{fuses_of};
 ghost use Rattle.pfr_fuses.specs.RootSlot.{layout_of};
-ghost use Rattle.pfr_machine.specs.Readable.{ReadsWell};
-ghost use Rattle.pfr_machine.specs.Authentication.{fuses_found, active_authentication, authentication_with, HasCause, IsBacked};
+ghost use Rattle.pfr_calm.specs.Authentication.{authentication_with, by_active, IsBacked};
+ghost use Rattle.pfr_machine.specs.Checks.{HasCause, without_fuses};
 
-use crate::authentication::Authentication;
 use pfr_auth::active;
+use pfr_calm::Authentication;
 use pfr_chain::Engine;
-use pfr_flash::{Bank, Flash, Layout};
+use pfr_flash::{Bank, Flash, FlashFail, Layout};
 use pfr_fuses::{FuseFail, Fuses, load};
 
-/// What the store provisions the platform with, if it does.
-pub fn read_fuses<F: Flash>(nv: &mut F) -> Option<Fuses>
-    requires size { size_of (F.device nv.old) ≡ 32768 }
-    requires calm { ReadsWell (F.device nv.old) }
-    ensures found { result ≡ fuses_found (fuses_of (now (F.device nv.old))) }
+/// What the store provisions the platform with, or why it doesn't.
+pub fn read_fuses<F: Flash>(nv: &mut F) -> Result<Result<Fuses, FuseFail>, FlashFail>
+    requires { size_of (F.device nv.old) ≡ 32768 }
+    ensures found { IfOk result (λ found. found ≡ fuses_of (now (F.device nv.old))) }
     ensures reads { OnlyReads (F.device nv.old) (F.device nv.new) }
+    ensures failed { IfErr result (λ fail. FailsReading fail (F.device nv.old) (F.device nv.new)) }
 {
     match load(nv) {
-        Ok(fuses) => Some(fuses),
-        Err(FuseFail::Flash(_)) => unreachable!(),
-        Err(_) => None,
+        Ok(fuses) => Ok(Ok(fuses)),
+        Err(FuseFail::Flash(fail)) => Err(fail),
+        Err(why) => Ok(Err(why)),
     }
 }
 
@@ -37,21 +36,21 @@ fn check_active<F: Flash, E: Engine>(
     layout: &Layout,
     fuses: &Fuses,
     engine: &E,
-) -> Authentication
+) -> Result<Authentication, FlashFail>
     requires size { IsBankSize (size_of (F.device flash.old)) }
-    requires calm { ReadsWell (F.device flash.old) }
     requires layout { layout.now ≡ layout_of fuses.now.provision bank }
     requires valid { IsValidLayout layout.now (size_of (F.device flash.old)) }
-    ensures found { result ≡ active_authentication (judge_active (now (F.device flash.old)) bank fuses.now (E.accepts engine.now)) }
-    ensures cause { HasCause result }
-    ensures backed { (nv : List ℕ) → fuses_of nv ≡ Ok fuses.now → IsBacked result bank (now (F.device flash.old)) nv (E.accepts engine.now) }
+    ensures found { IfOk result (λ found. found ≡ by_active (judge_active (now (F.device flash.old)) bank fuses.now (E.accepts engine.now))) }
+    ensures cause { IfOk result HasCause }
+    ensures backed { IfOk result (λ found. (nv : List ℕ) → fuses_of nv ≡ Ok fuses.now → IsBacked found bank (now (F.device flash.old)) nv (E.accepts engine.now)) }
     ensures reads { OnlyReads (F.device flash.old) (F.device flash.new) }
+    ensures failed { IfErr result (λ fail. FailsReading fail (F.device flash.old) (F.device flash.new)) }
 {
     match active(flash, bank, layout, fuses, engine) {
-        Ok(manifest) => Authentication::Trusted { svn: manifest.svn },
+        Ok(manifest) => Ok(Authentication::Trusted { svn: manifest.svn }),
         Err(why) => match why.failure() {
-            Some(_) => unreachable!(),
-            None => Authentication::Untrusted(why),
+            Some(fail) => Err(fail),
+            None => Ok(Authentication::Untrusted(why)),
         },
     }
 }
@@ -62,18 +61,32 @@ fn judge_provisioned<F: Flash, E: Engine>(
     bank: Bank,
     fuses: &Fuses,
     engine: &E,
-) -> Authentication
+) -> Result<Authentication, FlashFail>
     requires size { IsBankSize (size_of (F.device flash.old)) }
-    requires calm { ReadsWell (F.device flash.old) }
-    ensures found { result ≡ authentication_with bank (now (F.device flash.old)) (E.accepts engine.now) (Some fuses.now) }
-    ensures cause { HasCause result }
-    ensures backed { (nv : List ℕ) → fuses_of nv ≡ Ok fuses.now → IsBacked result bank (now (F.device flash.old)) nv (E.accepts engine.now) }
+    ensures found { IfOk result (λ found. found ≡ authentication_with bank (now (F.device flash.old)) (E.accepts engine.now) (Ok fuses.now)) }
+    ensures cause { IfOk result HasCause }
+    ensures backed { IfOk result (λ found. (nv : List ℕ) → fuses_of nv ≡ Ok fuses.now → IsBacked found bank (now (F.device flash.old)) nv (E.accepts engine.now)) }
     ensures reads { OnlyReads (F.device flash.old) (F.device flash.new) }
+    ensures failed { IfErr result (λ fail. FailsReading fail (F.device flash.old) (F.device flash.new)) }
 {
     let layout = fuses.provision().layout(bank);
     match layout.judge(flash.size()) {
-        Err(rule) => Authentication::BadLayout(rule),
+        Err(rule) => Ok(Authentication::BadLayout(rule)),
         Ok(()) => check_active(flash, bank, layout, fuses, engine),
+    }
+}
+
+// A bank of a platform that isn't provisioned.
+fn without_fuses(why: FuseFail) -> Authentication
+    ensures found { result ≡ without_fuses why }
+    ensures cause { HasCause result }
+{
+    match why {
+        FuseFail::SlotsSpent => Authentication::SlotsSpent,
+        FuseFail::NotProvisioned
+        | FuseFail::AlreadyProvisioned
+        | FuseFail::LayoutBad(_, _)
+        | FuseFail::Flash(_) => Authentication::Unprovisioned,
     }
 }
 
@@ -81,18 +94,18 @@ fn judge_provisioned<F: Flash, E: Engine>(
 pub fn judge_bank<F: Flash, E: Engine>(
     flash: &mut F,
     bank: Bank,
-    fuses: &Option<Fuses>,
+    found: &Result<Fuses, FuseFail>,
     engine: &E,
-) -> Authentication
+) -> Result<Authentication, FlashFail>
     requires size { IsBankSize (size_of (F.device flash.old)) }
-    requires calm { ReadsWell (F.device flash.old) }
-    ensures found { result ≡ authentication_with bank (now (F.device flash.old)) (E.accepts engine.now) fuses.now }
-    ensures cause { HasCause result }
-    ensures backed { (nv : List ℕ) → fuses_found (fuses_of nv) ≡ fuses.now → IsBacked result bank (now (F.device flash.old)) nv (E.accepts engine.now) }
+    ensures found { IfOk result (λ a. a ≡ authentication_with bank (now (F.device flash.old)) (E.accepts engine.now) found.now) }
+    ensures cause { IfOk result HasCause }
+    ensures backed { IfOk result (λ a. (nv : List ℕ) → fuses_of nv ≡ found.now → IsBacked a bank (now (F.device flash.old)) nv (E.accepts engine.now)) }
     ensures reads { OnlyReads (F.device flash.old) (F.device flash.new) }
+    ensures failed { IfErr result (λ fail. FailsReading fail (F.device flash.old) (F.device flash.new)) }
 {
-    match fuses {
-        None => Authentication::Unprovisioned,
-        Some(fuses) => judge_provisioned(flash, bank, fuses, engine),
+    match found {
+        Ok(fuses) => judge_provisioned(flash, bank, fuses, engine),
+        Err(why) => Ok(without_fuses(*why)),
     }
 }

@@ -1,12 +1,14 @@
 //! The platform: its devices, and what it does with them at each event.
 #![tactic(auto)]
 
-mod authentication;
-mod event;
 mod judging;
-mod line;
+mod lines;
 mod platform;
+mod provisioning;
+mod reading;
+mod turning;
+mod waking;
+mod works;
 
-pub use event::Event;
-pub use line::Line;
+pub use pfr_calm::Line;
 pub use platform::{Parts, Platform};

@@ -1,36 +1,32 @@
 // The platform.
-ghost use Rattle.std.specs.Prelude.{◌≡◌, ◌+◌, ◌<◌, ◌≤◌, ◌++◌, [], false, ◌↔◌, OnOk, OnErr};
-ghost use Rattle.pfr_flash.specs.FlashState.{now, size_of};
+ghost use Rattle.std.specs.Prelude.{◌≡◌, ◌+◌, ◌<◌, ◌≤◌, [], OnOk, OnErr};
+ghost use Rattle.pfr_flash.specs.FlashState.{size_of};
 ghost use Rattle.pfr_flash.specs.Layout.{IsBankSize};
 ghost use Rattle.pfr_flash.specs.declared.names.Bank.{Bank};
-ghost use Rattle.pfr_flash.specs.declared.names.Bank.TheVariants.{Bmc, Pch};
-ghost use Rattle.pfr_auth.specs.Trusted.{IsTrusted};
-ghost use Rattle.pfr_machine.specs.Authentication.{bank_notes, line_of};
 ghost use Rattle.pfr_report.specs.Texts.{AllText};
-ghost use Rattle.pfr_machine.specs.declared.line.Line.TheVariants.{Off, Running};
+ghost use Rattle.pfr_calm.specs.Standing.{standing_of, standing_by};
+ghost use Rattle.pfr_fuses.specs.Growth.{NeverGoesBack, KeepsProvision};
+ghost use Rattle.pfr_calm.specs.World.{AllMoved, state_at};
+ghost use Rattle.pfr_calm.specs.Turn.{Turn, next_item};
+ghost use Rattle.pfr_calm.specs.Promises.{ReleasesTrusted, LocksHaveCauses, BringsUpCalm, ProvisionsSo, FaultsHaveCauses, LossesAreNoted, LostEnds, NotesOff, StaysQuiet, AreOff};
+ghost use Rattle.pfr_machine.specs.Checks.{HasSlot};
+ghost use Rattle.pfr_calm.specs.Run.{armed, takes_arm, with_arm};
 
-use crate::authentication::Authentication;
-use crate::event::Event;
-use crate::judging::{judge_bank, read_fuses};
-use crate::line::Line;
+use crate::lines::{Lines, OFF};
+use crate::works::Works;
+use pfr_calm::Line;
 use pfr_chain::Engine;
-use pfr_flash::{Bank, Counts, Flash, NoMemory};
-use pfr_report::{Note, Notes, What};
+use pfr_flash::{Bank, Device, Flash, NoMemory, Rigged, Tear};
+use pfr_report::Notes;
+use pfr_script::{Arm, ArmWhat, Event};
 use std::alloc::Global;
 use std::marker::Model;
 
 /// The banks' devices and the store, the engine that they are judged by, and the notes of what was done.
 #[derive(Drop)]
 pub struct Platform<F: Flash, E: Engine + Drop> {
-    bmc: F,
-    pch: F,
-    nv: F,
-    engine: E,
-    bmc_line: Line,
-    pch_line: Line,
-    notes: Notes,
-    // how many items were done
-    item: u32,
+    works: Works<F, E>,
+    lines: Lines,
 }
 
 /// What a platform leaves.
@@ -45,163 +41,122 @@ pub struct Parts<F: Flash, E: Engine + Drop> {
 
 impl<F: Flash, E: Engine + Drop> Model for Platform<F, E> {
     ghost use Rattle.pfr_machine.specs.PlatformState.{PlatformState};
+    ghost use Rattle.pfr_machine.specs.WorksInside.{IsPlatform};
 
     ghost Value = { PlatformState E };
 
-    ghost use Rattle.pfr_machine.specs.PlatformState.{IsPlatform};
+    ghost view = { λ p. p.works };
 
-    ghost view = { λ p. record {
-      bmc = F.device p.bmc;
-      pch = F.device p.pch;
-      nv = F.device p.nv;
-      engine = p.engine;
-      bmc_line = p.bmc_line;
-      pch_line = p.pch_line;
-      notes = p.notes;
-      item = p.item;
-    } };
-
-    ghost invariant = { λ p. IsPlatform (F.device p.bmc) (F.device p.pch) (F.device p.nv) p.notes p.item };
+    ghost invariant = { λ p. IsPlatform p.lines p.works.world };
 }
 
 impl<F: Flash, E: Engine + Drop> Platform<F, E> {
-    ghost use Rattle.pfr_machine.specs.PlatformState.{added, counts_in, device_in, line_in};
-    ghost use Rattle.pfr_machine.specs.Promises.{BringsUp};
-    ghost use Rattle.pfr_machine.specs.Power.{Powers, SameButRoom};
+    ghost use Rattle.pfr_machine.specs.PlatformState.{SameButRoom, StoreGrows};
 
-    /// A platform whose banks are off, with no notes. Banks have whole blocks of 64 KiB, the store 32 KiB; no
-    /// read of a device is armed to fail. This takes no memory.
+    /// A platform whose banks are off, with no notes. Banks have whole blocks of 64 KiB, the store 32 KiB. This
+    /// takes no memory.
     pub fn new(alloc: Global, bmc: F, pch: F, nv: F, engine: E) -> Platform<F, E>
         requires bmc_size { IsBankSize (size_of (F.device bmc)) }
         requires pch_size { IsBankSize (size_of (F.device pch)) }
         requires nv_size { size_of (F.device nv) ≡ 32768 }
-        requires bmc_due { (F.device bmc).read_due ≡ false }
-        requires pch_due { (F.device pch).read_due ≡ false }
-        requires nv_due { (F.device nv).read_due ≡ false }
         ensures { result ≡ record {
-          bmc = F.device bmc;
-          pch = F.device pch;
-          nv = F.device nv;
+          world = record { bmc = F.device bmc; pch = F.device pch; nv = F.device nv; item = 0; notes = record { list = []; spare = 0 } };
           engine = engine;
-          bmc_line = Off;
-          pch_line = Off;
-          notes = record { list = []; spare = 0 };
-          item = 0;
         } }
     {
-        Platform {
+        let works = Works {
             bmc,
             pch,
             nv,
             engine,
-            bmc_line: Line::Off,
-            pch_line: Line::Off,
             notes: Notes::new(alloc),
             item: 0,
-        }
+        };
+        Platform { works, lines: OFF }
     }
 
     /// Does one event. After want of memory nothing was done.
     pub fn step(&mut self, event: &Event) -> Result<(), NoMemory>
-        requires items { self.old.item < 67108863 }
-        // The devices are only read, and the notes and lines are those that the contents call for.
-        ensures power { OnOk result (Powers (E.accepts self.old.engine) self.old self.new) }
-
-        // Each bank is released only where its image is trusted, and locked exactly where there is a cause.
-        ensures bmc { OnOk result (BringsUp Bmc (now self.old.bmc) (now self.old.nv) (E.accepts self.old.engine) (counts_in self.old) (added self.old self.new)) }
-        ensures pch { OnOk result (BringsUp Pch (now self.old.pch) (now self.old.nv) (E.accepts self.old.engine) (counts_in self.old) (added self.old self.new)) }
-
-        // It runs exactly where its image is trusted.
-        ensures runs { OnOk result ((bank : Bank) → ((line_in self.new bank ≡ Running) ↔ IsTrusted (now (device_in self.old bank)) (now self.old.nv) bank (E.accepts self.old.engine))) }
-        // No note's cause is a failed device, so each has a text.
-        ensures texts { OnOk result (AllText self.old.notes.list → AllText self.new.notes.list) }
+        requires items { self.old.world.item < 67108863 }
+        // What is done is what the contents call for, unless a call of a device fails.
+        ensures turn { OnOk result (Turn (E.accepts self.old.engine) event.now self.old.world self.new.world) }
+        ensures engine { self.new.engine ≡ self.old.engine }
         ensures err { OnErr result (SameButRoom self.old self.new) }
+
+        // A bank is released only where it is trusted, and each lock has its cause.
+        ensures released { OnOk result (ReleasesTrusted (E.accepts self.old.engine) self.old.world self.new.world) }
+        ensures locks { OnOk result (LocksHaveCauses (E.accepts self.old.engine) self.old.world self.new.world) }
+        ensures brings_up { OnOk result (BringsUpCalm event.now (E.accepts self.old.engine) self.old.world self.new.world) }
+        ensures provisions { OnOk result (ProvisionsSo event.now self.old.world self.new.world) }
+
+        // A fault is noted only where it was counted, and a loss of power exactly where it was.
+        ensures faults { OnOk result (FaultsHaveCauses self.old.world self.new.world) }
+        ensures losses { OnOk result (LossesAreNoted self.old.world self.new.world) }
+        ensures lost { OnOk result (LostEnds self.old.world self.new.world) }
+        ensures off { OnOk result (NotesOff event.now self.old.world self.new.world) }
+        ensures quiet { OnOk result (StaysQuiet event.now self.old.world self.new.world) }
+        ensures moved { OnOk result (AllMoved (next_item self.old.world) self.new.world) }
+
+        // Floors and cancellations never go back, and a provision stays, whatever was cut or torn.
+        ensures grows { OnOk result (NeverGoesBack self.old.world.nv self.new.world.nv) }
+        ensures provision { OnOk result (KeepsProvision self.old.world.nv self.new.world.nv) }
+
+        // No note's cause is a failed device, so each has a text.
+        ensures texts { AllText self.old.world.notes.list → AllText self.new.world.notes.list }
     {
         self.work(event)
     }
 
-    // Reserves room for the notes of one event, and then does the event.
+    // Does one event.
     fn work(&mut self, event: &Event) -> Result<(), NoMemory>
-        requires items { self.old.item < 67108863 }
-        ensures power { OnOk result (Powers (E.accepts self.old.engine) self.old self.new) }
-        ensures texts { OnOk result (AllText self.old.notes.list → AllText self.new.notes.list) }
+        requires items { self.old.world.item < 67108863 }
+        ensures turn { OnOk result (Turn (E.accepts self.old.engine) event.now self.old.world self.new.world) }
+        ensures engine { self.new.engine ≡ self.old.engine }
+        ensures texts { AllText self.old.world.notes.list → AllText self.new.world.notes.list }
+        ensures grows { OnOk result (StoreGrows self.old.world.nv self.new.world.nv) }
+        ensures size { OnOk result (size_of self.old.world.nv ≡ 32768) }
+        ensures spelled { OnOk result (¬ AreOff self.old.world → HasSlot event.now) }
         ensures err { OnErr result (SameButRoom self.old self.new) }
     {
-        self.notes.reserve(64)?;
-        match event {
-            Event::Power => self.power(),
-        }
+        self.works.begin()?;
+        self.lines = self.works.turn(event, self.lines);
         Ok(())
-    }
-
-    // Powers the devices up, and brings up the banks.
-    fn power(&mut self)
-        requires items { self.old.item < 67108863 }
-        requires spare { 64 ≤ self.old.notes.spare }
-        ensures power { Powers (E.accepts self.old.engine) self.old self.new }
-        ensures texts { AllText self.old.notes.list → AllText self.new.notes.list }
-    {
-        self.item += 1;
-        self.bmc.power_up();
-        self.pch.power_up();
-        self.nv.power_up();
-        let item = self.item;
-        self.notes.push(Note {
-            item,
-            what: What::Power,
-        });
-        let fuses = read_fuses(&mut self.nv);
-        let counts = self.counts();
-        let bmc = judge_bank(&mut self.bmc, Bank::Bmc, &fuses, &self.engine);
-        self.bmc_line = bring_up(&mut self.notes, item, Bank::Bmc, counts, &bmc);
-        let pch = judge_bank(&mut self.pch, Bank::Pch, &fuses, &self.engine);
-        self.pch_line = bring_up(&mut self.notes, item, Bank::Pch, counts, &pch);
-    }
-
-    // How many operations each device has done.
-    fn counts(&self) -> Counts
-        ensures { result ≡ counts_in self.now }
-    {
-        Counts {
-            bmc: self.bmc.op_count(),
-            pch: self.pch.op_count(),
-            nv: self.nv.op_count(),
-        }
     }
 
     /// The notes so far, oldest first.
     pub fn notes(&self) -> &Notes
-        ensures { result.now ≡ self.now.notes }
+        ensures { result.now ≡ self.now.world.notes }
     {
-        &self.notes
+        &self.works.notes
     }
 
-    /// How the bank stands.
+    /// How the bank stands, by the last of its notes.
     pub fn line(&self, bank: Bank) -> Line
-        ensures { result ≡ line_in self.now bank }
+        ensures { standing_by result ≡ standing_of bank self.now.world.notes.list }
     {
         match bank {
-            Bank::Bmc => self.bmc_line,
-            Bank::Pch => self.pch_line,
+            Bank::Bmc => self.lines.bmc,
+            Bank::Pch => self.lines.pch,
         }
     }
 
     /// Takes the platform apart. Its parts are as they stood.
     pub fn into_parts(self) -> Parts<F, E>
-        ensures bmc { F.device result.bmc ≡ self.bmc }
-        ensures pch { F.device result.pch ≡ self.pch }
-        ensures nv { F.device result.nv ≡ self.nv }
-        ensures notes { result.notes ≡ self.notes }
+        ensures bmc { F.device result.bmc ≡ self.world.bmc }
+        ensures pch { F.device result.pch ≡ self.world.pch }
+        ensures nv { F.device result.nv ≡ self.world.nv }
+        ensures notes { result.notes ≡ self.world.notes }
         ensures engine { result.engine ≡ self.engine }
     {
-        let Platform {
+        let Platform { works, .. } = self;
+        let Works {
             bmc,
             pch,
             nv,
             engine,
             notes,
             ..
-        } = self;
+        } = works;
         Parts {
             bmc,
             pch,
@@ -212,23 +167,32 @@ impl<F: Flash, E: Engine + Drop> Platform<F, E> {
     }
 }
 
-// Notes how a bank was brought up that was found so, and gives how it stands.
-fn bring_up(
-    notes: &mut Notes,
-    item: u32,
-    bank: Bank,
-    counts: Counts,
-    found: &Authentication,
-) -> Line
-    requires { 3 ≤ notes.old.spare }
-    ensures list { notes.new.list ≡ notes.old.list ++ bank_notes item bank counts found.now }
-    ensures spare { notes.old.spare ≤ notes.new.spare + 3 }
-    ensures line { result ≡ line_of found.now }
+// Arms a failure of a device.
+fn arm_device<F: Rigged>(device: &mut F, arm: &Arm, tear: &Tear)
+    requires some { 1 ≤ arm.now.nth }
+    requires arms { takes_arm arm.now.what ≤ (F.device device.old).arms }
+    ensures { F.device device.new ≡ with_arm arm.now.what arm.now.nth tear.now (F.device device.old) }
 {
-    notes.push(Note {
-        item,
-        what: What::Held { bank, counts },
-    });
-    found.note(notes, item, bank, counts);
-    found.line()
+    match arm.what {
+        ArmWhat::Cut => device.arm_cut(arm.nth, tear),
+        ArmWhat::Fault => device.arm_fault(arm.nth, tear),
+        ArmWhat::ReadFault => device.arm_read_fault(arm.nth),
+    }
+}
+
+impl<F: Rigged, E: Engine + Drop> Platform<F, E> {
+    /// Arms a failure of a device, with this tear where it is a cut or a fault. It is an item of its own.
+    pub fn arm(&mut self, arm: &Arm, tear: &Tear)
+        requires some { 1 ≤ arm.now.nth }
+        requires arms { takes_arm arm.now.what ≤ (state_at arm.now.device self.old.world).arms }
+        requires items { self.old.world.item < 67108863 }
+        ensures { self.new ≡ record self.old { world = armed arm.now tear.now self.old.world } }
+    {
+        match arm.device {
+            Device::Bmc => arm_device(&mut self.works.bmc, arm, tear),
+            Device::Pch => arm_device(&mut self.works.pch, arm, tear),
+            Device::Nv => arm_device(&mut self.works.nv, arm, tear),
+        }
+        self.works.item += 1;
+    }
 }

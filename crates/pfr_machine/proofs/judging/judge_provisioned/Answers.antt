@@ -5,7 +5,7 @@ use Rattle.pfr_flash.proofs.RangeLemmas.{length-now}
 use Rattle.pfr_flash.proofs.ReadingLemmas.{OnlyReads-refl}
 use Rattle.pfr_fuses.specs.RootSlot.{layout_of}
 use Rattle.pfr_fuses.specs.declared.root_slot.RootSlot.{RootSlot}
-use Rattle.pfr_machine.proofs.PowerLemmas.{judge_as}
+use Rattle.pfr_machine.proofs.WorldLemmas.{judge_as}
 use Rattle.pfr_machine.proofs.judging.judge_provisioned.Goals as goal
 
 pub returns-in-Err-clause-reads : goal.returns-in-Err-clause-reads

@@ -1,11 +1,42 @@
-use Rattle.pfr_machine.proofs.PowerLemmas.{step_brings_bmc, step_brings_pch, step_runs, then_ok}
+use Rattle.pfr_calm.proofs.NoteLaws.{Turn-releases, Turn-locks, Turn-faults, Turn-moved}
+use Rattle.pfr_calm.proofs.PowerLaws.{Turn-brings_up}
+use Rattle.pfr_calm.proofs.LossLaws.{Turn-losses, Turn-lost_ends, Turn-notes_off, Turn-stays_quiet}
+use Rattle.pfr_calm.proofs.GrowthLaws.{Turn-keeps_provision}
+use Rattle.pfr_machine.proofs.TurnLemmas.{by_turn, by_both, by_three, provisions_so}
 use Rattle.pfr_machine.proofs.platform.Platform.step.Goals as goal
 
-pub returns-clause-bmc : goal.returns-clause-bmc
-returns-clause-bmc g c = then_ok c.work.result c.work.ensures.power (step_brings_bmc _ _ _)
+pub returns-clause-released : goal.returns-clause-released
+returns-clause-released g c = by_turn c.work.result c.work.ensures.turn (λ t. Turn-releases _ c.args.event.now _ _ t)
 
-pub returns-clause-pch : goal.returns-clause-pch
-returns-clause-pch g c = then_ok c.work.result c.work.ensures.power (step_brings_pch _ _ _)
+pub returns-clause-locks : goal.returns-clause-locks
+returns-clause-locks g c = by_turn c.work.result c.work.ensures.turn (λ t. Turn-locks _ c.args.event.now _ _ t)
 
-pub returns-clause-runs : goal.returns-clause-runs
-returns-clause-runs g c = then_ok c.work.result c.work.ensures.power (step_runs _ _ _)
+pub returns-clause-brings_up : goal.returns-clause-brings_up
+returns-clause-brings_up g c = by_turn c.work.result c.work.ensures.turn (λ t. Turn-brings_up _ c.args.event.now _ _ t)
+
+pub returns-clause-faults : goal.returns-clause-faults
+returns-clause-faults g c = by_turn c.work.result c.work.ensures.turn (λ t. Turn-faults _ c.args.event.now _ _ t)
+
+pub returns-clause-losses : goal.returns-clause-losses
+returns-clause-losses g c = by_turn c.work.result c.work.ensures.turn (λ t. Turn-losses _ c.args.event.now _ _ t)
+
+pub returns-clause-lost : goal.returns-clause-lost
+returns-clause-lost g c = by_turn c.work.result c.work.ensures.turn (λ t. Turn-lost_ends _ c.args.event.now _ _ t)
+
+pub returns-clause-off : goal.returns-clause-off
+returns-clause-off g c = by_turn c.work.result c.work.ensures.turn (λ t. Turn-notes_off _ c.args.event.now _ _ t)
+
+pub returns-clause-quiet : goal.returns-clause-quiet
+returns-clause-quiet g c = by_turn c.work.result c.work.ensures.turn (λ t. Turn-stays_quiet _ c.args.event.now _ _ t)
+
+pub returns-clause-moved : goal.returns-clause-moved
+returns-clause-moved g c = by_turn c.work.result c.work.ensures.turn (λ t. Turn-moved _ c.args.event.now _ _ t)
+
+pub returns-clause-provision : goal.returns-clause-provision
+returns-clause-provision g c = by_both c.work.result c.work.ensures.turn c.work.ensures.size (λ t size. Turn-keeps_provision _ c.args.event.now _ _ size t)
+
+pub returns-clause-provisions : goal.returns-clause-provisions
+returns-clause-provisions g c = by_three c.work.result c.work.ensures.turn c.work.ensures.size c.work.ensures.spelled (λ t size slot. provisions_so _ c.args.event.now _ _ size slot t)
+
+pub returns-clause-grows : goal.returns-clause-grows
+returns-clause-grows g c = by_turn c.work.result c.work.ensures.grows (λ h. h.grows)

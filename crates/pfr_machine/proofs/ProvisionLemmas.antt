@@ -1,0 +1,148 @@
+-- How the platform is provisioned.
+use Rattle.std.proofs.Common.{◌≡◌, ◌∙◌, refl, sym, ap, subst, ℕ, List, [], ◌∷◌, ◌++◌, Result, Ok, Err}
+use Rattle.pfr_flash.specs.FlashState.{FlashState, now, size_of}
+use Rattle.pfr_flash.specs.Plan.{Follows as FollowsPlan}
+use Rattle.pfr_flash.specs.declared.flash.FlashFail.{FlashFail}
+use Rattle.pfr_flash.specs.declared.flash.FlashFail.TheVariants.{Fault, Lost}
+use Rattle.pfr_flash.specs.declared.names.Bank.{Bank}
+use Rattle.pfr_flash.specs.declared.names.Bank.TheVariants as bank
+use Rattle.pfr_flash.specs.declared.names.Device.{Device}
+use Rattle.pfr_flash.specs.declared.names.Device.TheVariants as device
+use Rattle.pfr_flash.proofs.FollowsLemmas.{Follows-reads, Follows-gives}
+use Rattle.pfr_flash.specs.Operation.{Operation}
+use Rattle.pfr_flash.specs.declared.layout.LayoutRule.{LayoutRule}
+use Rattle.pfr_fuses.specs.Provisioning.{provision_plan}
+use Rattle.pfr_fuses.specs.Provisioning.{Provisions, judge_provision}
+use Rattle.pfr_fuses.specs.declared.fuse_fail.FuseFail.{FuseFail}
+use Rattle.pfr_fuses.specs.declared.fuse_fail.FuseFail.TheVariants as fuse
+use Rattle.pfr_fuses.specs.declared.root_slot.RootSlot.{RootSlot}
+use Rattle.pfr_report.specs.Texts.{HasText}
+use Rattle.pfr_report.specs.declared.note.LockWhy.TheVariants.{StoreFault}
+use Rattle.pfr_report.specs.declared.note.What.{What}
+use Rattle.pfr_report.specs.declared.note.What.TheVariants.{Provisioned, ProvisionRefused, Locked}
+use Rattle.pfr_calm.specs.Story.{Move, Says, all_do}
+use Rattle.pfr_calm.specs.World.{World, story_of}
+use Rattle.pfr_calm.specs.Goes.{Ran, Stopped}
+use Rattle.pfr_calm.specs.Course.{lost}
+use Rattle.pfr_calm.specs.Plans.{provisioned, provisioned_in, refusal_of}
+use Rattle.pfr_calm.specs.Standing.{Standing, standing_after}
+use Rattle.pfr_calm.specs.Turn.{is_store, provision_stretch, provision_course, Follows}
+use Rattle.pfr_calm.proofs.Sequence.{Ran-append, Ran-refl, Stopped-more}
+use Rattle.pfr_calm.proofs.Courses.{Steps-none, Steps-crossed, Steps-ended, Crosses-ran, Faults-stopped, Halts-first, Halts-noted}
+use Rattle.pfr_machine.specs.Checks.{provision_ops, provision_note}
+
+-- what would be answered does not matter where the call failed
+Follows-first_only : (plan : List Operation) (old new : FlashState) (fail : FlashFail) → FollowsPlan {A = Unit {0}} plan old new (Err fail) → FollowsPlan {A = What} plan old new (Err fail)
+Follows-first_only plan old new fail p = record { ok = tt; on = tt; part = p.part; failed = p.failed; still = p.still; worked = p.worked }
+
+-- ---- the answer of the call, as what is noted
+module _ (what : RootSlot) (old new : FlashState) (note : What) where
+  done_is : (r : Result (Unit {0}) FuseFail) (cause : FuseFail) → r ≡ Err cause → ¬ (r ≡ Ok tt)
+  done_is r cause e f = cc
+
+  pub ended_done : (j : Result ℕ FuseFail) → Provisions what old new (Ok tt) j → FollowsPlan (provision_ops what j) old new (Ok note)
+  ended_done (Ok number) p = Follows-gives _ old new tt note p
+  ended_done (Err cause) p = absurd (done_is (Err cause) cause refl p.0)
+
+  pub ended_failed : (j : Result ℕ FuseFail) (fail : FlashFail) → Provisions what old new (Err (fuse.Flash fail)) j → FollowsPlan {A = What} (provision_ops what j) old new (Err fail)
+  ended_failed (Ok number) fail p = Follows-first_only (provision_plan number what) old new fail p
+  ended_failed (Err cause) fail p = Follows-reads old new (Err fail) p.1 p.0
+
+  pub ended_already : (j : Result ℕ FuseFail) → Provisions what old new (Err fuse.AlreadyProvisioned) j → FollowsPlan (provision_ops what j) old new (Ok note)
+  ended_already (Ok number) p = absurd p
+  ended_already (Err cause) p = Follows-reads old new (Ok note) p.1 tt
+
+  pub ended_layout : (j : Result ℕ FuseFail) (b : Bank) (rule : LayoutRule) → Provisions what old new (Err (fuse.LayoutBad b rule)) j → FollowsPlan (provision_ops what j) old new (Ok note)
+  ended_layout (Ok number) b rule p = absurd p
+  ended_layout (Err cause) b rule p = Follows-reads old new (Ok note) p.1 tt
+
+  pub ended_spent : (j : Result ℕ FuseFail) → Provisions what old new (Err fuse.SlotsSpent) j → FollowsPlan (provision_ops what j) old new (Ok note)
+  ended_spent (Ok number) p = absurd p
+  ended_spent (Err cause) p = Follows-reads old new (Ok note) p.1 tt
+
+  pub ended_unset : (j : Result ℕ FuseFail) → Provisions what old new (Err fuse.NotProvisioned) j → FollowsPlan (provision_ops what j) old new (Ok note)
+  ended_unset (Ok number) p = absurd p
+  ended_unset (Err cause) p = Follows-reads old new (Ok note) p.1 tt
+
+cause_is : (a b : FuseFail) (r : Result (Unit {0}) FuseFail) → r ≡ Err a → r ≡ Err b → a ≡ b
+cause_is a b r e f = cc
+
+noted_cause : (a b : FuseFail) (r s : Result (Unit {0}) FuseFail) → r ≡ Err a → s ≡ Err b → r ≡ s → ProvisionRefused (refusal_of b) ≡ ProvisionRefused (refusal_of a)
+noted_cause a b r s e f h = ap (λ (c : FuseFail). ProvisionRefused (refusal_of c)) (sym (cause_is a b r e (h ∙ f)))
+
+module _ (what : RootSlot) (old new : FlashState) where
+  pub noted_done : (j : Result ℕ FuseFail) → Provisions what old new (Ok tt) j → Provisioned ≡ provision_note j
+  noted_done (Ok number) p = refl
+  noted_done (Err cause) p = absurd (done_is what old new Provisioned (Err cause) cause refl p.0)
+
+  pub noted_already : (j : Result ℕ FuseFail) → Provisions what old new (Err fuse.AlreadyProvisioned) j → ProvisionRefused (refusal_of fuse.AlreadyProvisioned) ≡ provision_note j
+  noted_already (Ok number) p = absurd p
+  noted_already (Err cause) p = noted_cause cause fuse.AlreadyProvisioned (Err cause) (Err fuse.AlreadyProvisioned) refl refl p.0
+
+  pub noted_layout : (j : Result ℕ FuseFail) (b : Bank) (rule : LayoutRule) → Provisions what old new (Err (fuse.LayoutBad b rule)) j → ProvisionRefused (refusal_of (fuse.LayoutBad b rule)) ≡ provision_note j
+  noted_layout (Ok number) b rule p = absurd p
+  noted_layout (Err cause) b rule p = noted_cause cause (fuse.LayoutBad b rule) (Err cause) (Err (fuse.LayoutBad b rule)) refl refl p.0
+
+  pub noted_spent : (j : Result ℕ FuseFail) → Provisions what old new (Err fuse.SlotsSpent) j → ProvisionRefused (refusal_of fuse.SlotsSpent) ≡ provision_note j
+  noted_spent (Ok number) p = absurd p
+  noted_spent (Err cause) p = noted_cause cause fuse.SlotsSpent (Err cause) (Err fuse.SlotsSpent) refl refl p.0
+
+  pub noted_unset : (j : Result ℕ FuseFail) → Provisions what old new (Err fuse.NotProvisioned) j → ProvisionRefused (refusal_of fuse.SlotsSpent) ≡ provision_note j
+  noted_unset (Ok number) p = absurd p
+  noted_unset (Err cause) p = noted_cause cause fuse.NotProvisioned (Err cause) (Err fuse.NotProvisioned) refl refl p.0
+
+-- ---- what is noted leaves the banks as they stand, and has a text
+pub note_keeps : (j : Result ℕ FuseFail) (which : Bank) (s : Standing) → standing_after which (provision_note j) s ≡ s
+note_keeps (Ok number) which s = refl
+note_keeps (Err cause) which s = refl
+
+pub note_says : (j : Result ℕ FuseFail) → HasText (provision_note j)
+note_says (Ok number) = tt
+note_says (Err cause) = tt
+
+-- ---- the plan
+abbrev pub judged_by : RootSlot → World → Result ℕ FuseFail
+judged_by what w = judge_provision (now w.nv) what (size_of w.bmc) (size_of w.pch)
+
+plan_is : (what : RootSlot) (j : Result ℕ FuseFail) → all_do device.Nv (provision_ops what j) ++ (Says (λ at. provision_note j) ∷ []) ≡ provisioned_in what j
+plan_is what (Ok number) = refl
+plan_is what (Err cause) = refl
+
+pub tried : (what : RootSlot) (old mid new : World) → Ran (all_do device.Nv (provision_ops what (judged_by what old))) old mid → Ran (Says (λ at. provision_note (judged_by what old)) ∷ []) mid new
+    → Ran (provisioned what (story_of old)) old new
+tried what old mid new p q =
+    subst (λ (moves : List Move). Ran moves old new) (plan_is what (judged_by what old))
+    (Ran-append (all_do device.Nv (provision_ops what (judged_by what old))) (Says (λ at. provision_note (judged_by what old)) ∷ []) old mid new p q)
+
+pub tried_short : (what : RootSlot) (which : Device) (fail : FlashFail) (old new : World) → Stopped (all_do device.Nv (provision_ops what (judged_by what old))) which fail old new
+    → Stopped (provisioned what (story_of old)) which fail old new
+tried_short what which fail old new p =
+    subst (λ (moves : List Move). Stopped moves which fail old new) (plan_is what (judged_by what old))
+    (Stopped-more (all_do device.Nv (provision_ops what (judged_by what old))) (Says (λ at. provision_note (judged_by what old)) ∷ []) which fail old new p)
+
+-- ---- the step
+pub crossed : (what : RootSlot) (old new : World) → Ran (provisioned what (story_of old)) old new → Follows (provision_course what) old new
+crossed what old new p = (old, Ran-refl old, Steps-crossed (provision_stretch what) [] old new new (Crosses-ran (provision_stretch what) old new p tt) (Steps-none new))
+
+pub locked : (what : RootSlot) (which : Device) (fail : FlashFail) (old mid first new : World) → fail ≡ Fault → which ≡ device.Nv → Stopped (provisioned what (story_of old)) which fail old mid
+    → Ran (Says (Locked bank.Bmc StoreFault) ∷ []) mid first → Ran (Says (Locked bank.Pch StoreFault) ∷ []) first new → Follows (provision_course what) old new
+locked what which fail old mid first new f d s p q = (
+  old,
+  Ran-refl old,
+  Steps-ended (provision_stretch what) [] old new refl
+      (Faults-stopped (provision_stretch what) device.Nv old mid new refl
+      (subst (λ (x : FlashFail). Stopped (provisioned what (story_of old)) device.Nv x old mid) f
+      (subst (λ (x : Device). Stopped (provisioned what (story_of old)) x fail old mid) d s)) tt
+      (Ran-append (Says (Locked bank.Bmc StoreFault) ∷ []) (Says (Locked bank.Pch StoreFault) ∷ []) mid first new p q)),
+)
+
+pub cut_off : (what : RootSlot) (which found : Device) (fail : FlashFail) (old mid new : World) → fail ≡ Lost → found ≡ which → found ≡ device.Nv → Stopped (provisioned what (story_of old)) found fail old mid
+    → Ran (lost which) mid new → Follows (provision_course what) old new
+cut_off what which found fail old mid new f e d s p = (
+  old,
+  Ran-refl old,
+  Halts-noted (provision_stretch what ∷ []) which old mid new
+      (Halts-first (provision_stretch what) [] which old mid (ap is_store (sym e ∙ d))
+      (subst (λ (x : FlashFail). Stopped (provisioned what (story_of old)) which x old mid) f
+      (subst (λ (x : Device). Stopped (provisioned what (story_of old)) x fail old mid) e s)) tt) p,
+)

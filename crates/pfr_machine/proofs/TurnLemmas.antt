@@ -1,0 +1,130 @@
+-- A whole step, from what was done at its event.
+use Rattle.std.proofs.Common.{◌≡◌, ◌∙◌, refl, sym, ap, subst, ◌≤◌, ◌*◌, List, [], length, arith, Result, Ok, Err, OnOk}
+use Rattle.std.specs.Prelude.{◌≢◌}
+use Rattle.pfr_flash.specs.FlashState.{FlashState}
+use Rattle.pfr_flash.specs.Moved.{Moved}
+use Rattle.pfr_flash.specs.declared.names.Bank.TheVariants as bank
+use Rattle.pfr_engine.specs.Acceptance.{Acceptance}
+use Rattle.pfr_report.specs.declared.note.Note.{Note}
+use Rattle.pfr_script.specs.declared.event.Event.{Event}
+use Rattle.pfr_script.specs.declared.event.Event.TheVariants as event
+use Rattle.pfr_calm.specs.Story.{Story, Move, after}
+use Rattle.pfr_calm.specs.World.{World, IsOn, story_of}
+use Rattle.pfr_calm.specs.Goes.{Ran}
+use Rattle.pfr_calm.specs.Standing.{Standing, standing_of, standing_by, is_off}
+use Rattle.pfr_calm.specs.Turn.{Course, course, where_off, next_item, Follows, Turn}
+use Rattle.pfr_calm.specs.declared.line.Line.{Line}
+use Rattle.pfr_calm.specs.declared.line.Line.TheVariants as line
+use Rattle.pfr_calm.proofs.Courses.{Steps-none}
+use Rattle.pfr_machine.specs.PlatformState.{PlatformState, AddsNotes}
+use Rattle.pfr_machine.specs.WorksInside.{AreLines, IsPlatform}
+use Rattle.pfr_machine.specs.declared.lines.Lines.{Lines}
+use Rattle.pfr_flash.specs.FlashState.{size_of}
+use Rattle.pfr_calm.specs.Promises.{AreOff, ProvisionsSo}
+use Rattle.pfr_calm.proofs.RunLaws.{Turn-item}
+use Rattle.pfr_calm.proofs.ProvisionLaws.{Turn-provisions}
+use Rattle.pfr_machine.specs.Checks.{HasSlot}
+
+-- a step that only notes something
+pub only_noted : (moves : List Move) (old new : World) → Ran moves old new → Follows (record { first = moves; stretches = [] }) old new
+only_noted moves old new p = (new, p, Steps-none new)
+
+where_is_off : (s : Standing) (how : Line) (off on : Course) → s ≡ standing_by how → how ≡ line.Off → where_off (is_off s) off on ≡ off
+where_is_off s how off on e f = ap (λ (x : Standing). where_off (is_off x) off on) (e ∙ ap standing_by f)
+
+where_is_on : (how : Line) (off on : Course) → how ≢ line.Off → where_off (is_off (standing_by how)) off on ≡ on
+where_is_on line.Off off on n = absurd (n refl)
+where_is_on line.Locked off on n = refl
+where_is_on line.Running off on n = refl
+
+-- by how the banks stand
+pub at_off : (s : Standing) (how : Line) (off on : Course) (old new : World) → s ≡ standing_by how → how ≡ line.Off → Follows off old new → Follows (where_off (is_off s) off on) old new
+at_off s how off on old new e f p = subst (λ (c : Course). Follows c old new) (sym (where_is_off s how off on e f)) p
+
+pub at_on : (s : Standing) (how : Line) (off on : Course) (old new : World) → s ≡ standing_by how → how ≢ line.Off → Follows on old new → Follows (where_off (is_off s) off on) old new
+at_on s how off on old new e n p =
+    subst (λ (c : Course). Follows c old new) (sym (ap (λ (x : Standing). where_off (is_off x) off on) e ∙ where_is_on how off on n)) p
+
+-- ---- an item was begun
+pub record Begun (old begun : World) : Type 0 where
+  pub is : begun ≡ record (next_item old) { notes = begun.notes }
+  pub list : begun.notes.list ≡ old.notes.list
+
+module _ (old begun : World) (b : Begun old begun) where
+  story_begun : story_of begun ≡ story_of (next_item old)
+  story_begun = ap story_of b.is ∙ ap (λ (l : List Note). record (story_of (next_item old)) { notes = l }) b.list
+
+  ran_begun : (moves : List Move) (mid : World) → Ran moves begun mid → Ran moves (next_item old) mid
+  ran_begun moves mid p = record {
+    is = p.is ∙ ap (λ (s : Story). after moves s) story_begun;
+    moved = record {
+      bmc = subst (λ (d : FlashState). Moved d mid.bmc) (ap (λ (w : World). w.bmc) b.is) p.moved.bmc;
+      pch = subst (λ (d : FlashState). Moved d mid.pch) (ap (λ (w : World). w.pch) b.is) p.moved.pch;
+      nv = subst (λ (d : FlashState). Moved d mid.nv) (ap (λ (w : World). w.nv) b.is) p.moved.nv;
+    };
+    none_lost = record {
+      bmc = p.none_lost.bmc ∙ ap (λ (w : World). w.bmc.losses) b.is;
+      pch = p.none_lost.pch ∙ ap (λ (w : World). w.pch.losses) b.is;
+      nv = p.none_lost.nv ∙ ap (λ (w : World). w.nv.losses) b.is;
+    };
+  }
+
+  course_of : (accepts : Acceptance) (e : Event) (notes other : List Note) (s t : Story) → s.notes ≡ notes → t.notes ≡ other → notes ≡ other → course accepts e s ≡ course accepts e t
+  course_of accepts event.Power notes other s t p q r = refl
+  course_of accepts event.Off notes other s t p q r = cc
+  course_of accepts (event.Provision what) notes other s t p q r = cc
+
+  pub turned : (accepts : Acceptance) (e : Event) (new : World) → Follows (course accepts e (story_of begun)) begun new → Turn accepts e old new
+  turned accepts e new (mid, p, q) =
+      let same : course accepts e (story_of begun) ≡ course accepts e (story_of old) =
+      course_of accepts e begun.notes.list old.notes.list (story_of begun) (story_of old) refl refl b.list in
+      subst (λ (c : Course). Follows c (next_item old) new) same (mid, ran_begun _ mid p, q)
+
+  on_begun : IsOn old → IsOn begun
+  on_begun on = record {
+    bmc = ap (λ (w : World). w.bmc.powered) b.is ∙ on.bmc;
+    pch = ap (λ (w : World). w.pch.powered) b.is ∙ on.pch;
+    nv = ap (λ (w : World). w.nv.powered) b.is ∙ on.nv;
+  }
+
+  pub lines_begun : (lines : Lines) → AreLines lines old → AreLines lines begun
+  lines_begun lines h = record {
+    bmc = ap (λ (l : List Note). standing_of bank.Bmc l) b.list ∙ h.bmc;
+    pch = ap (λ (l : List Note). standing_of bank.Pch l) b.list ∙ h.pch;
+    together = h.together;
+    apart = h.apart;
+    powered = λ n. on_begun (h.powered n);
+  }
+
+  pub still_few : (accepts : Acceptance) (e : Event) (lines : Lines) (new : World) → IsPlatform lines old → Turn accepts e old new → AddsNotes 64 begun.notes new.notes → length new.notes.list ≤ 64 * new.item
+  still_few accepts e lines new p t n =
+      let item = Turn-item accepts e old new t in
+      let list : length begun.notes.list ≡ length old.notes.list = ap (λ (l : List Note). length l) b.list in
+      omega (arith, p.few, n.few, item, list)
+
+-- the world of a platform whose item was begun
+pub begun_is : {E : Type 0} (old begun : PlatformState E) → begun ≡ record old { world = record (next_item old.world) { notes = begun.world.notes } } → begun.world.notes.list ≡ old.world.notes.list
+    → Begun old.world begun.world
+begun_is {E} old begun e l = record { is = ap (λ (s : PlatformState E). s.world) e; list = l }
+
+-- ---- what holds of a step that was done
+pub by_turn : {A B : Type 0} {T U : Type 0} (r : Result T U) → OnOk r A → (A → B) → OnOk r B
+by_turn (Ok x) a f = f a
+by_turn (Err e) a f = tt
+
+pub by_both : {A B C : Type 0} {T U : Type 0} (r : Result T U) → OnOk r A → OnOk r B → (A → B → C) → OnOk r C
+by_both (Ok x) a b f = f a b
+by_both (Err e) a b f = tt
+
+pub by_three : {A B C D : Type 0} {T U : Type 0} (r : Result T U) → OnOk r A → OnOk r B → OnOk r C → (A → B → C → D) → OnOk r D
+by_three (Ok x) a b c f = f a b c
+by_three (Err e) a b c f = tt
+
+pub provisions_so : (accepts : Acceptance) (e : Event) (old new : World) → size_of old.nv ≡ 32768 → (¬ AreOff old → HasSlot e) → Turn accepts e old new → ProvisionsSo e old new
+provisions_so accepts event.Power old new size slot t = tt
+provisions_so accepts event.Off old new size slot t = tt
+provisions_so accepts (event.Provision what) old new size slot t = λ on. Turn-provisions accepts (event.Provision what) old new size (slot on) t on
+
+-- banks are off where the line says so
+pub off_by_line : (lines : Lines) (w : World) → AreLines lines w → ¬ AreOff w → ¬ (lines.bmc ≡ line.Off)
+off_by_line lines w h n e = n (ap is_off (h.bmc ∙ ap standing_by e))
