@@ -1,192 +1,126 @@
--- What a bench promises.
-use Rattle.std.proofs.Common.{◌≡◌, ◌∙◌, ap, sym, subst, ℕ, List, [], take, Option, Some, None}
+-- What a bench promises, by the laws of whole runs.
+use Rattle.std.proofs.Common.{◌≡◌, sym, refl, subst, ℕ, List, take, Option, Some, None}
 use Rattle.std.specs.Prelude.{IfSome}
-use Rattle.std.proofs.Math.Seq.{take-nil}
-use Rattle.pfr_flash.specs.FlashState.{FlashState, upto}
-use Rattle.pfr_flash.specs.Operation.{Operation, play}
+use Rattle.pfr_flash.specs.FlashState.{FlashState, Rose}
 use Rattle.pfr_flash.specs.declared.names.Bank.{Bank}
-use Rattle.pfr_flash.specs.declared.names.Bank.TheVariants.{Bmc, Pch}
+use Rattle.pfr_flash.specs.declared.names.Bank.TheVariants as bank
 use Rattle.pfr_flash.specs.declared.names.Counts.{Counts}
+use Rattle.pfr_engine.specs.Acceptance.{Acceptance}
 use Rattle.pfr_engine.specs.Accepting.{acceptance}
-use Rattle.pfr_engine.specs.declared.row.Row.{Row}
-use Rattle.pfr_auth.specs.Trusted.{IsTrusted}
-use Rattle.pfr_report.specs.Texts.{AllText, IsNoted}
-use Rattle.pfr_report.specs.declared.note.LockWhy.{LockWhy}
-use Rattle.pfr_report.specs.declared.note.What.{What}
-use Rattle.pfr_report.specs.declared.note.What.TheVariants.{Released, Locked}
-use Rattle.pfr_report.specs.declared.note.Note.{Note}
-use Rattle.pfr_machine.specs.PlatformState.{PlatformState, counts_in}
-use Rattle.pfr_machine.specs.Promises.{IsDue, BringsUp}
-use Rattle.pfr_machine.proofs.PowerLemmas.{step_brings_bmc, step_brings_pch}
-use Rattle.pfr.specs.Benches.{IsWholeRun, IsNoRun, fresh, bank_of, count_of, IsTrustedWith, HasReleasedSpans, LocksHaveCauses, LocksAndReleases, KeepsPromises}
-use Rattle.pfr.specs.Runs.{Promised, WasDone}
+use Rattle.pfr_fuses.specs.Growth.{KeepsProvision}
+use Rattle.pfr_script.specs.declared.item.Item.{Item}
+use Rattle.pfr_script.specs.declared.item.Item.TheVariants as item
+use Rattle.pfr_report.specs.Texts.{IsNoted}
+use Rattle.pfr_report.specs.declared.note.LockWhy.TheVariants.{FlashFault}
+use Rattle.pfr_report.specs.declared.note.What.TheVariants.{Locked}
+use Rattle.pfr_calm.specs.Story.{device_of}
+use Rattle.pfr_calm.specs.World.{World, story_of, state_at}
+use Rattle.pfr_calm.specs.Run.{Did}
+use Rattle.pfr_calm.specs.Spans.{ReleasedSpans}
+use Rattle.pfr_calm.specs.Promises.{ReleasesTrusted, LocksHaveCauses, FaultsHaveCauses, added}
+use Rattle.pfr_calm.proofs.PowerLaws.{Turn-brings_up}
+use Rattle.pfr_calm.proofs.RunLaws.{IsFresh, Reached-spans, Reached-releases, Reached-causes, Reached-faults, Reached-with}
+use Rattle.pfr_calm.proofs.GrowthLaws.{Reached-provision}
+use Rattle.pfr.specs.Benches.{fresh_of, end_of, StandsAs, HasRun}
+use Rattle.pfr.specs.Promises.{HasReleasedSpans, ReleasesTrustedBanks, HasDueLocks, BringsBanksUp, BringsUpIn, KeepsFuses, StaysProvisioned}
 use Rattle.pfr.specs.declared.finished.Bench.{Bench}
-use Rattle.pfr.specs.declared.status.Status.{Status}
-use Rattle.pfr.specs.declared.status.Status.TheVariants.{Done, Usage, BadInput, TooLong, ReadFault, WriteFault, NoMemory}
 
-take_none : (k : ℕ) (ops : List Operation) → ops ≡ [] → take k ops ≡ []
-take_none k ops e = rw e (take-nil k)
+-- ---- a world, but for the number of its items and the memory for notes
+abbrev as_if : World → ℕ → ℕ → World
+as_if w item spare = record { bmc = w.bmc; pch = w.pch; nv = w.nv; item = item; notes = record { list = w.notes.list; spare = spare } }
 
--- a device that did nothing holds at each count what it was made with
-upto_start : (d : FlashState) (start : List ℕ) (k : ℕ) → d.ops ≡ [] → d.start ≡ start → upto d k ≡ start
-upto_start d start k none is = ap (λ (ops : List Operation). play d.start ops) (take_none k d.ops none) ∙ is
+looks : (there here : World) → StandsAs there here → here ≡ as_if there here.item here.notes.spare
+looks there here s = rw (← s.bmc, ← s.pch, ← s.nv, ← s.notes) refl
 
--- what was brought up, of a bench whose devices did nothing
-pub record Brought (bank : Bank) (image nv : List ℕ) (engine : List Row) (bench : Bench) : Type 0 where
-  pub counts : Counts
-  pub brings : BringsUp bank image nv (acceptance engine) counts bench.notes.list
-  pub start : (bank_of bench bank).start ≡ image
-  pub none : (bank_of bench bank).ops ≡ []
-  pub nv_start : bench.nv.device.start ≡ nv
-  pub nv_none : bench.nv.device.ops ≡ []
-  pub engine_is : bench.engine ≡ engine
+spans_as : (accepts : Acceptance) (w : World) (item spare : ℕ) (which : Bank) → ReleasedSpans accepts which (story_of w) → ReleasedSpans accepts which (story_of (as_if w item spare))
+spans_as accepts w item spare bank.Bmc p = p
+spans_as accepts w item spare bank.Pch p = p
 
-span_of : (bank : Bank) (image nv : List ℕ) (engine : List Row) (bench : Bench) → Brought bank image nv engine bench → (svn : ℕ) (at : Counts)
-    → IsNoted bench.notes.list (Released bank svn at)
-    → IsTrustedWith svn (upto (bank_of bench bank) (count_of at bank)) (upto bench.nv.device at.nv) bank (acceptance bench.engine)
-span_of bank image nv engine bench b svn at noted =
-    rw (upto_start (bank_of bench bank) image (count_of at bank) b.none b.start, upto_start bench.nv.device nv at.nv b.nv_none b.nv_start, b.engine_is)
-    (b.brings.released svn at noted).1
+releases_as : (accepts : Acceptance) (old w : World) (item spare : ℕ) → ReleasesTrusted accepts old w → ReleasesTrusted accepts old (as_if w item spare)
+releases_as accepts old w item spare p bank.Bmc svn at noted = p bank.Bmc svn at noted
+releases_as accepts old w item spare p bank.Pch svn at noted = p bank.Pch svn at noted
 
-lock_of : (bank : Bank) (image nv : List ℕ) (engine : List Row) (bench : Bench) → Brought bank image nv engine bench → (why : LockWhy) (at : Counts)
-    → IsNoted bench.notes.list (Locked bank why at)
-    → IsDue why bank (upto (bank_of bench bank) (count_of at bank)) (upto bench.nv.device at.nv) (acceptance bench.engine)
-lock_of bank image nv engine bench b why at noted =
-    rw (upto_start (bank_of bench bank) image (count_of at bank) b.none b.start, upto_start bench.nv.device nv at.nv b.nv_none b.nv_start, b.engine_is)
-    (b.brings.locked why at noted).1
+locks_as : (accepts : Acceptance) (old w : World) (item spare : ℕ) → LocksHaveCauses accepts old w → LocksHaveCauses accepts old (as_if w item spare)
+locks_as accepts old w item spare p bank.Bmc cause at noted other = p bank.Bmc cause at noted other
+locks_as accepts old w item spare p bank.Pch cause at noted other = p bank.Pch cause at noted other
 
-due_of : (bank : Bank) (image nv : List ℕ) (engine : List Row) (bench : Bench) → Brought bank image nv engine bench → (why : LockWhy)
-    → IsDue why bank (bank_of bench bank).start bench.nv.device.start (acceptance bench.engine) → (at : Counts) × IsNoted bench.notes.list (Locked bank why at)
-due_of bank image nv engine bench b why due = (b.counts, b.brings.due why (rw (b.start, b.nv_start, b.engine_is) at due))
-
-trust_of : (bank : Bank) (image nv : List ℕ) (engine : List Row) (bench : Bench) → Brought bank image nv engine bench
-    → (t : IsTrusted (bank_of bench bank).start bench.nv.device.start bank (acceptance bench.engine)) → (at : Counts) × IsNoted bench.notes.list (Released bank t.manifest.svn at)
-trust_of bank image nv engine bench b = rw (b.start, b.nv_start, b.engine_is) (λ t. (b.counts, b.brings.trusted t))
-
-bmc_brought : (bmc pch nv : List ℕ) (engine : List Row) (bench : Bench) → IsWholeRun bmc pch nv engine bench → Brought Bmc bmc nv engine bench
-bmc_brought bmc pch nv engine bench run = record {
-  counts = counts_in (fresh bmc pch nv engine);
-  brings = subst (λ (l : List Note). BringsUp Bmc bmc nv (acceptance engine) (counts_in (fresh bmc pch nv engine)) l) (sym run.left.notes)
-      (step_brings_bmc (acceptance engine) (fresh bmc pch nv engine) run.state run.powers);
-  start = ap (λ (d : FlashState). d.start) run.left.bmc ∙ run.powers.bmc.start;
-  none = ap (λ (d : FlashState). d.ops) run.left.bmc ∙ run.powers.bmc.ops;
-  nv_start = ap (λ (d : FlashState). d.start) run.left.nv ∙ run.powers.nv.start;
-  nv_none = ap (λ (d : FlashState). d.ops) run.left.nv ∙ run.powers.nv.ops;
-  engine_is = run.left.engine ∙ run.powers.engine;
-}
-
-pch_brought : (bmc pch nv : List ℕ) (engine : List Row) (bench : Bench) → IsWholeRun bmc pch nv engine bench → Brought Pch pch nv engine bench
-pch_brought bmc pch nv engine bench run = record {
-  counts = counts_in (fresh bmc pch nv engine);
-  brings = subst (λ (l : List Note). BringsUp Pch pch nv (acceptance engine) (counts_in (fresh bmc pch nv engine)) l) (sym run.left.notes)
-      (step_brings_pch (acceptance engine) (fresh bmc pch nv engine) run.state run.powers);
-  start = ap (λ (d : FlashState). d.start) run.left.pch ∙ run.powers.pch.start;
-  none = ap (λ (d : FlashState). d.ops) run.left.pch ∙ run.powers.pch.ops;
-  nv_start = ap (λ (d : FlashState). d.start) run.left.nv ∙ run.powers.nv.start;
-  nv_none = ap (λ (d : FlashState). d.ops) run.left.nv ∙ run.powers.nv.ops;
-  engine_is = run.left.engine ∙ run.powers.engine;
-}
-
-whole_spans : (bmc pch nv : List ℕ) (engine : List Row) (bench : Bench) → IsWholeRun bmc pch nv engine bench → HasReleasedSpans bench
-whole_spans bmc pch nv engine bench run =
-    let b = bmc_brought bmc pch nv engine bench run in
-    let p = pch_brought bmc pch nv engine bench run in
-    record { trusted = by_bank b p; bmc = b.none; pch = p.none; nv = b.nv_none }
+faults_as : (old w : World) (item spare : ℕ) → FaultsHaveCauses old w → FaultsHaveCauses old (as_if w item spare)
+faults_as old w item spare p = record { flash = flash; store = λ which at noted. p.store which at noted }
   where
-    by_bank : Brought Bmc bmc nv engine bench → Brought Pch pch nv engine bench → (bank : Bank) (svn : ℕ) (at : Counts) → IsNoted bench.notes.list (Released bank svn at)
-        → IsTrustedWith svn (upto (bank_of bench bank) (count_of at bank)) (upto bench.nv.device at.nv) bank (acceptance bench.engine)
-    by_bank b p Bmc = span_of Bmc bmc nv engine bench b
-    by_bank b p Pch = span_of Pch pch nv engine bench p
+    flash : (which : Bank) (at : Counts) → IsNoted (added old (as_if w item spare)) (Locked which FlashFault at)
+        → Rose (state_at (device_of which) old).faults (state_at (device_of which) (as_if w item spare)).faults
+    flash bank.Bmc at noted = p.flash bank.Bmc at noted
+    flash bank.Pch at noted = p.flash bank.Pch at noted
 
-whole_locks : (bmc pch nv : List ℕ) (engine : List Row) (bench : Bench) → IsWholeRun bmc pch nv engine bench → LocksHaveCauses bench
-whole_locks bmc pch nv engine bench run Bmc = lock_of Bmc bmc nv engine bench (bmc_brought bmc pch nv engine bench run)
-whole_locks bmc pch nv engine bench run Pch = lock_of Pch pch nv engine bench (pch_brought bmc pch nv engine bench run)
+-- ---- the promises of a bench
+fresh_start : (bench : Bench) → HasRun bench → IsFresh (fresh_of bench)
+fresh_start bench has = record { notes = refl; size = has.sizes.nv }
 
-whole_keeps : (bmc pch nv : List ℕ) (engine : List Row) (bench : Bench) → IsWholeRun bmc pch nv engine bench → AllText bench.notes.list → KeepsPromises bench
-whole_keeps bmc pch nv engine bench run texts =
-    record { spans = whole_spans bmc pch nv engine bench run; locks = whole_locks bmc pch nv engine bench run; texts = texts }
+-- what holds of worlds that stand as the end of the run does holds of the bench
+of_end : (P : World → Type 0) (bench : Bench) (has : HasRun bench) → P (as_if has.run.end (end_of bench).item (end_of bench).notes.spare) → P (end_of bench)
+of_end P bench has p = subst P (sym (looks has.run.end (end_of bench) has.run.left)) p
 
-whole_causes : (bmc pch nv : List ℕ) (engine : List Row) (bench : Bench) → IsWholeRun bmc pch nv engine bench → LocksAndReleases bench
-whole_causes bmc pch nv engine bench run =
-    let b = bmc_brought bmc pch nv engine bench run in
-    let p = pch_brought bmc pch nv engine bench run in
-    record { locks = locks b p; releases = releases b p }
-  where
-    locks : Brought Bmc bmc nv engine bench → Brought Pch pch nv engine bench → (bank : Bank) (why : LockWhy)
-        → IsDue why bank (bank_of bench bank).start bench.nv.device.start (acceptance bench.engine) → (at : Counts) × IsNoted bench.notes.list (Locked bank why at)
-    locks b p Bmc = due_of Bmc bmc nv engine bench b
-    locks b p Pch = due_of Pch pch nv engine bench p
+has_spans : (bench : Bench) → HasRun bench → HasReleasedSpans bench
+has_spans bench has which =
+    let accepts = acceptance bench.engine in
+    of_end (λ (w : World). ReleasedSpans (acceptance bench.engine) which (story_of w)) bench has (spans_as accepts has.run.end (end_of bench).item (end_of bench).notes.spare which
+    (Reached-spans accepts bench.script.tears (take has.count bench.script.items) (fresh_of bench) has.run.end (fresh_start bench has) has.run.reached which))
 
-    releases : Brought Bmc bmc nv engine bench → Brought Pch pch nv engine bench → (bank : Bank)
-        (t : IsTrusted (bank_of bench bank).start bench.nv.device.start bank (acceptance bench.engine)) → (at : Counts) × IsNoted bench.notes.list (Released bank t.manifest.svn at)
-    releases b p Bmc = trust_of Bmc bmc nv engine bench b
-    releases b p Pch = trust_of Pch pch nv engine bench p
+has_releases : (bench : Bench) → HasRun bench → ReleasesTrustedBanks bench
+has_releases bench has =
+    let accepts = acceptance bench.engine in
+    of_end (λ (w : World). ReleasesTrusted (acceptance bench.engine) (fresh_of bench) w) bench has (releases_as accepts (fresh_of bench) has.run.end (end_of bench).item (end_of bench).notes.spare
+    (Reached-releases accepts bench.script.tears (take has.count bench.script.items) (fresh_of bench) has.run.end (fresh_start bench has) has.run.reached))
 
--- a run that was done keeps all promises, whatever its status
-pub whole_promised : (bmc pch nv : List ℕ) (engine : List Row) (bench : Bench) (status : Status) → IsWholeRun bmc pch nv engine bench → AllText bench.notes.list → Promised (Some bench) status
-whole_promised bmc pch nv engine bench Done run texts = (whole_keeps bmc pch nv engine bench run texts, whole_causes bmc pch nv engine bench run)
-whole_promised bmc pch nv engine bench WriteFault run texts = (whole_keeps bmc pch nv engine bench run texts, whole_causes bmc pch nv engine bench run)
-whole_promised bmc pch nv engine bench Usage run texts = whole_keeps bmc pch nv engine bench run texts
-whole_promised bmc pch nv engine bench (BadInput file place why) run texts = whole_keeps bmc pch nv engine bench run texts
-whole_promised bmc pch nv engine bench (TooLong file) run texts = whole_keeps bmc pch nv engine bench run texts
-whole_promised bmc pch nv engine bench (ReadFault file) run texts = whole_keeps bmc pch nv engine bench run texts
-whole_promised bmc pch nv engine bench NoMemory run texts = whole_keeps bmc pch nv engine bench run texts
-
--- so does one in which nothing was done
-no_note : (bench : Bench) (that : What) → bench.notes.list ≡ [] → ¬ IsNoted bench.notes.list that
-no_note bench that none noted = subst (λ (l : List Note). IsNoted l that) none noted
-
-pub nothing_keeps : (bmc pch nv : List ℕ) (engine : List Row) (bench : Bench) → IsNoRun bmc pch nv engine bench → KeepsPromises bench
-nothing_keeps bmc pch nv engine bench run =
-    let none = run.left.notes ∙ run.notes in
+has_locks : (bench : Bench) → HasRun bench → HasDueLocks bench
+has_locks bench has =
+    let accepts = acceptance bench.engine in
     record {
-      spans = record {
-        trusted = λ bank svn at noted. absurd (no_note bench (Released bank svn at) none noted);
-        bmc = ap (λ (d : FlashState). d.ops) run.left.bmc ∙ ap (λ (s : PlatformState (List Row)). s.bmc.ops) run.nothing;
-        pch = ap (λ (d : FlashState). d.ops) run.left.pch ∙ ap (λ (s : PlatformState (List Row)). s.pch.ops) run.nothing;
-        nv = ap (λ (d : FlashState). d.ops) run.left.nv ∙ ap (λ (s : PlatformState (List Row)). s.nv.ops) run.nothing;
-      };
-      locks = λ bank why at noted. absurd (no_note bench (Locked bank why at) none noted);
-      texts = subst (λ (l : List Note). AllText l) (sym none) tt;
+      contents = of_end (λ (w : World). LocksHaveCauses (acceptance bench.engine) (fresh_of bench) w) bench has (locks_as accepts (fresh_of bench) has.run.end (end_of bench).item (end_of bench).notes.spare
+          (Reached-causes accepts bench.script.tears (take has.count bench.script.items) (fresh_of bench) has.run.end (fresh_start bench has) has.run.reached));
+      faults = of_end (λ (w : World). FaultsHaveCauses (fresh_of bench) w) bench has (faults_as (fresh_of bench) has.run.end (end_of bench).item (end_of bench).notes.spare
+          (Reached-faults accepts bench.script.tears (take has.count bench.script.items) (fresh_of bench) has.run.end (fresh_start bench has) has.run.reached));
     }
 
--- ---- each promise by itself
-pub promised_spans : (option : Option Bench) (status : Status) → Promised option status → IfSome option HasReleasedSpans
-promised_spans None status p = tt
-promised_spans (Some bench) Done p = p.0.spans
-promised_spans (Some bench) WriteFault p = p.0.spans
-promised_spans (Some bench) Usage p = p.spans
-promised_spans (Some bench) (BadInput file place why) p = p.spans
-promised_spans (Some bench) (TooLong file) p = p.spans
-promised_spans (Some bench) (ReadFault file) p = p.spans
-promised_spans (Some bench) NoMemory p = p.spans
+has_grown : (bench : Bench) → HasRun bench → KeepsFuses bench
+has_grown bench has = has.grown
 
-pub promised_locks : (option : Option Bench) (status : Status) → Promised option status → IfSome option LocksHaveCauses
-promised_locks None status p = tt
-promised_locks (Some bench) Done p = p.0.locks
-promised_locks (Some bench) WriteFault p = p.0.locks
-promised_locks (Some bench) Usage p = p.locks
-promised_locks (Some bench) (BadInput file place why) p = p.locks
-promised_locks (Some bench) (TooLong file) p = p.locks
-promised_locks (Some bench) (ReadFault file) p = p.locks
-promised_locks (Some bench) NoMemory p = p.locks
+has_provision : (bench : Bench) → HasRun bench → StaysProvisioned bench
+has_provision bench has = subst (λ (d : FlashState). KeepsProvision (fresh_of bench).nv d) (sym has.run.left.nv)
+    (Reached-provision (acceptance bench.engine) bench.script.tears (take has.count bench.script.items) (fresh_of bench) has.run.end has.sizes.nv has.run.reached)
 
-pub promised_texts : (option : Option Bench) (status : Status) → Promised option status → IfSome option (λ bench. AllText bench.notes.list)
-promised_texts None status p = tt
-promised_texts (Some bench) Done p = p.0.texts
-promised_texts (Some bench) WriteFault p = p.0.texts
-promised_texts (Some bench) Usage p = p.texts
-promised_texts (Some bench) (BadInput file place why) p = p.texts
-promised_texts (Some bench) (TooLong file) p = p.texts
-promised_texts (Some bench) (ReadFault file) p = p.texts
-promised_texts (Some bench) NoMemory p = p.texts
+did_brings : (accepts : Acceptance) (tears : List (List ℕ)) (i : Item) (old new : World) → Did accepts tears i old new → BringsUpIn accepts i old new
+did_brings accepts tears (item.Event e) old new t = Turn-brings_up accepts e old new t
+did_brings accepts tears (item.Arm arm) old new is = tt
 
-pub promised_causes : (option : Option Bench) (status : Status) → Promised option status → WasDone status → IfSome option LocksAndReleases
-promised_causes None status p done = tt
-promised_causes (Some bench) Done p done = p.1
-promised_causes (Some bench) WriteFault p done = p.1
-promised_causes (Some bench) Usage p done = absurd done
-promised_causes (Some bench) (BadInput file place why) p done = absurd done
-promised_causes (Some bench) (TooLong file) p done = absurd done
-promised_causes (Some bench) (ReadFault file) p done = absurd done
-promised_causes (Some bench) NoMemory p done = absurd done
+brings_up : (bench : Bench) → BringsBanksUp bench
+brings_up bench items run =
+    let accepts = acceptance bench.engine in
+    record {
+      end = run.end;
+      reached = Reached-with (Did accepts bench.script.tears) (BringsUpIn accepts) (λ i old new did. did_brings accepts bench.script.tears i old new did) items (fresh_of bench) run.end run.reached;
+      left = run.left;
+    }
+
+-- ---- of each bench
+of_each : (P : Bench → Type 0) → ((bench : Bench) → HasRun bench → P bench) → (option : Option Bench) → IfSome option HasRun → IfSome option P
+of_each P law None has = tt
+of_each P law (Some bench) has = law bench has
+
+pub each_spans : (option : Option Bench) → IfSome option HasRun → IfSome option HasReleasedSpans
+each_spans option has = of_each HasReleasedSpans has_spans option has
+
+pub each_releases : (option : Option Bench) → IfSome option HasRun → IfSome option ReleasesTrustedBanks
+each_releases option has = of_each ReleasesTrustedBanks has_releases option has
+
+pub each_locks : (option : Option Bench) → IfSome option HasRun → IfSome option HasDueLocks
+each_locks option has = of_each HasDueLocks has_locks option has
+
+pub each_grows : (option : Option Bench) → IfSome option HasRun → IfSome option KeepsFuses
+each_grows option has = of_each KeepsFuses has_grown option has
+
+pub each_provision : (option : Option Bench) → IfSome option HasRun → IfSome option StaysProvisioned
+each_provision option has = of_each StaysProvisioned has_provision option has
+
+pub each_brings_up : (option : Option Bench) → IfSome option HasRun → IfSome option BringsBanksUp
+each_brings_up option has = of_each BringsBanksUp (λ bench h. brings_up bench) option has

@@ -1,16 +1,88 @@
 -- A command, and then the line of its status.
-use Rattle.std.proofs.Common.{◌≡◌, ◌∙◌, ap, refl, sym, subst, inl, inr, ℕ, ◌≤◌, ◌⊎◌, List, [], ◌∷◌, ◌++◌, append_assoc, append-nil, Bool, true, Option, Some, None, Result, Ok, Err, arith}
+use Rattle.std.proofs.Common.{◌≡◌, ◌≢◌, ◌∙◌, ap, refl, sym, subst, inl, inr, ℕ, ◌≤◌, ◌⊎◌, List, [], ◌∷◌, ◌++◌, append_assoc, append-nil, Bool, true, false, Option, Some, None, Result, Ok, Err, arith}
+use Rattle.std.specs.Bool.{Decides}
+use Rattle.std.specs.Str.{bytes_eq}
+use Rattle.std.proofs.lemmas.Slice.Eq.{bytes_eq-Decides}
 use Rattle.pfr_shelf.specs.Causes.{Rose}
-use Rattle.pfr_shelf.specs.Files.{Files}
+use Rattle.pfr_shelf.specs.Files.{Files, put_file}
 use Rattle.pfr_shelf.specs.Pieces.{AppendsPart, Writes}
 use Rattle.pfr_report.specs.Texts.{report}
 use Rattle.pfr.specs.Lines.{error_line}
-use Rattle.pfr.specs.Runs.{RunOutput, outside}
+use Rattle.pfr.specs.Request.{RunRequest}
+use Rattle.pfr.specs.Runs.{Outside, RunAnswers, RunOutput, StoresNothing, outside}
+use Rattle.pfr.specs.Storing.{KeepsOthers, StopsStoring, with_bmc, with_pch, with_images}
 use Rattle.pfr.specs.Top.{Output}
 use Rattle.pfr.specs.declared.finished.Bench.{Bench}
+use Rattle.pfr.specs.declared.words.Command.{Command}
+use Rattle.pfr.specs.declared.words.Command.TheVariants.{Run}
+use Rattle.pfr.specs.declared.status.Role.{Role}
+use Rattle.pfr.specs.declared.status.Role.TheVariants as role
 use Rattle.pfr.specs.declared.status.Status.{Status}
-use Rattle.pfr.specs.declared.status.Status.TheVariants.{Done, Usage, BadInput, TooLong, ReadFault, WriteFault, NoMemory}
+use Rattle.pfr.specs.declared.status.Status.TheVariants.{Done, Usage, BadInput, TooLong, ReadFault, WriteFault, StoreFault, NoMemory}
 
+-- ---- files
+put_other : (files : Files) (name bytes other : List ℕ) → other ≢ name → put_file files name bytes other ≡ files other
+put_other files name bytes other differs = rw (by_case (bytes_eq name other) (bytes_eq-Decides name other) (λ e. differs (sym e))) refl
+  where
+    by_case : {P : Type 0} (b : Bool) → Decides b P → ¬ P → b ≡ false
+    by_case true d n = absurd (n (d.0 refl))
+    by_case false d n = refl
+
+images_others : (files : Files) (request : RunRequest) (bench : Bench) → KeepsOthers request files (with_images files request bench)
+images_others files request bench name bmc pch nv =
+    put_other (with_pch files request bench) request.nv _ name nv ∙ (put_other (with_bmc files request bench) request.pch _ name pch ∙ put_other files request.bmc _ name bmc)
+
+stops_others : (file : Role) (files : Files) (request : RunRequest) (bench : Bench) (new : Files) → StopsStoring file files request bench new → KeepsOthers request files new
+stops_others role.Bmc files request bench new s name bmc pch nv = s name bmc
+stops_others role.Pch files request bench new s name bmc pch nv = s name pch ∙ put_other files request.bmc _ name bmc
+stops_others role.Nv files request bench new s name bmc pch nv =
+    s name nv ∙ (put_other (with_bmc files request bench) request.pch _ name pch ∙ put_other files request.bmc _ name bmc)
+stops_others role.Engine files request bench new s name bmc pch nv = absurd s
+stops_others role.Script files request bench new s name bmc pch nv = absurd s
+
+same_others : (request : RunRequest) (old new : Files) → new ≡ old → KeepsOthers request old new
+same_others request old new e name bmc pch nv = ap (λ (f : Files). f name) e
+
+pub others_kept : (told : Bool) (before after : Outside) (request : RunRequest) (option : Option Bench) (status : Status) → RunAnswers told before after request option status → told ≡ true
+    → KeepsOthers request before.files after.files
+others_kept told before after request (Some bench) Done a t = subst (λ (f : Files). KeepsOthers request before.files f) (sym (a.1 t)) (images_others before.files request bench)
+others_kept told before after request None Done a t = absurd a
+others_kept told before after request option Usage a t = absurd a
+others_kept told before after request option (BadInput file place why) a t = same_others request before.files after.files (a.files t)
+others_kept told before after request option (TooLong file) a t = same_others request before.files after.files (a.files t)
+others_kept told before after request option (ReadFault file) a t = same_others request before.files after.files (a.files t)
+others_kept told before after request (Some bench) WriteFault a t = same_others request before.files after.files (a.2 t)
+others_kept told before after request None WriteFault a t = absurd a
+others_kept told before after request (Some bench) (StoreFault file) a t = stops_others file before.files request bench after.files (a.2 t)
+others_kept told before after request None (StoreFault file) a t = absurd a
+others_kept told before after request (Some bench) NoMemory a t = elim a [
+  | inl early ↦ same_others request before.files after.files (early.files t)
+  | inr late ↦ stops_others (late.files t).0 before.files request bench after.files (late.files t).1
+]
+others_kept told before after request None NoMemory a t = elim a [
+  | inl early ↦ same_others request before.files after.files (early.files t)
+  | inr late ↦ absurd late
+]
+
+run_stays : (told : Bool) (before after : Outside) (request : RunRequest) (option : Option Bench) (status : Status) → RunAnswers told before after request option status → StoresNothing status → told ≡ true
+    → after.files ≡ before.files
+run_stays told before after request option Done a n t = absurd n
+run_stays told before after request option Usage a n t = absurd a
+run_stays told before after request option (BadInput file place why) a n t = a.files t
+run_stays told before after request option (TooLong file) a n t = a.files t
+run_stays told before after request option (ReadFault file) a n t = a.files t
+run_stays told before after request (Some bench) WriteFault a n t = a.2 t
+run_stays told before after request None WriteFault a n t = absurd a
+run_stays told before after request option (StoreFault file) a n t = absurd n
+run_stays told before after request option NoMemory a n t = absurd n
+
+pub files_stay : (told : Bool) (before after : Outside) (asks : Option Command) (option : Option Bench) (status : Status)
+    → (asks ≡ None → (option ≡ None) × (told ≡ true → after.files ≡ before.files))
+    → ((request : RunRequest) → asks ≡ Some (Run request) → RunAnswers told before after request option status) → StoresNothing status → told ≡ true → after.files ≡ before.files
+files_stay told before after None option status unused run n t = (unused refl).1 t
+files_stay told before after (Some (Run request)) option status unused run n t = run_stays told before after request option status (run request refl) n t
+
+-- ---- output
 -- no part of nothing is something
 nothing_more : (old new : List ℕ) → AppendsPart old new [] → new ≡ old
 nothing_more old new p = p.appended ∙ (ap (λ w. old ++ w) (empty_front p.part p.rest (sym p.whole)) ∙ append-nil old)
@@ -41,4 +113,5 @@ output_and_line tells files shelf_faults written faults s0 s1 o0 o1 o2 option Us
 output_and_line tells files shelf_faults written faults s0 s1 o0 o1 o2 option (BadInput file place why) r later w o = (o.0, o.1, line_after tells written faults o0 o1 o2 o.0 (error_line (BadInput file place why)) r o.2 later w)
 output_and_line tells files shelf_faults written faults s0 s1 o0 o1 o2 option (TooLong file) r later w o = (o.0, o.1, line_after tells written faults o0 o1 o2 o.0 (error_line (TooLong file)) r o.2 later w)
 output_and_line tells files shelf_faults written faults s0 s1 o0 o1 o2 option (ReadFault file) r later w o = (o.0, o.1, line_after tells written faults o0 o1 o2 o.0 (error_line (ReadFault file)) r o.2 later w)
+output_and_line tells files shelf_faults written faults s0 s1 o0 o1 o2 option (StoreFault file) r later w o = (o.0, o.1, line_after tells written faults o0 o1 o2 o.0 (error_line (StoreFault file)) r o.2 later w)
 output_and_line tells files shelf_faults written faults s0 s1 o0 o1 o2 option NoMemory r later w o = (o.0, o.1, line_after tells written faults o0 o1 o2 o.0 (error_line NoMemory) r o.2 later w)

@@ -6,15 +6,17 @@ use Rattle.pfr_engine.specs.Rows.{judge_text}
 use Rattle.pfr_engine.specs.declared.row.Row.{Row}
 use Rattle.pfr_engine.specs.declared.engine_fail.EngineFail.{EngineFail}
 use Rattle.pfr_engine.specs.declared.engine_fail.EngineFail.TheVariants as engine
-use Rattle.pfr.specs.Script.{script_of}
-use Rattle.pfr.specs.Names.{RunNames}
+use Rattle.pfr_script.specs.Reading.{judge_script}
+use Rattle.pfr_script.specs.ScriptState.{ScriptState}
+use Rattle.pfr_script.specs.declared.script_fail.ScriptFail.{ScriptFail}
+use Rattle.pfr_script.specs.declared.script_fail.ScriptFail.TheVariants as script
+use Rattle.pfr.specs.Request.{RunRequest}
 use Rattle.pfr.specs.declared.status.Role.{Role}
 use Rattle.pfr.specs.declared.status.Role.TheVariants as role
 use Rattle.pfr.specs.declared.status.Why.{Why}
 use Rattle.pfr.specs.declared.status.Why.TheVariants as why
-use Rattle.pfr.specs.declared.script.ScriptWhy.TheVariants.{Word}
 use Rattle.pfr.specs.declared.status.Status.{Status}
-use Rattle.pfr.specs.declared.status.Status.TheVariants.{Done, Usage, BadInput, TooLong, ReadFault, WriteFault, NoMemory}
+use Rattle.pfr.specs.declared.status.Status.TheVariants.{Done, Usage, BadInput, TooLong, ReadFault, WriteFault, StoreFault, NoMemory}
 
 -- the most bytes that a file of this role may have
 abbrev pub limit_of : Role → ℕ
@@ -44,8 +46,13 @@ fault_in (Err engine.NoMemory) = None
 abbrev pub engine_fault : Judge
 engine_fault bytes = fault_in (judge_text bytes)
 
+abbrev pub fault_in_script : {T : Type 0} → Result T ScriptFail → Option (ℕ × Why)
+fault_in_script (Ok script) = None
+fault_in_script (Err (script.Text line cause)) = Some (line, why.Script cause)
+fault_in_script (Err script.NoMemory) = None
+
 abbrev pub script_fault : Judge
-script_fault bytes = if script_of bytes then None else Some (1, why.Script Word)
+script_fault bytes = fault_in_script (judge_script bytes)
 
 -- what a file says: it is not there, it keeps its rules, or it breaks one, which this status tells
 pub data Finding : Type 0 where
@@ -73,10 +80,10 @@ abbrev pub script_row : List ℕ → Files → Role × Finding
 script_row name files = (role.Script, finding role.Script script_fault (files name))
 
 -- the files of a run, in order
-abbrev pub run_rows : RunNames → Files → List (Role × Finding)
-run_rows names files =
-    image_row role.Bmc names.bmc files ∷ image_row role.Pch names.pch files ∷ image_row role.Nv names.nv files
-    ∷ engine_row names.engine files ∷ script_row names.script files ∷ []
+abbrev pub run_rows : RunRequest → Files → List (Role × Finding)
+run_rows request files =
+    image_row role.Bmc request.bmc files ∷ image_row role.Pch request.pch files ∷ image_row role.Nv request.nv files
+    ∷ engine_row request.engine files ∷ script_row request.script files ∷ []
 
 -- what stands after a file
 abbrev pub after_file : Finding → Finding → Finding
@@ -103,6 +110,7 @@ RefusesFor tells files before after NoMemory = Unit {0}
 RefusesFor tells files before after Done = ⊥
 RefusesFor tells files before after Usage = ⊥
 RefusesFor tells files before after WriteFault = ⊥
+RefusesFor tells files before after (StoreFault file) = ⊥
 
 -- The loads of these files, from the shelf as it was to the shelf as it is.
 pub record Loads {S T : Type 0} (tells : Bool) (files : S → Files) (faults : S → ℕ) (old new : S) (rows : Files → List (Role × Finding)) (result : Result T Status) : Type 0 where
@@ -114,3 +122,7 @@ pub record Loads {S T : Type 0} (tells : Bool) (files : S → Files) (faults : S
 -- the file of that name is an engine's, with these rows
 abbrev pub HoldsRows : Files → List ℕ → List Row → Type 0
 HoldsRows files name rows = IsSomeAnd (files name) (λ bytes. judge_text bytes ≡ Ok rows)
+
+-- the file of that name is a script, which says this
+abbrev pub HoldsScript : Files → List ℕ → ScriptState → Type 0
+HoldsScript files name script = IsSomeAnd (files name) (λ bytes. judge_script bytes ≡ Ok script)

@@ -1,10 +1,11 @@
-pub mod Script
-pub mod Names
+pub mod Request
 pub mod Commands
 pub mod Judging
 pub mod Lines
 pub mod Loading
 pub mod Benches
-pub mod PoweredOn
+pub mod Promises
+pub mod Played
+pub mod Storing
 pub mod Runs
 pub mod Top

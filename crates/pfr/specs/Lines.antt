@@ -1,13 +1,13 @@
 -- The line of a status.
 use Rattle.std.specs.Prelude.{ℕ, List, [], ◌++◌, codes, decimal}
 use Rattle.pfr_engine.specs.Why.{word_of}
-use Rattle.pfr.specs.declared.script.ScriptWhy.TheVariants.{Word}
+use Rattle.pfr_script.specs.Why as script
 use Rattle.pfr.specs.declared.status.Role.{Role}
 use Rattle.pfr.specs.declared.status.Role.TheVariants as role
 use Rattle.pfr.specs.declared.status.Why.{Why}
 use Rattle.pfr.specs.declared.status.Why.TheVariants as why
 use Rattle.pfr.specs.declared.status.Status.{Status}
-use Rattle.pfr.specs.declared.status.Status.TheVariants.{Done, Usage, BadInput, TooLong, ReadFault, WriteFault, NoMemory}
+use Rattle.pfr.specs.declared.status.Status.TheVariants.{Done, Usage, BadInput, TooLong, ReadFault, WriteFault, StoreFault, NoMemory}
 
 abbrev pub role_word : Role → List ℕ
 role_word role.Bmc = codes "bmc"
@@ -19,7 +19,7 @@ role_word role.Script = codes "script"
 abbrev pub why_word : Why → List ℕ
 why_word why.Size = codes "size"
 why_word (why.Engine cause) = word_of cause
-why_word (why.Script Word) = codes "word"
+why_word (why.Script cause) = script.word_of cause
 
 -- what a status writes; a command that was done and a sink that failed write nothing
 abbrev pub error_line : Status → List ℕ
@@ -29,6 +29,7 @@ error_line (BadInput file place why) = codes "error: " ++ (role_word file ++ (co
 error_line (TooLong file) = codes "error: " ++ (role_word file ++ codes " too long\n")
 error_line (ReadFault file) = codes "error: cannot read " ++ (role_word file ++ codes "\n")
 error_line WriteFault = []
+error_line (StoreFault file) = codes "error: cannot store " ++ (role_word file ++ codes "\n")
 error_line NoMemory = codes "error: no memory\n"
 
 abbrev pub code_of : Status → ℕ
@@ -38,4 +39,5 @@ code_of (BadInput _ _ _) = 3
 code_of (TooLong _) = 3
 code_of (ReadFault _) = 4
 code_of WriteFault = 5
+code_of (StoreFault _) = 6
 code_of NoMemory = 7

@@ -1,17 +1,18 @@
 -- What was loaded.
 use Rattle.std.specs.Prelude.{◌≡◌, Some, length, true}
 use Rattle.pfr_shelf.specs.Files.{Files}
-use Rattle.pfr.specs.Judging.{HoldsRows, image_fits}
-use Rattle.pfr.specs.Names.{RunNames}
+use Rattle.pfr.specs.Judging.{HoldsRows, HoldsScript, image_fits}
+use Rattle.pfr.specs.Request.{RunRequest}
 use Rattle.pfr.specs.declared.load.Loaded.{Loaded}
 use Rattle.pfr.specs.declared.status.Role.TheVariants as role
 
--- the images are the files' bytes, and the engine's rows are what its file says
-pub record IsLoaded (files : Files) (names : RunNames) (loaded : Loaded) : Type 0 where
-  pub bmc : files names.bmc ≡ Some loaded.bmc.items
-  pub pch : files names.pch ≡ Some loaded.pch.items
-  pub nv : files names.nv ≡ Some loaded.nv.items
-  pub engine : HoldsRows files names.engine loaded.engine
+-- the images are the files' bytes, and the engine's rows and the script are what their files say
+pub record IsLoaded (files : Files) (request : RunRequest) (loaded : Loaded) : Type 0 where
+  pub bmc : files request.bmc ≡ Some loaded.bmc.items
+  pub pch : files request.pch ≡ Some loaded.pch.items
+  pub nv : files request.nv ≡ Some loaded.nv.items
+  pub engine : HoldsRows files request.engine loaded.engine
+  pub script : HoldsScript files request.script loaded.script
 
 -- the images have the lengths of devices
 pub record HasSizes (loaded : Loaded) : Type 0 where

@@ -1,15 +1,17 @@
 -- What a run does, status by status.
-use Rattle.std.specs.Prelude.{◌≡◌, ◌⊎◌, ℕ, List, [], ◌++◌, Bool, true, Option, Some, None, IsSomeAnd, IfSome}
+use Rattle.std.specs.Prelude.{◌≡◌, ◌⊎◌, ℕ, List, [], ◌++◌, take, Bool, true, Option, None, IsSomeAnd, IfSome}
 use Rattle.pfr_report.specs.Texts.{report}
 use Rattle.pfr_shelf.specs.Causes.{Rose}
 use Rattle.pfr_shelf.specs.Files.{Files}
 use Rattle.pfr_shelf.specs.Pieces.{AppendsPart}
-use Rattle.pfr.specs.Benches.{IsWholeRun, IsNoRun, IsMadeOf, KeepsPromises, LocksAndReleases}
+use Rattle.pfr.specs.Benches.{IsRun, HasRooms, IsMadeOf}
 use Rattle.pfr.specs.Judging.{Keeps, RefusesFor, run_rows, verdict}
-use Rattle.pfr.specs.Names.{RunNames}
+use Rattle.pfr.specs.Request.{RunRequest}
+use Rattle.pfr.specs.Storing.{with_images, StopsStoring, RefusesImages}
 use Rattle.pfr.specs.declared.finished.Bench.{Bench}
+use Rattle.pfr.specs.declared.status.Role.{Role}
 use Rattle.pfr.specs.declared.status.Status.{Status}
-use Rattle.pfr.specs.declared.status.Status.TheVariants.{Done, Usage, BadInput, TooLong, ReadFault, WriteFault, NoMemory}
+use Rattle.pfr.specs.declared.status.Status.TheVariants.{Done, Usage, BadInput, TooLong, ReadFault, WriteFault, StoreFault, NoMemory}
 
 -- The world outside at one moment: what the shelf and the sink hold, and how often each has failed.
 pub record Outside : Type 0 where
@@ -21,42 +23,62 @@ pub record Outside : Type 0 where
 abbrev pub outside : {S K : Type 0} → (S → Files) → (S → ℕ) → (K → List ℕ) → (K → ℕ) → S → K → Outside
 outside files shelf_faults written sink_faults shelf out = record { files = files shelf; shelf_faults = shelf_faults shelf; output = written out; sink_faults = sink_faults out }
 
--- a bench over its own devices' bytes and its own engine
-abbrev pub RanWhole : Bench → Type 0
-RanWhole bench = IsWholeRun bench.bmc.device.start bench.pch.device.start bench.nv.device.start bench.engine bench
+-- All items of the script were done, on a platform of the files.
+pub record IsWhole (told : Bool) (before : Outside) (request : RunRequest) (bench : Bench) : Type 0 where
+  pub run : IsRun bench.script.items bench
+  pub rooms : HasRooms request.wear bench
+  pub made : told ≡ true → IsMadeOf before.files request bench
+  pub sound : told ≡ true → verdict (run_rows request before.files) ≡ Keeps
 
-abbrev pub RanNothing : Bench → Type 0
-RanNothing bench = IsNoRun bench.bmc.device.start bench.pch.device.start bench.nv.device.start bench.engine bench
+-- The first of the items were done, on a platform of the files.
+pub record IsPart (told : Bool) (before : Outside) (request : RunRequest) (bench : Bench) : Type 0 where
+  pub count : ℕ
+  pub run : IsRun (take count bench.script.items) bench
+  pub rooms : HasRooms request.wear bench
+  pub made : told ≡ true → IsMadeOf before.files request bench
+  pub sound : told ≡ true → verdict (run_rows request before.files) ≡ Keeps
 
--- the one item of the script was done, on a platform of the files
-pub record IsWhole (told : Bool) (before : Outside) (names : RunNames) (bench : Bench) : Type 0 where
-  pub run : RanWhole bench
-  pub made : told ≡ true → IsMadeOf before.files names bench
-  pub sound : told ≡ true → verdict (run_rows names before.files) ≡ Keeps
+-- a file was refused: nothing was done, and no file was changed
+pub record IsRefused (told : Bool) (before after : Outside) (request : RunRequest) (option : Option Bench) (status : Status) : Type 0 where
+  pub cause : RefusesFor told (run_rows request before.files) before.shelf_faults after.shelf_faults status
+  pub bench : option ≡ None
+  pub files : told ≡ true → after.files ≡ before.files
 
--- the platform of the files was made
-pub record IsPart (told : Bool) (before : Outside) (names : RunNames) (bench : Bench) : Type 0 where
-  pub run : RanWhole bench ⊎ RanNothing bench
-  pub made : told ≡ true → IsMadeOf before.files names bench
-  pub sound : told ≡ true → verdict (run_rows names before.files) ≡ Keeps
+-- there was no memory for a load, for the platform or for an item, and no file was changed
+pub record StopsEarly (told : Bool) (before after : Outside) (request : RunRequest) (option : Option Bench) : Type 0 where
+  pub bench : IfSome option (IsPart told before request)
+  pub files : told ≡ true → after.files ≡ before.files
 
--- When a run gives a status, and with which bench. It leaves every file.
-abbrev pub RunAnswers : Bool → Outside → Outside → RunNames → Option Bench → Status → Type 0
-RunAnswers told before after names option Done = IsSomeAnd option (IsWhole told before names)
-RunAnswers told before after names option Usage = ⊥
-RunAnswers told before after names option (BadInput file place why) =
-    RefusesFor told (run_rows names before.files) before.shelf_faults after.shelf_faults (BadInput file place why) × (option ≡ None)
-RunAnswers told before after names option (TooLong file) =
-    RefusesFor told (run_rows names before.files) before.shelf_faults after.shelf_faults (TooLong file) × (option ≡ None)
-RunAnswers told before after names option (ReadFault file) =
-    RefusesFor told (run_rows names before.files) before.shelf_faults after.shelf_faults (ReadFault file) × (option ≡ None)
-RunAnswers told before after names option WriteFault =
-    IsSomeAnd option (λ bench. IsWhole told before names bench × Rose before.sink_faults after.sink_faults)
-RunAnswers told before after names option NoMemory = IfSome option (IsPart told before names)
+-- there was no memory for a store
+pub record StopsLate (told : Bool) (before after : Outside) (request : RunRequest) (bench : Bench) : Type 0 where
+  pub whole : IsWhole told before request bench
+  pub files : told ≡ true → (file : Role) × StopsStoring file before.files request bench after.files
+
+-- When a run gives a status, with which bench, and which files it leaves.
+abbrev pub RunAnswers : Bool → Outside → Outside → RunRequest → Option Bench → Status → Type 0
+RunAnswers told before after request option Done =
+    IsSomeAnd option (λ bench. IsWhole told before request bench
+    × (told ≡ true → after.files ≡ with_images before.files request bench))
+RunAnswers told before after request option Usage = ⊥
+RunAnswers told before after request option (BadInput file place why) = IsRefused told before after request option (BadInput file place why)
+RunAnswers told before after request option (TooLong file) = IsRefused told before after request option (TooLong file)
+RunAnswers told before after request option (ReadFault file) = IsRefused told before after request option (ReadFault file)
+RunAnswers told before after request option WriteFault =
+    IsSomeAnd option (λ bench. IsWhole told before request bench
+    × Rose before.sink_faults after.sink_faults
+    × (told ≡ true → after.files ≡ before.files))
+RunAnswers told before after request option (StoreFault file) =
+    IsSomeAnd option (λ bench. IsWhole told before request bench
+    × Rose before.shelf_faults after.shelf_faults
+    × (told ≡ true → StopsStoring file before.files request bench after.files))
+RunAnswers told before after request option NoMemory =
+    StopsEarly told before after request option ⊎ IsSomeAnd option (StopsLate told before after request)
 
 -- what a command had written before the line of its status
 abbrev pub Said : Option Bench → Status → List ℕ → Type 0
 Said option Done text = IsSomeAnd option (λ bench. text ≡ report bench.notes.list)
+Said option (StoreFault file) text = IsSomeAnd option (λ bench. text ≡ report bench.notes.list)
+Said option NoMemory text = (text ≡ []) ⊎ IsSomeAnd option (λ bench. IsRun bench.script.items bench × (text ≡ report bench.notes.list))
 Said option _ text = text ≡ []
 
 -- what the sink got from a run, before the line of its status
@@ -66,15 +88,20 @@ RunOutput told before after option WriteFault =
 RunOutput told before after option status =
     (text : List ℕ) × Said option status text × (told ≡ true → after.output ≡ before.output ++ text)
 
--- what a bench promises at each status: where the script was done, also that banks are released and locked where they are to be
-abbrev pub Promised : Option Bench → Status → Type 0
-Promised None status = Unit {0}
-Promised (Some bench) Done = KeepsPromises bench × LocksAndReleases bench
-Promised (Some bench) WriteFault = KeepsPromises bench × LocksAndReleases bench
-Promised (Some bench) status = KeepsPromises bench
+-- what a whole run leaves outside: the report is written, and then the images are stored
+abbrev pub Delivers : Bool → Outside → Outside → RunRequest → Bench → Status → Type 0
+Delivers told before after request bench Done = told ≡ true → after.files ≡ with_images before.files request bench
+Delivers told before after request bench WriteFault = Rose before.sink_faults after.sink_faults × (told ≡ true → after.files ≡ before.files)
+Delivers told before after request bench status = RefusesImages told before.files after.files before.shelf_faults after.shelf_faults request bench status
 
--- the script was done
-abbrev pub WasDone : Status → Type 0
-WasDone Done = Unit {0}
-WasDone WriteFault = Unit {0}
-WasDone status = ⊥
+-- the sink got the report of these notes and nothing else, or a first part of it
+abbrev pub Reports : Bool → Outside → Outside → List ℕ → Status → Type 0
+Reports told before after text WriteFault = told ≡ true → AppendsPart before.output after.output text
+Reports told before after text _ = told ≡ true → after.output ≡ before.output ++ text
+
+-- at such a status every file is as it was
+abbrev pub StoresNothing : Status → Type 0
+StoresNothing Done = ⊥
+StoresNothing (StoreFault file) = ⊥
+StoresNothing NoMemory = ⊥
+StoresNothing status = Unit {0}

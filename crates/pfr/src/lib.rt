@@ -3,13 +3,13 @@
 
 mod finished;
 mod load;
+mod playing;
 mod run;
-mod script;
 mod status;
+mod storing;
 mod top;
 mod words;
 
 pub use finished::{Bench, Finished};
-pub use script::ScriptWhy;
 pub use status::{Role, Status, Why};
 pub use top::pfr;

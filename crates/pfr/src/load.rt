@@ -1,13 +1,13 @@
 // The files of a command, each judged before the next is loaded.
 ghost use Rattle.std.specs.Prelude.{◌≡◌, ◌∷◌, [], ◌≤◌, ◌%◌, List, ℕ, length, true, Some, IfOk, IfErr, IsTrue};
 ghost use Rattle.pfr_shelf.specs.Causes.{Rose};
-ghost use Rattle.pfr.specs.Judging.{Judge, Loads, HoldsRows, RefusesFor, engine_row, finding, image_fits, image_row, limit_of, run_rows, script_row};
+ghost use Rattle.pfr.specs.Judging.{Judge, Loads, HoldsRows, HoldsScript, RefusesFor, engine_row, finding, image_fits, image_row, limit_of, run_rows, script_row};
 ghost use Rattle.pfr.specs.Loading.{IsLoaded, HasSizes};
 
-use crate::script::{ScriptWhy, is_power};
 use crate::status::{Role, Status, Why};
-use crate::words::RunWords;
+use crate::words::RunRequest;
 use pfr_chain::{EngineFail, ListEngine};
+use pfr_script::{Script, ScriptFail, parse};
 use pfr_shelf::{Shelf, ShelfFail};
 use std::alloc::Global;
 
@@ -18,6 +18,7 @@ pub struct Loaded {
     pub pch: Vec<u8>,
     pub nv: Vec<u8>,
     pub engine: ListEngine,
+    pub script: Script,
 }
 
 // The bytes of a file, within its limit. At an `Err` the status has its cause, whatever else the file is judged by.
@@ -88,40 +89,43 @@ fn load_engine<S: Shelf>(alloc: Global, shelf: &mut S, name: &str) -> Result<Lis
     }
 }
 
-fn load_script<S: Shelf>(alloc: Global, shelf: &mut S, name: &str) -> Result<(), Status>
+fn load_script<S: Shelf>(alloc: Global, shelf: &mut S, name: &str) -> Result<Script, Status>
     ensures loads { Loads S.tells S.files S.faults shelf.old shelf.new
         (λ files. script_row name.now files ∷ []) result }
+    ensures script { IfOk result (λ script. S.tells ≡ true → HoldsScript (S.files shelf.old) name.now script) }
 {
     let bytes = load(alloc, shelf, Role::Script, name)?;
-    if !is_power(bytes.as_slice()) {
-        return Err(Status::BadInput {
+    match parse(alloc, bytes.as_slice()) {
+        Ok(script) => Ok(script),
+        Err(ScriptFail::Text { line, why }) => Err(Status::BadInput {
             file: Role::Script,
-            place: 1,
-            why: Why::Script(ScriptWhy::Word),
-        });
+            place: line,
+            why: Why::Script(why),
+        }),
+        Err(ScriptFail::NoMemory) => Err(Status::NoMemory),
     }
-    Ok(())
 }
 
 /// Loads the files of a run in the order of its words. At an `Err` the status has its cause.
 pub fn load_files<S: Shelf>(
     alloc: Global,
     shelf: &mut S,
-    names: &RunWords<'_>,
+    request: &RunRequest<'_>,
 ) -> Result<Loaded, Status>
-    ensures loads { Loads S.tells S.files S.faults shelf.old shelf.new (run_rows names.now) result }
-    ensures loaded { IfOk result (λ loaded. S.tells ≡ true → IsLoaded (S.files shelf.old) names.now loaded) }
+    ensures loads { Loads S.tells S.files S.faults shelf.old shelf.new (run_rows request.now) result }
+    ensures loaded { IfOk result (λ loaded. S.tells ≡ true → IsLoaded (S.files shelf.old) request.now loaded) }
     ensures sizes { IfOk result HasSizes }
 {
-    let bmc = load_image(alloc, shelf, Role::Bmc, names.bmc)?;
-    let pch = load_image(alloc, shelf, Role::Pch, names.pch)?;
-    let nv = load_image(alloc, shelf, Role::Nv, names.nv)?;
-    let engine = load_engine(alloc, shelf, names.engine)?;
-    load_script(alloc, shelf, names.script)?;
+    let bmc = load_image(alloc, shelf, Role::Bmc, request.bmc)?;
+    let pch = load_image(alloc, shelf, Role::Pch, request.pch)?;
+    let nv = load_image(alloc, shelf, Role::Nv, request.nv)?;
+    let engine = load_engine(alloc, shelf, request.engine)?;
+    let script = load_script(alloc, shelf, request.script)?;
     Ok(Loaded {
         bmc,
         pch,
         nv,
         engine,
+        script,
     })
 }

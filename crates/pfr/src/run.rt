@@ -1,27 +1,19 @@
 // The command `run`.
-ghost use Rattle.std.specs.Prelude.{◌≡◌, ◌≤◌, length, true, IfOk, IfErr, OnOk};
+ghost use Rattle.std.specs.Prelude.{◌≡◌, ◌≤◌, IfSome};
 ghost use Rattle.pfr_report.specs.Texts.{report, AllText};
 ghost use Rattle.pfr_shelf.specs.Pieces.{Writes};
-ghost use Rattle.pfr.specs.Loading.{HasSizes};
-ghost use Rattle.pfr.specs.PoweredOn.{IsPowerOnOf};
-ghost use Rattle.pfr.specs.Runs.{Promised, RunAnswers, RunOutput, outside};
+ghost use Rattle.pfr.specs.Benches.{HasRun};
+ghost use Rattle.pfr.specs.Runs.{Delivers, Reports, RunAnswers, RunOutput, outside};
 
 use crate::finished::{Bench, Finished};
-use crate::load::{Loaded, load_files};
+use crate::load::load_files;
+use crate::playing::{Played, attempt};
 use crate::status::Status;
-use crate::words::RunWords;
-use pfr_flash::{MemFlash, NoMemory};
-use pfr_machine::{Event, Parts, Platform};
+use crate::storing::store_images;
+use crate::words::RunRequest;
 use pfr_report::{Note, write_note};
 use pfr_shelf::{Shelf, Sink, SinkFail};
 use std::alloc::Global;
-
-// What was done of a script.
-#[derive(Drop)]
-pub enum PoweredOn {
-    Whole(Bench),
-    Nothing(Bench),
-}
 
 // Writes the report of these notes.
 fn write_report<K: Sink>(notes: &[Note], out: &mut K) -> Result<(), SinkFail>
@@ -34,59 +26,46 @@ fn write_report<K: Sink>(notes: &[Note], out: &mut K) -> Result<(), SinkFail>
     Ok(())
 }
 
-// Makes the devices and the platform of what was loaded, and powers it on.
-fn power_on(alloc: Global, loaded: Loaded) -> Result<PoweredOn, NoMemory>
-    requires { HasSizes loaded }
-    ensures { IfOk result (IsPowerOnOf loaded) }
+// Writes the report, and then stores the images.
+fn deliver<S: Shelf, K: Sink>(
+    request: &RunRequest<'_>,
+    bench: &Bench,
+    shelf: &mut S,
+    out: &mut K,
+) -> Status
+    requires { AllText bench.now.notes.list }
+    ensures files { Delivers S.tells (outside S.files S.faults K.written K.faults shelf.old out.old)
+        (outside S.files S.faults K.written K.faults shelf.new out.new) request.now bench.now result }
+    ensures output { Reports K.tells (outside S.files S.faults K.written K.faults shelf.old out.old)
+        (outside S.files S.faults K.written K.faults shelf.new out.new) (report bench.now.notes.list) result }
+    ensures shelf_later { S.faults shelf.old ≤ S.faults shelf.new }
+    ensures sink_later { K.faults out.old ≤ K.faults out.new }
 {
-    let Loaded {
-        bmc,
-        pch,
-        nv,
-        engine,
-    } = loaded;
-    let bmc = MemFlash::new(alloc, bmc, 0)?;
-    let pch = MemFlash::new(alloc, pch, 0)?;
-    let nv = MemFlash::new(alloc, nv, 0)?;
-    let mut platform = Platform::new(alloc, bmc, pch, nv, engine);
-    let done = platform.step(&Event::Power);
-    let Parts {
-        bmc,
-        pch,
-        nv,
-        notes,
-        engine,
-    } = platform.into_parts();
-    let bench = Bench {
-        bmc,
-        pch,
-        nv,
-        notes,
-        engine,
-    };
-    match done {
-        Ok(()) => Ok(PoweredOn::Whole(bench)),
-        Err(_) => Ok(PoweredOn::Nothing(bench)),
+    if write_report(bench.notes.as_slice(), out).is_err() {
+        return Status::WriteFault;
+    }
+    match store_images(request, bench, shelf) {
+        Ok(()) => Status::Done,
+        Err(status) => status,
     }
 }
 
-/// Loads the files, powers the platform on, and writes the report.
+/// Loads the files, does the items, writes the report and stores the images.
 pub fn run<S: Shelf, K: Sink>(
     alloc: Global,
-    names: &RunWords<'_>,
+    request: &RunRequest<'_>,
     shelf: &mut S,
     out: &mut K,
 ) -> Finished
     ensures answers { RunAnswers S.tells (outside S.files S.faults K.written K.faults shelf.old out.old)
-        (outside S.files S.faults K.written K.faults shelf.new out.new) names.now result.bench result.status }
-    ensures promises { Promised result.bench result.status }
-    ensures stays { S.tells ≡ true → S.files shelf.new ≡ S.files shelf.old }
+        (outside S.files S.faults K.written K.faults shelf.new out.new) request.now result.bench result.status }
+    ensures bench { IfSome result.bench HasRun }
     ensures output { RunOutput K.tells (outside S.files S.faults K.written K.faults shelf.old out.old)
         (outside S.files S.faults K.written K.faults shelf.new out.new) result.bench result.status }
     ensures shelf_later { S.faults shelf.old ≤ S.faults shelf.new }
     ensures sink_later { K.faults out.old ≤ K.faults out.new }
 {
-    let loaded = match load_files(alloc, shelf, names) {
+    let loaded = match load_files(alloc, shelf, request) {
         Ok(loaded) => loaded,
         Err(status) => {
             return Finished {
@@ -95,18 +74,15 @@ pub fn run<S: Shelf, K: Sink>(
             };
         }
     };
-    match power_on(alloc, loaded) {
-        Ok(PoweredOn::Whole(bench)) => {
-            let status = match write_report(bench.notes.as_slice(), out) {
-                Ok(()) => Status::Done,
-                Err(_) => Status::WriteFault,
-            };
+    match attempt(alloc, request.wear, loaded) {
+        Ok(Played::Whole(bench)) => {
+            let status = deliver(request, &bench, shelf, out);
             Finished {
                 status,
                 bench: Some(bench),
             }
         }
-        Ok(PoweredOn::Nothing(bench)) => Finished {
+        Ok(Played::Part(bench)) => Finished {
             status: Status::NoMemory,
             bench: Some(bench),
         },

@@ -4,9 +4,9 @@ ghost use Rattle.pfr_shelf.specs.Pieces.{Writes};
 ghost use Rattle.pfr.specs.Judging.{limit_of};
 ghost use Rattle.pfr.specs.Lines.{role_word, why_word, error_line, code_of};
 
-use crate::script::ScriptWhy;
 use itoa::Buffer;
 use pfr_chain::EngineWhy;
+use pfr_script::ScriptWhy;
 use pfr_shelf::{Sink, SinkFail, write_pieces};
 
 /// What a file is for.
@@ -51,6 +51,8 @@ pub enum Status {
     ReadFault { file: Role },
     /// The output failed. A prefix of the report may have been written.
     WriteFault,
+    /// An image could not be stored; the whole report was written.
+    StoreFault { file: Role },
     /// There was not enough memory.
     NoMemory,
 }
@@ -90,7 +92,7 @@ impl Why {
         match self {
             Why::Size => b"size",
             Why::Engine(why) => why.word().as_bytes(),
-            Why::Script(ScriptWhy::Word) => b"word",
+            Why::Script(why) => why.word().as_bytes(),
         }
     }
 }
@@ -106,6 +108,7 @@ impl Status {
             Status::BadInput { .. } | Status::TooLong { .. } => 3,
             Status::ReadFault { .. } => 4,
             Status::WriteFault => 5,
+            Status::StoreFault { .. } => 6,
             Status::NoMemory => 7,
         }
     }
@@ -139,6 +142,9 @@ impl Status {
             ),
             Status::ReadFault { file } => {
                 write_pieces(out, &[b"error: cannot read ", file.word(), b"\n"])
+            }
+            Status::StoreFault { file } => {
+                write_pieces(out, &[b"error: cannot store ", file.word(), b"\n"])
             }
             Status::NoMemory => write_pieces(out, &[b"error: no memory\n"]),
         }

@@ -1,5 +1,7 @@
-use Rattle.pfr.proofs.BenchLemmas.{promised_spans, promised_locks, promised_texts, promised_causes}
-use Rattle.pfr.proofs.TopLemmas.{output_and_line}
+use Rattle.pfr.specs.Runs.{outside}
+use Rattle.pfr.specs.Top.{asked}
+use Rattle.pfr.proofs.BenchLemmas.{each_spans, each_releases, each_locks, each_brings_up, each_grows, each_provision}
+use Rattle.pfr.proofs.TopLemmas.{files_stay, others_kept, output_and_line}
 use Rattle.pfr.proofs.top.pfr.Goals as goal
 
 pub returns-clause-output : goal.returns-clause-output
@@ -9,14 +11,36 @@ returns-clause-output g c =
     output_and_line k.tells s.files s.faults k.written k.faults c.args.shelf.now c.serve-finished.new.shelf c.args.out.now c.serve-finished.new.out c.tell.new.out
     c.serve-finished.result.bench c.serve-finished.result.status c.tell.result c.serve-finished.ensures.sink_later c.tell.ensures c.serve-finished.ensures.output
 
+pub returns-clause-others : goal.returns-clause-others
+returns-clause-others g c =
+    let s = g.S.Shelf in
+    let k = g.K.Sink in
+    λ request asks told. others_kept s.tells (outside s.files s.faults k.written k.faults c.args.shelf.now c.args.out.now)
+    (outside s.files s.faults k.written k.faults c.serve-finished.new.shelf c.serve-finished.new.out) request c.serve-finished.result.bench c.serve-finished.result.status
+    (c.serve-finished.ensures.run request asks) told
+
+pub returns-clause-stays : goal.returns-clause-stays
+returns-clause-stays g c =
+    let s = g.S.Shelf in
+    let k = g.K.Sink in
+    files_stay s.tells (outside s.files s.faults k.written k.faults c.args.shelf.now c.args.out.now)
+    (outside s.files s.faults k.written k.faults c.serve-finished.new.shelf c.serve-finished.new.out) (asked c.args.words.now) c.serve-finished.result.bench c.serve-finished.result.status
+    c.serve-finished.ensures.unused c.serve-finished.ensures.run
+
 pub returns-clause-spans : goal.returns-clause-spans
-returns-clause-spans g c = promised_spans c.serve-finished.result.bench c.serve-finished.result.status c.serve-finished.ensures.promises
+returns-clause-spans g c = each_spans c.serve-finished.result.bench c.serve-finished.ensures.bench
+
+pub returns-clause-releases : goal.returns-clause-releases
+returns-clause-releases g c = each_releases c.serve-finished.result.bench c.serve-finished.ensures.bench
 
 pub returns-clause-locks : goal.returns-clause-locks
-returns-clause-locks g c = promised_locks c.serve-finished.result.bench c.serve-finished.result.status c.serve-finished.ensures.promises
+returns-clause-locks g c = each_locks c.serve-finished.result.bench c.serve-finished.ensures.bench
 
 pub returns-clause-causes : goal.returns-clause-causes
-returns-clause-causes g c = promised_causes c.serve-finished.result.bench c.serve-finished.result.status c.serve-finished.ensures.promises
+returns-clause-causes g c = each_brings_up c.serve-finished.result.bench c.serve-finished.ensures.bench
 
-pub returns-clause-texts : goal.returns-clause-texts
-returns-clause-texts g c = promised_texts c.serve-finished.result.bench c.serve-finished.result.status c.serve-finished.ensures.promises
+pub returns-clause-grows : goal.returns-clause-grows
+returns-clause-grows g c = each_grows c.serve-finished.result.bench c.serve-finished.ensures.bench
+
+pub returns-clause-provision : goal.returns-clause-provision
+returns-clause-provision g c = each_provision c.serve-finished.result.bench c.serve-finished.ensures.bench

@@ -1,0 +1,34 @@
+-- The numbers that words spell.
+use Rattle.std.proofs.Common.{◌≡◌, ℕ, ◌<◌, ◌==◌, true, false, not, nat_le, List, [], ◌∷◌, length, Option, Some, None, Result, Ok, Err, refl, arith, rules, if◌then◌else◌}
+use Rattle.std.specs.Char.{is_ascii_digit}
+use Rattle.std.specs.List.{list_all}
+use Rattle.std.specs.Str.Parse.{digits_value, ParsesUnsigned}
+use Rattle.std.proofs.lemmas.Bool.{and_parts}
+use Rattle.std.proofs.lemmas.Bool.Decides.{nat_tests}
+use Rattle.std.proofs.lemmas.Str.Parse.{IsNumeralModel, numerals_by_value, parse_digits}
+use Rattle.pfr.specs.Commands.{is_numeral, wear_of}
+
+numerals : IsNumeralModel (λ ds. list_all is_ascii_digit ds ≡ true) (digits_value 10)
+numerals = numerals_by_value (λ ds. list_all is_ascii_digit ds ≡ true) (search rules)
+
+digits_of : (word : List ℕ) → is_numeral word ≡ true → list_all is_ascii_digit word ≡ true
+digits_of [] h = cc
+digits_of (first ∷ rest) h = (and_parts (list_all is_ascii_digit (first ∷ rest)) (not (first == 48)) h).0
+
+some_digit : (word : List ℕ) → is_numeral word ≡ true → 0 < length word
+some_digit [] h = cc
+some_digit (first ∷ rest) h = omega arith
+
+-- what was parsed, where it is at most 16
+abbrev pub within : {E : Type 0} → Result ℕ E → Option ℕ
+within (Ok wear) = if nat_le wear 16 then Some wear else None
+within (Err e) = None
+
+pub parsed : {E : Type 0} (word : List ℕ) (r : Result ℕ E) → is_numeral word ≡ true → ParsesUnsigned 32 10 word r → within r ≡ wear_of word
+parsed {E} word (Ok wear) numeral h =
+    let p = parse_digits numerals {E = E} 32 word (Ok wear) h (digits_of word numeral) in
+    rw (numeral, p.1) refl
+parsed {E} word (Err e) numeral h =
+    let p = parse_digits numerals {E = E} 32 word (Err e) h (digits_of word numeral) in
+    let wide : nat_le (digits_value 10 word) 16 ≡ false = grind (arith, nat_tests, some_digit word numeral) in
+    rw (numeral, wide) refl

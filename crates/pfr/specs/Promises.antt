@@ -1,0 +1,50 @@
+-- What a bench promises.
+use Rattle.std.specs.Prelude.{List}
+use Rattle.pfr_flash.specs.declared.names.Bank.{Bank}
+use Rattle.pfr_engine.specs.Acceptance.{Acceptance}
+use Rattle.pfr_engine.specs.Accepting.{acceptance}
+use Rattle.pfr_fuses.specs.Growth.{NeverGoesBack, KeepsProvision}
+use Rattle.pfr_script.specs.declared.item.Item.{Item}
+use Rattle.pfr_script.specs.declared.item.Item.TheVariants as item
+use Rattle.pfr_calm.specs.World.{World, story_of}
+use Rattle.pfr_calm.specs.Run.{Did, Reached}
+use Rattle.pfr_calm.specs.Spans.{ReleasedSpans}
+use Rattle.pfr_calm.specs.Promises.{ReleasesTrusted, LocksHaveCauses, FaultsHaveCauses, BringsUpCalm}
+use Rattle.pfr.specs.Benches.{fresh_of, end_of, StandsAs, IsRun}
+use Rattle.pfr.specs.declared.finished.Bench.{Bench}
+
+-- In each span in which a bank stands released it was trusted at the span's begin, and no operation touched what this reads.
+abbrev pub HasReleasedSpans : Bench → Type 0
+HasReleasedSpans bench = (which : Bank) → ReleasedSpans (acceptance bench.engine) which (story_of (end_of bench))
+
+-- A bank is noted as released only where it was trusted, with that security version number.
+abbrev pub ReleasesTrustedBanks : Bench → Type 0
+ReleasesTrustedBanks bench = ReleasesTrusted (acceptance bench.engine) (fresh_of bench) (end_of bench)
+
+-- Each lock has its cause: at its counts the contents called for it, or a device had failed.
+pub record HasDueLocks (bench : Bench) : Type 0 where
+  pub contents : LocksHaveCauses (acceptance bench.engine) (fresh_of bench) (end_of bench)
+  pub faults : FaultsHaveCauses (fresh_of bench) (end_of bench)
+
+-- No floor and no cancellation was ever taken back.
+abbrev pub KeepsFuses : Bench → Type 0
+KeepsFuses bench = NeverGoesBack (fresh_of bench).nv bench.nv.device
+
+-- The platform stayed provisioned as it was.
+abbrev pub StaysProvisioned : Bench → Type 0
+StaysProvisioned bench = KeepsProvision (fresh_of bench).nv bench.nv.device
+
+-- an item that is a power-on brings each bank up by the contents that it leaves, unless a device failed
+abbrev pub BringsUpIn : Acceptance → Item → World → World → Type 0
+BringsUpIn accepts (item.Event event) old new = BringsUpCalm event accepts old new
+BringsUpIn accepts (item.Arm arm) old new = Unit {0}
+
+-- these items were done, each of them so
+pub record IsRunWith (Goes : Item → World → World → Type 0) (items : List Item) (bench : Bench) : Type 0 where
+  pub end : World
+  pub reached : Reached (λ item old new. Did (acceptance bench.engine) bench.script.tears item old new × Goes item old new) items (fresh_of bench) end
+  pub left : StandsAs end (end_of bench)
+
+-- In the run each power-on released each bank that was trusted and locked each that had a cause, unless a device failed.
+abbrev pub BringsBanksUp : Bench → Type 0
+BringsBanksUp bench = (items : List Item) → IsRun items bench → IsRunWith (BringsUpIn (acceptance bench.engine)) items bench
