@@ -12,10 +12,13 @@ use std::test::Fail;
 
 const RELEASED: &str = "1 bmc released svn 3\n";
 
+pub const UNPROVISIONED: &str =
+    "1 power\n1 bmc held\n1 bmc locked unprovisioned\n1 pch held\n1 pch locked unprovisioned\n";
+
 const PCH: &str = "1 pch held\n1 pch released svn 3\n";
 
 // The words of a run, with this name for the engine's file.
-fn run_words(alloc: Global, engine: &str) -> Result<Vec<String>, AllocError> {
+pub fn run_words(alloc: Global, engine: &str) -> Result<Vec<String>, AllocError> {
     let mut words = Vec::new(alloc);
     for text in ["run", "bmc", "pch", "nv", engine, "script"] {
         words.push(String::from_str(alloc, text)?)?;
@@ -24,7 +27,7 @@ fn run_words(alloc: Global, engine: &str) -> Result<Vec<String>, AllocError> {
 }
 
 // The files of the small platform, with signature blocks of a form, and of a security version.
-fn small_shelf(alloc: Global, form: Form, svn: u8) -> Result<MemShelf, Fail> {
+pub fn small_shelf(alloc: Global, form: Form, svn: u8) -> Result<MemShelf, Fail> {
     let mut desc = small_platform(alloc, form)?;
     desc.bmc.svn = svn;
     let image = small_image(alloc)?;
@@ -43,7 +46,13 @@ fn small_shelf(alloc: Global, form: Form, svn: u8) -> Result<MemShelf, Fail> {
 }
 
 // Turns over bits of one byte of a file.
-fn turn(alloc: Global, shelf: &mut MemShelf, name: &str, at: usize, bits: u8) -> Result<(), Fail> {
+pub fn turn(
+    alloc: Global,
+    shelf: &mut MemShelf,
+    name: &str,
+    at: usize,
+    bits: u8,
+) -> Result<(), Fail> {
     let mut bytes = shelf.load(alloc, name, 1_048_576)?;
     if let Some(byte) = bytes.get_mut(at) {
         *byte ^= bits;
@@ -156,20 +165,38 @@ const FIELDS: [(usize, u8, &str); 47] = [
     (579, 0x80, "block0-signature"),
 ];
 
-#[test]
-fn form2_fields(rt: HostRuntime) -> Result<(), Fail> {
-    let alloc = rt.alloc();
+// Turns over the bits of each row in turn, and wants its cause.
+fn fields_report(
+    rt: &impl Abort,
+    alloc: Global,
+    rows: &[(usize, u8, &'static str)],
+) -> Result<(), Fail> {
     let mut shelf = small_shelf(alloc, Form::Two, 3)?;
-    for (at, bits, word) in FIELDS {
+    for (at, bits, word) in rows {
         let lines = format!(in alloc;
             "1 bmc untrusted chain:{}\n1 bmc locked not-restored\n",
             word
         )?;
-        turn(alloc, &mut shelf, "bmc", at, bits)?;
-        reports(&rt, alloc, &mut shelf, lines.as_str())?;
-        turn(alloc, &mut shelf, "bmc", at, bits)?;
+        turn(alloc, &mut shelf, "bmc", *at, *bits)?;
+        reports(rt, alloc, &mut shelf, lines.as_str())?;
+        turn(alloc, &mut shelf, "bmc", *at, *bits)?;
     }
     Ok(())
+}
+
+#[test]
+fn form2_root_fields(rt: HostRuntime) -> Result<(), Fail> {
+    fields_report(&rt, rt.alloc(), &FIELDS[..16])
+}
+
+#[test]
+fn form2_key_fields(rt: HostRuntime) -> Result<(), Fail> {
+    fields_report(&rt, rt.alloc(), &FIELDS[16..32])
+}
+
+#[test]
+fn form2_signature_fields(rt: HostRuntime) -> Result<(), Fail> {
+    fields_report(&rt, rt.alloc(), &FIELDS[32..])
 }
 
 // As it is, with another key cancelled and with this one, and with bytes that are not looked at.
@@ -197,7 +224,7 @@ fn form2_platform(rt: HostRuntime) -> Result<(), Fail> {
 }
 
 // Two blank banks, a store of so many blank bytes and an engine of this text.
-fn blank_shelf(alloc: Global, store: usize, engine: &[u8]) -> Result<MemShelf, Fail>
+pub fn blank_shelf(alloc: Global, store: usize, engine: &[u8]) -> Result<MemShelf, Fail>
     requires { store < 100000 }
 {
     let mut shelf = MemShelf::new(alloc);
@@ -216,14 +243,7 @@ fn empty_store(rt: HostRuntime) -> Result<(), Fail> {
     let alloc = rt.alloc();
     let words = run_words(alloc, "engine")?;
     // The sink's first call fails where `nth` is 1.
-    for (nth, status, report) in [
-        (
-            99,
-            0,
-            "1 power\n1 bmc held\n1 bmc locked unprovisioned\n1 pch held\n1 pch locked unprovisioned\n",
-        ),
-        (1, 5, ""),
-    ] {
+    for (nth, status, report) in [(99, 0, UNPROVISIONED), (1, 5, "")] {
         let mut shelf = blank_shelf(alloc, 32_768, b"")?;
         let mut out = MemSink::new(alloc, 1_048_576)?;
         out.fail_call(nth);
