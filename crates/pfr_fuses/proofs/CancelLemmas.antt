@@ -17,12 +17,14 @@ use Rattle.pfr_flash.proofs.FuseLemmas.{IsCleared-program}
 use Rattle.pfr_flash.proofs.RangeLemmas.{length-now}
 use Rattle.pfr_fuses.specs.FuseMap.{IsSigning, IsBit, IsCancelBit, IsCancelled, profile_of, row_at}
 use Rattle.pfr_fuses.specs.FusesState.{FusesState, floor_row, row_of}
-use Rattle.pfr_fuses.specs.FusesOf.{RowStands}
-use Rattle.pfr_fuses.specs.Changes.{Cancels, CancelsAtMost, StaysButRow, cancellation, with_cancelled, with_row}
-use Rattle.pfr_fuses.specs.Growth.{NeverGoesBack, KeepsProvision, Adds}
+use Rattle.pfr_fuses.specs.FusesOf.{RowStands, row_fuses, fuses_of}
+use Rattle.pfr_fuses.specs.Changes.{Cancels, CancelsAtMost, SameProvision, StaysButRow, cancellation, with_cancelled, with_row}
+use Rattle.pfr_fuses.specs.Growth.{NeverGoesBack, OnlyLoses, KeepsProvision, AddsAtMost, Adds}
 use Rattle.pfr_fuses.specs.declared.profile.Profile.TheVariants.{Two}
 use Rattle.pfr_fuses.proofs.ClearingLemmas.{clearing-within, clearing-programs, clearing-part, row_bit-two, row_bit-stays}
-use Rattle.pfr_fuses.proofs.GrowthLemmas.{profile-outside, NeverGoesBack-programs, KeepsProvision-plan, Adds-within, slots-outside}
+use Rattle.pfr_fuses.proofs.ExactLemmas.{ChangedAt, fuses_of-but_row, row_kept, row-cleared}
+use Rattle.pfr_fuses.proofs.GrowthLemmas.{profile-outside, NeverGoesBack-programs, KeepsProvision-plan, Adds-within, AddsAtMost-plan, slots-outside}
+use Rattle.pfr_fuses.proofs.LosingLemmas.{AllLose-programs, OnlyLoses-plan}
 use Rattle.pfr_fuses.proofs.StaysLemmas.{rows_apart, row_behind_floors, row_in_sector, floor_bits-outside, row_bits-outside, FloorStands-same, RowStands-same}
 
 -- ---- what is kept
@@ -84,6 +86,14 @@ same_with_row fuses type row s = record {
   profile = (same_rest fuses type row s).1;
 }
 
+-- another row in its place
+row_again : (fuses : FusesState) (type : ContentType) (row other : List ℕ) → IsSigning type → with_row (with_row fuses type row) type other ≡ with_row fuses type other
+row_again fuses PchManifest row other s = refl
+row_again fuses PchCapsule row other s = refl
+row_again fuses BmcManifest row other s = refl
+row_again fuses BmcCapsule row other s = refl
+row_again fuses type row other s = absurd s
+
 -- ---- one store and the next
 record Changed (type : ContentType) (old new : List ℕ) : Type 0 where
   size : length old ≡ 32768
@@ -98,16 +108,22 @@ new_profile type old new h = profile-outside (row_at Two type) 32 old new (inl (
 new_two : (type : ContentType) (old new : List ℕ) → Changed type old new → profile_of new ≡ Two
 new_two type old new h = new_profile type old new h ∙ h.two
 
+same_provision : (type : ContentType) (old new : List ℕ) → Changed type old new → SameProvision old new
+same_provision type old new h = record {
+  slots = slots-outside (row_at Two type) 32 old new (omega (arith, (row_in_sector type h.signing).0)) h.size h.same_size h.outside;
+  profile = new_profile type old new h;
+}
+
+changed_at : (type : ContentType) (old new : List ℕ) → Changed type old new → ChangedAt (row_at Two type) 32 old new
+changed_at type old new h = record { size = h.size; same_size = h.same_size; two = h.two; outside = h.outside; store = same_provision type old new h }
+
 stays_but : (type : ContentType) (old new : List ℕ) (fuses after : FusesState) → Changed type old new → SameElse fuses type after → StaysButRow type old fuses new after
 stays_but type old new fuses after h same = record {
   floors = λ bank stands. FloorStands-same old new fuses after bank (same.floors bank)
       (floor_bits-outside (row_at Two type) 32 old new bank h.size h.same_size (new_profile type old new h) (rw h.two (inl (row_behind_floors bank type h.signing))) h.outside) stands;
   rows = λ other ne stands. RowStands-same old new fuses after other (same.rows other ne)
       (row_bits-outside (row_at Two type) 32 old new other h.size h.same_size (new_profile type old new h) (λ signing. rw h.two (rows_apart type other h.signing signing ne)) h.outside) stands;
-  store = record {
-    slots = slots-outside (row_at Two type) 32 old new (omega (arith, (row_in_sector type h.signing).0)) h.size h.same_size h.outside;
-    profile = new_profile type old new h;
-  };
+  store = same_provision type old new h;
   provision = same.provision;
   profile = same.profile;
 }
@@ -140,6 +156,10 @@ cancels_at_most type id old new h may most = record {
       let is : IsBit new (row_at Two type) 32 id = record { within = was.within; cleared = may.keeps was.cleared } in
       record { signing = b.signing; bit = (row_bit-two new type id (new_two type old new h)).1 is };
 }
+
+-- the store says what is kept, but for the row
+abbrev SaysBut : ContentType → List ℕ → FusesState → Type 0
+SaysBut type nv kept = fuses_of nv ≡ Ok (with_row kept type (row_fuses nv type))
 
 -- ---- the call
 module _ (type : ContentType) (id : ℕ) (old new : FlashState) (fuses after : FusesState) (result : Result (Unit {0}) FlashFail) (size : size_of old ≡ 32768) (two : profile_of (now old) ≡ Two) (signing : IsSigning type) (most : id < 256)
@@ -177,6 +197,13 @@ module _ (type : ContentType) (id : ℕ) (old new : FlashState) (fuses after : F
   pub cancel-provision : KeepsProvision old new
   cancel-provision = KeepsProvision-plan (row_at Two type) 32 (cancellation type id) old new size follows.worked.moved.start follows.part (omega (arith, (row_in_sector type signing).0)) within
 
+  pub cancel-loses : OnlyLoses 0 32768 old new
+  cancel-loses = OnlyLoses-plan 0 32768 (omega arith) (cancellation type id) old new size follows.worked.moved.start follows.part
+      (AllLose-programs 0 32768 (cancellation type id) (clearing-programs (row_at Two type) 32 id (omega arith) (omega (arith, (row_in_sector type signing).1))))
+
+  pub cancel-count : AddsAtMost 1 old new
+  cancel-count = AddsAtMost-plan 1 (cancellation type id) old new follows.part (omega arith)
+
   pub cancel-store : CancelsAtMost (now old) type id (now new)
   cancel-store = cancels_at_most type id (now old) (now new) changed may most
 
@@ -208,3 +235,27 @@ module _ (type : ContentType) (id : ℕ) (old new : FlashState) (fuses after : F
           } in
           record { signing = signing; bit = (row_bit-two (now new) type id (new_two type (now old) (now new) changed)).1 bit }
       by_result (Err f) h = tt
+
+  -- ---- what the store says
+  says_kept : fuses_of (now old) ≡ Ok fuses → SaysBut type (now new) fuses
+  says_kept was = fuses_of-but_row type (now old) (now new) fuses signing (changed_at type (now old) (now new) changed) was
+
+  pub cancel-rest : OnOk result (after ≡ with_cancelled fuses type id) → OnErr result (after ≡ fuses) → fuses_of (now old) ≡ Ok fuses → fuses_of (now new) ≡ Ok (with_row after type (row_fuses (now new) type))
+  cancel-rest ok err was = by_result result ok err
+    where
+      by_result : (r : Result (Unit {0}) FlashFail) → OnOk r (after ≡ with_cancelled fuses type id) → OnErr r (after ≡ fuses) → SaysBut type (now new) after
+      by_result (Ok u) is none = says_kept was
+          ∙ ap (λ (kept : FusesState). Ok kept)
+          (sym (ap (λ (kept : FusesState). with_row kept type (row_fuses (now new) type)) is ∙ row_again fuses type (with_cleared (row_of fuses type) id) (row_fuses (now new) type) signing))
+      by_result (Err f) none is = subst (SaysBut type (now new)) (sym is) (says_kept was)
+
+  pub cancel-exact : OnOk result (after ≡ with_cancelled fuses type id) → OnOk result (fuses_of (now old) ≡ Ok fuses → fuses_of (now new) ≡ Ok after)
+  cancel-exact ok = by_result result follows ok
+    where
+      by_result : (r : Result (Unit {0}) FlashFail) → Follows (cancellation type id) old new r → OnOk r (after ≡ with_cancelled fuses type id) → OnOk r (fuses_of (now old) ≡ Ok fuses → fuses_of (now new) ≡ Ok after)
+      by_result (Ok u) h is = λ was.
+          let row : row_fuses (now new) type ≡ with_cleared (row_of fuses type) id =
+          row-cleared type (now old) (now new) id (changed_at type (now old) (now new) changed) most (Follows-now (cancellation type id) old new u h) (omega (arith, (row_in_sector type signing).1))
+          ∙ ap (λ (r : List ℕ). with_cleared r id) (sym (row_kept (now old) fuses type signing was)) in
+          says_kept was ∙ ap (λ (a : FusesState). Ok a) (ap (λ (r : List ℕ). with_row fuses type r) row ∙ sym is)
+      by_result (Err f) h is = tt

@@ -1,5 +1,5 @@
 -- Fuses at each count of operations.
-use Rattle.std.proofs.Common.{◌≡◌, ℕ, zero, suc, ◌+◌, ◌-◌, ◌*◌, ◌≤◌, ◌<◌, List, [], ◌∷◌, length, take, get_or, refl, sym, ap, ◌∙◌, subst, arith, ◌⊎◌, inl, inr}
+use Rattle.std.proofs.Common.{◌≡◌, ℕ, zero, suc, ◌+◌, ◌-◌, ◌*◌, ◌≤◌, ◌<◌, List, [], ◌∷◌, length, take, get_or, refl, sym, ap, ◌∙◌, subst, arith, length-append, ◌⊎◌, inl, inr}
 use Rattle.std.proofs.lemmas.Bool.{cases_lt}
 use Rattle.std.proofs.lemmas.List.{append-nil}
 use Rattle.pfr_flash.specs.Operation.{Operation, Erase, Program, Torn, applied, play, IsTorn}
@@ -12,9 +12,9 @@ use Rattle.pfr_flash.proofs.PlanLemmas.{AllWithin-part}
 use Rattle.pfr_flash.proofs.FuseLemmas.{IsCleared-stays}
 use Rattle.pfr_flash.proofs.RangeLemmas.{SameOutside-play, bytes_at-outside, length-now, OnlyClears-refl, OnlyClears-program, OnlyClears-torn, then_clears}
 use Rattle.pfr_flash.proofs.StateLemmas.{upto-added, upto-Extends, IsPart-take}
-use Rattle.pfr_fuses.specs.Slots.{IsSet, IsProvisionedBy, slot_at}
+use Rattle.pfr_fuses.specs.Slots.{IsSet, IsProvisionedBy, IsUnset, slot_at}
 use Rattle.pfr_fuses.specs.FuseMap.{IsBit, profile_of, floor_at, floor_width, row_at, row_width}
-use Rattle.pfr_fuses.specs.Growth.{Grows, NeverGoesBack, KeepsProvision, AllAre, Adds}
+use Rattle.pfr_fuses.specs.Growth.{Grows, NeverGoesBack, KeepsProvision, AddsAtMost, AllAre, Adds}
 use Rattle.pfr_fuses.specs.declared.profile.Profile.{Profile}
 
 -- ---- a part of a plan, an operation at a time
@@ -52,12 +52,12 @@ abbrev pub AllPrograms : ℕ → List Operation → Type 0
 AllPrograms size [] = Unit {0}
 AllPrograms size (op ∷ ops) = IsProgram size op × AllPrograms size ops
 
-program_clears : (image : List ℕ) (op : Operation) → IsProgram (length image) op → OnlyClears image (applied image op)
+pub program_clears : (image : List ℕ) (op : Operation) → IsProgram (length image) op → OnlyClears image (applied image op)
 program_clears image (Erase sector) h = absurd h
 program_clears image (Program at bytes) h = OnlyClears-program image at bytes h
 program_clears image (Torn at after) h = absurd h
 
-torn_clears : (image : List ℕ) (op done : Operation) → IsProgram (length image) op → IsTorn image op done → OnlyClears image (applied image done)
+pub torn_clears : (image : List ℕ) (op done : Operation) → IsProgram (length image) op → IsTorn image op done → OnlyClears image (applied image done)
 torn_clears image (Erase sector) done h t = absurd h
 torn_clears image (Program at bytes) done h t = OnlyClears-torn image at bytes done t
 torn_clears image (Torn at after) done h t = absurd h
@@ -177,16 +177,66 @@ IsProvisionedBy-same old new number same h = record {
 pub slots-outside : (from len : ℕ) (old new : List ℕ) → 2048 ≤ from → length old ≡ 32768 → length new ≡ length old → SameOutside from len old new → (k : ℕ) → k < 8 → slot_at new k ≡ slot_at old k
 slots-outside from len old new low whole size same k below = bytes_at-outside from len old new (256 * k) 256 same size (inl (omega arith)) (omega arith)
 
+-- two moments at which the slots are those of a third
+slots_between : (first earlier later : List ℕ) (number : ℕ) → ((k : ℕ) → k < 8 → slot_at earlier k ≡ slot_at first k) → ((k : ℕ) → k < 8 → slot_at later k ≡ slot_at first k) → IsProvisionedBy earlier number
+    → IsProvisionedBy later number × (slot_at later number ≡ slot_at earlier number)
+slots_between first earlier later number before after by =
+    let same : (k : ℕ) → k < 8 → slot_at later k ≡ slot_at earlier k = λ k below. after k below ∙ sym (before k below) in
+    (IsProvisionedBy-same earlier later number same by, same number by.within)
+
 pub KeepsProvision-plan : (from len : ℕ) (plan : List Operation) (old new : FlashState) → size_of old ≡ 32768 → new.start ≡ old.start → DoesPart plan old new → 2048 ≤ from
     → AllWithin from len plan → KeepsProvision old new
-KeepsProvision-plan from len plan old new size start h low within = record {
-  keeps = λ n number le high by.
-      at_each (λ (image : List ℕ). IsProvisionedBy image number × (slot_at image number ≡ slot_at (now old) number)) plan old new start h
-      (λ added part.
-      let same : SameOutside from len (now old) (play (now old) added) = SameOutside-play from len (now old) added (AllWithin-part from len (now old) plan added within part) in
-      let slots = slots-outside from len (now old) (play (now old) added) low (length-now old ∙ size) (length-play (now old) added) same in
-      (IsProvisionedBy-same (now old) (play (now old) added) number slots by, slots number by.within)) n le;
-}
+KeepsProvision-plan from len plan old new size start h low within =
+    record { keeps = λ m n number above order high by. slots_between (now old) (upto new m) (upto new n) number (same m above) (same n (omega arith)) by }
+  where
+    SameSlots : List ℕ → Type 0
+    SameSlots image = (k : ℕ) → k < 8 → slot_at image k ≡ slot_at (now old) k
+
+    same : (n : ℕ) → op_count_of old ≤ n → SameSlots (upto new n)
+    same n le = at_each SameSlots plan old new start h
+        (λ added part. slots-outside from len (now old) (play (now old) added) low (length-now old ∙ size) (length-play (now old) added)
+        (SameOutside-play from len (now old) added (AllWithin-part from len (now old) plan added within part))) n le
+
+-- what holds at one moment
+one_moment : (d : FlashState) (m n number : ℕ) → m ≡ n → IsProvisionedBy (upto d m) number → IsProvisionedBy (upto d n) number × (slot_at (upto d n) number ≡ slot_at (upto d m) number)
+one_moment d m n number e by = subst (λ (k : ℕ). IsProvisionedBy (upto d k) number × (slot_at (upto d k) number ≡ slot_at (upto d m) number)) e (by, refl)
+
+-- where no operation is done
+pub KeepsProvision-none : (old new : FlashState) → new.ops ≡ old.ops → KeepsProvision old new
+KeepsProvision-none old new same =
+    let count : op_count_of new ≡ op_count_of old = ap (λ (ops : List Operation). length ops) same in
+    record { keeps = λ m n number low order high by. one_moment new m n number (omega (arith, count)) by }
+
+-- where at each moment but the last no slot is set
+pub KeepsProvision-last : (old new : FlashState) → ((n : ℕ) → op_count_of old ≤ n → n < op_count_of new → IsUnset (upto new n)) → KeepsProvision old new
+KeepsProvision-last old new unset = record { keeps = λ m n number low order high by. by_order m n number low order high by (cases_lt m n) }
+  where
+    by_order : (m n number : ℕ) → op_count_of old ≤ m → m ≤ n → n ≤ op_count_of new → IsProvisionedBy (upto new m) number → ((m < n) ⊎ (n ≤ m))
+        → IsProvisionedBy (upto new n) number × (slot_at (upto new n) number ≡ slot_at (upto new m) number)
+    by_order m n number low order high by (inl earlier) = absurd ((unset m low (omega arith)).gates number by.within by.gate)
+    by_order m n number low order high by (inr same) = one_moment new m n number (omega arith) by
+
+-- two calls, or runs of calls, in a row
+pub KeepsProvision-trans : (a b c : FlashState) → c.start ≡ b.start → Extends b.ops c.ops → KeepsProvision a b → KeepsProvision b c → KeepsProvision a c
+KeepsProvision-trans a b c start more h k =
+    record { keeps = λ m n number low order high by. by_place m n number low order high by (cases_lt (op_count_of b) m) (cases_lt n (op_count_of b)) }
+  where
+    in_first : (n : ℕ) → n ≤ op_count_of b → upto c n ≡ upto b n
+    in_first n le = upto-Extends b c n start more le
+
+    first_keeps : (m n number : ℕ) → op_count_of a ≤ m → m ≤ n → n ≤ op_count_of b → IsProvisionedBy (upto c m) number
+        → IsProvisionedBy (upto c n) number × (slot_at (upto c n) number ≡ slot_at (upto c m) number)
+    first_keeps m n number low order high by =
+        rw (in_first m (omega arith), in_first n high) (h.keeps m n number low order high (subst (λ (image : List ℕ). IsProvisionedBy image number) (in_first m (omega arith)) by))
+
+    by_place : (m n number : ℕ) → op_count_of a ≤ m → m ≤ n → n ≤ op_count_of c → IsProvisionedBy (upto c m) number → ((op_count_of b < m) ⊎ (m ≤ op_count_of b))
+        → ((n < op_count_of b) ⊎ (op_count_of b ≤ n)) → IsProvisionedBy (upto c n) number × (slot_at (upto c n) number ≡ slot_at (upto c m) number)
+    by_place m n number low order high by (inl later) q = k.keeps m n number (omega arith) order high by
+    by_place m n number low order high by (inr first) (inl early) = first_keeps m n number low order (omega arith) by
+    by_place m n number low order high by (inr first) (inr late) =
+        let middle = first_keeps m (op_count_of b) number low first (omega arith) by in
+        let end = k.keeps (op_count_of b) n number (omega arith) late high middle.0 in
+        (end.0, end.1 ∙ middle.1)
 
 -- ---- the operations that are added
 pub AllAre-within : (from len : ℕ) (ops : List Operation) → AllWithin from len ops → AllAre (λ op. IsWithin from len op) ops
@@ -195,3 +245,19 @@ AllAre-within from len (op ∷ ops) h = (h.0, AllAre-within from len ops h.1)
 
 pub Adds-within : (from len : ℕ) (plan : List Operation) (old new : FlashState) → AllWithin from len plan → DoesPart plan old new → Adds (λ op. IsWithin from len op) old new
 Adds-within from len plan old new within h = record { added = h.added; is = h.is; all = AllAre-within from len h.added (AllWithin-part from len (now old) plan h.added within h.part) }
+
+-- no more than the plan has
+pub part_length : (image : List ℕ) (plan added : List Operation) → IsPart image plan added → length added ≤ length plan
+part_length image plan [] h = omega arith
+part_length image [] (op ∷ ops) h = absurd h
+part_length image (next ∷ plan) (op ∷ ops) h = by_part (λ q. part_length (applied image next) plan ops q) h
+  where
+    by_part : (IsPart (applied image next) plan ops → length ops ≤ length plan) → (((op ≡ next) × IsPart (applied image next) plan ops) ⊎ (IsTorn image next op × (ops ≡ [])))
+        → length (op ∷ ops) ≤ length (next ∷ plan)
+    by_part later (inl whole) = omega (arith, later whole.1)
+    by_part later (inr torn) = let none : length ops ≡ 0 = ap (λ (o : List Operation). length o) torn.1 in omega (arith, none)
+
+pub AddsAtMost-plan : (count : ℕ) (plan : List Operation) (old new : FlashState) → DoesPart plan old new → length plan ≤ count → AddsAtMost count old new
+AddsAtMost-plan count plan old new h few =
+    let all : op_count_of new ≡ op_count_of old + length h.added = ap (λ (ops : List Operation). length ops) h.is ∙ length-append old.ops h.added in
+    omega (arith, all, part_length (now old) plan h.added h.part, few)

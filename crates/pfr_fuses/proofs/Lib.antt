@@ -13,3 +13,5 @@ pub mod MigrationLemmas
 pub mod RootSlotLemmas
 pub mod BlankLemmas
 pub mod ProvisionLemmas
+pub mod ExactLemmas
+pub mod LosingLemmas

@@ -23,12 +23,13 @@ use Rattle.pfr_fuses.specs.FuseMap.{IsSigning, IsCancelBit, profile_of, floor_at
 use Rattle.pfr_fuses.specs.FusesState.{FusesState, floor_row, row_of}
 use Rattle.pfr_fuses.specs.FusesOf.{Stands, FloorStands, RowStands, floor_fuses, row_fuses, fuses_with, fuses_of}
 use Rattle.pfr_fuses.specs.Changes.{AreRows, IsMigrating, migrated, migration}
-use Rattle.pfr_fuses.specs.Growth.{Grows, NeverGoesBack, KeepsProvision, AllAre, Adds}
+use Rattle.pfr_fuses.specs.Growth.{Grows, NeverGoesBack, OnlyLoses, KeepsProvision, AllAre, Adds, AddsAtMost}
 use Rattle.pfr_fuses.specs.declared.profile.Profile.{Profile}
 use Rattle.pfr_fuses.specs.declared.profile.Profile.TheVariants.{One, Two}
-use Rattle.pfr_fuses.proofs.GrowthLemmas.{part_step, part_end, at_each, profile-outside, slots-outside, IsProvisionedBy-same, KeepsProvision-plan}
+use Rattle.pfr_fuses.proofs.GrowthLemmas.{part_step, part_end, at_each, profile-outside, slots-outside, IsProvisionedBy-same, KeepsProvision-plan, AddsAtMost-plan}
+use Rattle.pfr_fuses.proofs.LosingLemmas.{OnlyLoses-plan}
 use Rattle.pfr_fuses.proofs.StandsLemmas.{floor_narrow, row_narrow, floor_stands, row_stands, fuses_of-found, fuses_of-ok}
-use Rattle.pfr_fuses.proofs.StaysLemmas.{floor_bits-outside, row_bits-outside, FloorStands-same, RowStands-same}
+use Rattle.pfr_fuses.proofs.StaysLemmas.{floor_bits-outside, row_bits-outside, floor_fuses-outside, row_fuses-outside, FloorStands-same, RowStands-same}
 
 -- ---- parts of what is written
 bytes_at-part : (image : List ℕ) (at count off n : ℕ) → at + count ≤ length image → off + n ≤ count → bytes_at image (at + off) n ≡ bytes_at (bytes_at image at count) off n
@@ -85,11 +86,11 @@ length-migrated fuses h =
     simp length-append (omega (arith, h.bmc_floor, h.pch_floor, h.pch_manifest, h.pch_capsule, h.bmc_manifest, h.bmc_capsule))
 
 -- ---- a store of profile 2 whose sector 7 has these fuses
-floor_fuses-two : (nv : List ℕ) (bank : Bank) → profile_of nv ≡ Two → floor_fuses nv bank ≡ continued (bytes_at nv (floor_at Two bank) 16) 16
+pub floor_fuses-two : (nv : List ℕ) (bank : Bank) → profile_of nv ≡ Two → floor_fuses nv bank ≡ continued (bytes_at nv (floor_at Two bank) 16) 16
 unfolding floor_fuses
 floor_fuses-two nv bank two = ap (λ (p : Profile). continued (bytes_at nv (floor_at p bank) (floor_width p)) 16) two
 
-row_fuses-two : (nv : List ℕ) (type : ContentType) → profile_of nv ≡ Two → row_fuses nv type ≡ continued (bytes_at nv (row_at Two type) 32) 32
+pub row_fuses-two : (nv : List ℕ) (type : ContentType) → profile_of nv ≡ Two → row_fuses nv type ≡ continued (bytes_at nv (row_at Two type) 32) 32
 unfolding row_fuses
 row_fuses-two nv type two = ap (λ (p : Profile). continued (bytes_at nv (row_at p type) (row_width p)) 32) two
 
@@ -124,12 +125,36 @@ row_of_other nv fuses type none h other = record {
   );
 }
 
+-- ---- what the store says
+-- what is kept of a store, whose profile is this one
+abbrev Says : List ℕ → FusesState → Type 0
+Says nv fuses = fuses_of nv ≡ Ok (record fuses { profile = profile_of nv })
+
+kept_fuses : (nv : List ℕ) (fuses : FusesState) (slot : List ℕ) → IsWritten fuses nv → profile_of nv ≡ Two → fuses.provision ≡ provision_in slot → fuses_with nv slot ≡ record fuses { profile = profile_of nv }
+kept_fuses nv fuses slot h two provision = rw (
+  ← provision,
+  written_floor fuses nv Bmc h two,
+  written_floor fuses nv Pch h two,
+  written_row fuses nv PchManifest tt h two,
+  written_row fuses nv PchCapsule tt h two,
+  written_row fuses nv BmcManifest tt h two,
+  written_row fuses nv BmcCapsule tt h two,
+) refl
+
+says_two : (old new : List ℕ) (fuses : FusesState) → IsWritten fuses new → profile_of new ≡ Two → ((k : ℕ) → k < 8 → slot_at new k ≡ slot_at old k) → Says old fuses → Says new fuses
+says_two old new fuses h two slots was =
+    let found = fuses_of-ok old (record fuses { profile = profile_of old }) was in
+    let by : IsProvisionedBy new found.0 = IsProvisionedBy-same old new found.0 slots found.1 in
+    let provision : fuses.provision ≡ provision_in (slot_at new found.0) = ap (λ (kept : FusesState). kept.provision) found.2 ∙ ap provision_in (sym (slots found.0 found.1.within)) in
+    fuses_of-found new found.0 by ∙ ap (λ (kept : FusesState). Ok kept) (kept_fuses new fuses (slot_at new found.0) h two provision)
+
 -- ---- what holds at each moment
--- the slots are those of the first store, and the fuses stand
+-- the slots are those of the first store, the fuses stand, and they are what the store says where they were so
 pub record Holds (first : List ℕ) (fuses : FusesState) (nv : List ℕ) : Type 0 where
   pub slots : (k : ℕ) → k < 8 → slot_at nv k ≡ slot_at first k
   pub floors : (bank : Bank) → FloorStands nv fuses bank
   pub rows : (type : ContentType) → RowStands nv fuses type
+  pub says : fuses_of first ≡ Ok fuses → Says nv fuses
 
 floor_in_one : (bank : Bank) → floor_at One bank + 8 ≤ 0x900
 floor_in_one Bmc = omega arith
@@ -142,6 +167,23 @@ row_in_one BmcManifest = omega arith
 row_in_one BmcCapsule = omega arith
 row_in_one type = omega arith
 
+says_one : (from len : ℕ) (old new : List ℕ) (fuses : FusesState) → length old ≡ 32768 → length new ≡ length old → profile_of old ≡ One → profile_of new ≡ profile_of old → 0xA00 ≤ from
+    → SameOutside from len old new → Says old fuses → Says new fuses
+says_one from len old new fuses size same_size one same low outside was =
+    let found = fuses_of-ok old (record fuses { profile = profile_of old }) was in
+    let slots = slots-outside from len old new (omega arith) size same_size outside in
+    fuses_of-found new found.0 (IsProvisionedBy-same old new found.0 slots found.1)
+    ∙ ap (λ (kept : FusesState). Ok kept) (all found.0 (slots found.0 found.1.within) ∙ sym found.2 ∙ ap (λ (p : Profile). record fuses { profile = p }) (sym same))
+  where
+    floor : (bank : Bank) → floor_fuses new bank ≡ floor_fuses old bank
+    floor bank = floor_fuses-outside from len old new bank size same_size same (rw one (inl (omega (arith, floor_in_one bank)))) outside
+
+    row : (type : ContentType) → row_fuses new type ≡ row_fuses old type
+    row type = row_fuses-outside from len old new type size same_size same (rw one (inl (omega (arith, row_in_one type)))) outside
+
+    all : (number : ℕ) → slot_at new number ≡ slot_at old number → fuses_with new (slot_at new number) ≡ fuses_with old (slot_at old number)
+    all number slot = rw (slot, same, floor Bmc, floor Pch, row PchManifest, row PchCapsule, row BmcManifest, row BmcCapsule) refl
+
 -- in profile 1 nothing from the profile gate on is read, but the gate
 holds_one : (first : List ℕ) (fuses : FusesState) (from len : ℕ) (old new : List ℕ) → length old ≡ 32768 → length new ≡ length old → profile_of old ≡ One → profile_of new ≡ One → 0xA00 ≤ from
     → SameOutside from len old new → Holds first fuses old → Holds first fuses new
@@ -153,6 +195,7 @@ holds_one first fuses from len old new size same_size one still low outside h =
           (floor_bits-outside from len old new bank size same_size same (rw one (inl (omega (arith, floor_in_one bank)))) outside) (h.floors bank);
       rows = λ type. RowStands-same old new fuses fuses type refl
           (row_bits-outside from len old new type size same_size same (λ signing. rw one (inl (omega (arith, row_in_one type)))) outside) (h.rows type);
+      says = λ was. says_one from len old new fuses size same_size one same low outside (h.says was);
     }
 
 -- in profile 2 sector 7 is read
@@ -168,6 +211,7 @@ holds_two first fuses old new written two slots h = record {
   slots = λ k below. slots k below ∙ h.slots k below;
   floors = λ bank. floor_stands new fuses bank written.size (sym (written_floor fuses new bank written two));
   rows = λ type. by_type type (signing_or_not type);
+  says = λ was. says_two old new fuses written two slots (h.says was);
 }
   where
     by_type : (type : ContentType) → (IsSigning type ⊎ (¬ IsSigning type)) → RowStands new fuses type
@@ -305,7 +349,12 @@ then_stands first fuses nv p stands h is = record {
     same_row type = refl
 
 pub first_holds : (nv : List ℕ) (fuses : FusesState) → Stands nv fuses → Holds nv fuses nv
-first_holds nv fuses h = record { slots = λ k below. refl; floors = h.floors; rows = h.rows }
+first_holds nv fuses h = record {
+  slots = λ k below. refl;
+  floors = h.floors;
+  rows = h.rows;
+  says = λ was. was ∙ ap (λ (p : Profile). Ok (record fuses { profile = p })) h.profile;
+}
 
 -- stores for which the same fuses stand have the same bits
 pub Grows-holds : (first : List ℕ) (fuses : FusesState) (old new : List ℕ) → Holds first fuses old → Holds first fuses new → Grows old new
@@ -317,26 +366,6 @@ Grows-holds first fuses old new h k = record {
       let below : n < 256 = omega (arith, b.bit.within, row_narrow (profile_of old)) in
       ((k.rows type).fuses_same n below).0 (((h.rows type).fuses_same n below).1 b);
 }
-
-kept_fuses : (nv : List ℕ) (fuses : FusesState) (slot : List ℕ) → IsWritten fuses nv → profile_of nv ≡ Two → fuses.provision ≡ provision_in slot → fuses_with nv slot ≡ record fuses { profile = Two }
-kept_fuses nv fuses slot h two provision = rw (
-  ← provision,
-  two,
-  written_floor fuses nv Bmc h two,
-  written_floor fuses nv Pch h two,
-  written_row fuses nv PchManifest tt h two,
-  written_row fuses nv PchCapsule tt h two,
-  written_row fuses nv BmcManifest tt h two,
-  written_row fuses nv BmcCapsule tt h two,
-) refl
-
-pub fuses_of-migrated : (old new : List ℕ) (fuses : FusesState) → IsWritten fuses new → profile_of new ≡ Two → ((k : ℕ) → k < 8 → slot_at new k ≡ slot_at old k) → fuses_of old ≡ Ok fuses
-    → fuses_of new ≡ Ok (record fuses { profile = Two })
-fuses_of-migrated old new fuses h two slots was =
-    let found = fuses_of-ok old fuses was in
-    let by : IsProvisionedBy new found.0 = IsProvisionedBy-same old new found.0 slots found.1 in
-    let provision : fuses.provision ≡ provision_in (slot_at new found.0) = ap (λ (kept : FusesState). kept.provision) found.2 ∙ ap provision_in (sym (slots found.0 found.1.within)) in
-    fuses_of-found new found.0 by ∙ ap (λ (kept : FusesState). Ok kept) (kept_fuses new fuses (slot_at new found.0) h two provision)
 
 -- ---- the operations that are added
 AllAre-part : (P : Operation → Type 0) → ((image : List ℕ) (op done : Operation) → IsTorn image op done → P op → P done) → (image : List ℕ) (plan added : List Operation) → AllAre P plan → IsPart image plan added → AllAre P added
@@ -399,6 +428,13 @@ module _ (old new : FlashState) (fuses after : FusesState) (result : Result (Uni
   pub migrate-provision : KeepsProvision old new
   migrate-provision = KeepsProvision-plan 2048 30720 (migration fuses) old new size follows.worked.moved.start follows.part (omega arith) (behind_slots fuses rows)
 
+  pub migrate-loses : OnlyLoses 0 4096 old new
+  migrate-loses = OnlyLoses-plan 0 4096 (omega arith) (migration fuses) old new size follows.worked.moved.start follows.part
+      (inr (inl (omega arith)), (inr (inl (omega arith)), (inl (omega arith), tt)))
+
+  pub migrate-count : AddsAtMost 3 old new
+  migrate-count = AddsAtMost-plan 3 (migration fuses) old new follows.part (omega arith)
+
   pub migrate-adds : Adds IsMigrating old new
   migrate-adds = record { added = follows.part.added; is = follows.part.is; all = AllAre-part IsMigrating torn_migrating (now old) (migration fuses) follows.part.added (migrating fuses rows) follows.part.part }
 
@@ -420,13 +456,20 @@ module _ (old new : FlashState) (fuses after : FusesState) (result : Result (Uni
           (then_stands (now old) fuses (now new) Two stands last (sym (new_two (Follows-now (migration fuses) old new u h))))
       by_result (Err f) h is = tt
 
+  says_now : fuses_of (now old) ≡ Ok fuses → Says (now new) fuses
+  says_now was = last.says was
+
   pub migrate-exact : OnOk result (after ≡ record fuses { profile = Two }) → OnOk result (fuses_of (now old) ≡ Ok fuses → fuses_of (now new) ≡ Ok after)
   migrate-exact ok = by_result result follows ok
     where
       by_result : (r : Result (Unit {0}) FlashFail) → Follows (migration fuses) old new r → OnOk r (after ≡ record fuses { profile = Two }) → OnOk r (fuses_of (now old) ≡ Ok fuses → fuses_of (now new) ≡ Ok after)
       by_result (Ok u) h is = λ was.
-          let all = Follows-now (migration fuses) old new u h in
-          fuses_of-migrated (now old) (now new) fuses
-          (subst (IsWritten fuses) (sym all) (whole_written (now old) fuses old_size old_one rows fit (first_holds (now old) fuses stands))) (new_two all) last.slots was
-          ∙ ap (λ (kept : FusesState). Ok kept) (sym is)
+          says_now was ∙ ap (λ (p : Profile). Ok (record fuses { profile = p })) (new_two (Follows-now (migration fuses) old new u h)) ∙ ap (λ (kept : FusesState). Ok kept) (sym is)
       by_result (Err f) h is = tt
+
+  pub migrate-rest : OnOk result (after ≡ record fuses { profile = Two }) → OnErr result (after ≡ fuses) → fuses_of (now old) ≡ Ok fuses → fuses_of (now new) ≡ Ok (record after { profile = profile_of (now new) })
+  migrate-rest ok err was = by_result result ok err
+    where
+      by_result : (r : Result (Unit {0}) FlashFail) → OnOk r (after ≡ record fuses { profile = Two }) → OnErr r (after ≡ fuses) → Says (now new) after
+      by_result (Ok u) is none = subst (λ (kept : FusesState). Says (now new) kept) (sym is) (says_now was)
+      by_result (Err f) none is = subst (λ (kept : FusesState). Says (now new) kept) (sym is) (says_now was)

@@ -1,14 +1,14 @@
 -- What a provision leaves, whole or cut short.
-use Rattle.std.proofs.Common.{◌≡◌, ℕ, ◌+◌, ◌-◌, ◌*◌, ◌≤◌, ◌<◌, true, false, List, [], ◌∷◌, length, get_or, Result, Ok, Err, OnOk, IfErr, refl, sym, ap, ◌∙◌, subst, arith, bit_and, ◌⊎◌, inl, inr}
+use Rattle.std.proofs.Common.{◌≡◌, ℕ, zero, suc, ◌+◌, ◌-◌, ◌*◌, ◌≤◌, ◌<◌, true, false, List, [], ◌∷◌, length, length-append, take, get_or, Result, Ok, Err, OnOk, IfErr, refl, sym, ap, ◌∙◌, subst, arith, bit_and, ◌⊎◌, inl, inr}
 use Rattle.std.specs.Prelude.{◌≢◌}
 use Rattle.std.specs.Int.Bits.{and_zero_r}
 use Rattle.std.proofs.lemmas.Bool.{cases_Bool, cases_eq, cases_lt}
 use Rattle.std.proofs.lemmas.Bool.Decides.{not_from_Decides}
 use Rattle.std.proofs.lemmas.List.{ext_get_or, append-nil}
 use Rattle.pfr_flash.specs.Bytes.{bytes_at, written, and_bytes}
-use Rattle.pfr_flash.specs.FlashState.{FlashState, now, size_of}
+use Rattle.pfr_flash.specs.FlashState.{FlashState, now, upto, size_of, op_count_of}
 use Rattle.pfr_flash.specs.Moved.{Worked}
-use Rattle.pfr_flash.specs.Operation.{Operation, Program, applied, play}
+use Rattle.pfr_flash.specs.Operation.{Operation, Program, applied, play, IsTorn}
 use Rattle.pfr_flash.specs.Plan.{IsPart, DoesPart, Follows}
 use Rattle.pfr_flash.specs.Range.{IsWithin, AllWithin, SameOutside}
 use Rattle.pfr_flash.specs.Reading.{OnlyReads}
@@ -22,12 +22,13 @@ use Rattle.pfr_flash.proofs.FollowsLemmas.{FailsWorking-reading, Follows-reads, 
 use Rattle.pfr_flash.proofs.FuseLemmas.{applied-byte}
 use Rattle.pfr_flash.proofs.PlayLemmas.{length-applied}
 use Rattle.pfr_flash.proofs.PlanLemmas.{DoesPart-outside}
+use Rattle.pfr_flash.proofs.StateLemmas.{upto-added}
 use Rattle.pfr_flash.proofs.RangeLemmas.{SameOutside-applied, SameOutside-torn, SameOutside-refl, SameOutside-wider, then_outside, bytes_at-outside, length-now}
 use Rattle.pfr_fuses.specs.Answer.{Refuses}
 use Rattle.pfr_fuses.specs.RootSlot.{IsSlot, slot_of, slot_bytes, provision_in}
 use Rattle.pfr_fuses.specs.Slots.{IsSet, IsBlank, IsProvisionedBy, IsUnset, slot_at, is_blank}
 use Rattle.pfr_fuses.specs.FuseMap.{IsSigning, profile_of, floor_at, row_at}
-use Rattle.pfr_fuses.specs.Growth.{NeverGoesBack, KeepsProvision, Adds}
+use Rattle.pfr_fuses.specs.Growth.{NeverGoesBack, OnlyLoses, KeepsProvision, AddsAtMost, Adds}
 use Rattle.pfr_fuses.specs.Provisioning.{CanProvision, IsBarred, FollowsAs, IsFirstBlank, IsProvisionable, IsProvisionedWith, IsUsedUp, KeepsFuses, ProvisionFails, Provisions, judge_provision, provision_plan}
 use Rattle.pfr_fuses.specs.declared.root_slot.RootSlot.{RootSlot}
 use Rattle.pfr_fuses.specs.declared.fuse_fail.FuseFail.{FuseFail}
@@ -35,7 +36,8 @@ use Rattle.pfr_fuses.specs.declared.fuse_fail.FuseFail.TheVariants.{NotProvision
 use Rattle.pfr_fuses.specs.declared.profile.Profile.{Profile}
 use Rattle.pfr_fuses.specs.declared.profile.Profile.TheVariants.{One, Two}
 use Rattle.pfr_fuses.proofs.BlankLemmas.{judged-ok, judged-err, provisionable-judged}
-use Rattle.pfr_fuses.proofs.GrowthLemmas.{AllPrograms, part_step, part_end, profile-outside, NeverGoesBack-programs, KeepsProvision-plan, Adds-within}
+use Rattle.pfr_fuses.proofs.GrowthLemmas.{AllPrograms, part_step, part_end, part_length, profile-outside, NeverGoesBack-programs, KeepsProvision-none, KeepsProvision-last, Adds-within, AddsAtMost-plan}
+use Rattle.pfr_fuses.proofs.LosingLemmas.{AllLose-programs, OnlyLoses-plan}
 use Rattle.pfr_fuses.proofs.RootSlotLemmas.{length-slot, slot_of-bytes}
 use Rattle.pfr_fuses.proofs.SlotLemmas.{Decides-is_blank}
 use Rattle.pfr_fuses.proofs.StaysLemmas.{AreOutside, floor_bits-outside, row_bits-outside}
@@ -213,6 +215,28 @@ module _ (nv : List ℕ) (what : RootSlot) (number : ℕ) (size : length nv ≡ 
       by_slot k below (inl same) = λ (set : IsSet (slot_at image k)). subst (λ (j : ℕ). IsSet (slot_at image j)) same set (gate_at image ∙ gate)
       by_slot k below (inr other) = subst (λ (s : List ℕ). ¬ IsSet s) (sym (other_slot image h k below other)) (unset.gates k below)
 
+  -- before the last of its operations no slot is set
+  first_unset : IsUnset nv → IsUnset (applied nv (Program (256 * number) (slot_bytes what)))
+  first_unset unset = still_unset (applied nv (Program (256 * number) (slot_bytes what))) unset first_along
+      ((SameOutside-applied nv (Program (256 * number) (slot_bytes what))).stays (256 * number + 255) (inr (omega (arith, len))) ∙ blank_byte nv number 255 size within blank (omega arith))
+
+  gate_last : (ops : List Operation) (j : ℕ) → IsUnset nv → IsPart (applied nv (Program (256 * number) (slot_bytes what))) (Program (256 * number + 255) (0 ∷ []) ∷ []) ops → j < length ops
+      → IsUnset (play (applied nv (Program (256 * number) (slot_bytes what))) (take j ops))
+  gate_last [] j unset h less = absurd (omega arith)
+  gate_last (op ∷ ops) zero unset h less = first_unset unset
+  gate_last (op ∷ ops) (suc j) unset h less =
+      let few = part_length (applied nv (Program (256 * number) (slot_bytes what))) (Program (256 * number + 255) (0 ∷ []) ∷ []) (op ∷ ops) h in absurd (omega (arith, few, less))
+
+  unset_before : (added : List Operation) (j : ℕ) → IsUnset nv → IsPart nv (provision_plan number what) added → j < length added → IsUnset (play nv (take j added))
+  unset_before [] j unset h less = absurd (omega arith)
+  unset_before (op ∷ ops) zero unset h less = unset
+  unset_before (op ∷ ops) (suc j) unset h less = by_part h
+    where
+      by_part : (((op ≡ Program (256 * number) (slot_bytes what)) × IsPart (applied nv (Program (256 * number) (slot_bytes what))) (Program (256 * number + 255) (0 ∷ []) ∷ []) ops)
+          ⊎ (IsTorn nv (Program (256 * number) (slot_bytes what)) op × (ops ≡ []))) → IsUnset (play (applied nv op) (take j ops))
+      by_part (inl whole) = subst (λ (o : Operation). IsUnset (play (applied nv o) (take j ops))) (sym whole.0) (gate_last ops j unset whole.1 (omega arith))
+      by_part (inr torn) = let none : length ops ≡ 0 = ap (λ (o : List Operation). length o) torn.1 in absurd (omega (arith, none, less))
+
   as_before : (image : List ℕ) → Along nv what number image → IsBlank (slot_at image number) → image ≡ nv
   as_before image h still = ext_get_or 0 image nv h.size (λ i below. by_place i (cases_lt i (256 * number)) (cases_lt i (256 * number + 256)))
     where
@@ -267,6 +291,7 @@ record DidInSlots (old new : FlashState) : Type 0 where
   did : Did plan old new
   programs : AllPrograms 32768 plan
   within : AllWithin 0 2048 plan
+  few : length plan ≤ 2
 
 did_in_slots : (old new : FlashState) (what : RootSlot) (bmc_size pch_size : ℕ) (result : Result (Unit {0}) FuseFail) → IsSlot what → (judged : Result ℕ FuseFail) → judge_provision (now old) what bmc_size pch_size ≡ judged
     → Provisions what old new result judged → DidInSlots old new
@@ -276,8 +301,9 @@ did_in_slots old new what bmc_size pch_size result slot (Ok number) is h =
       did = follows_did (provision_plan number what) old new result h;
       programs = plan-programs what number slot can.slot.within;
       within = plan-slots what number slot can.slot.within;
+      few = omega arith;
     }
-did_in_slots old new what bmc_size pch_size result slot (Err cause) is h = record { plan = []; did = reads_did old new h.1; programs = tt {0}; within = tt {0} }
+did_in_slots old new what bmc_size pch_size result slot (Err cause) is h = record { plan = []; did = reads_did old new h.1; programs = tt {0}; within = tt {0}; few = omega arith }
 
 along_now : (old new : FlashState) (what : RootSlot) (number : ℕ) → size_of old ≡ 32768 → IsSlot what → IsFirstBlank (now old) number → Did (provision_plan number what) old new → Along (now old) what number (now new)
 along_now old new what number size slot first h =
@@ -331,11 +357,27 @@ provision_err old new what bmc_size pch_size (Err AlreadyProvisioned) size slot 
 provision_err old new what bmc_size pch_size (Err (LayoutBad bank rule)) size slot (Ok number) is h = absurd h
 provision_err old new what bmc_size pch_size (Err (LayoutBad bank rule)) size slot (Err other) is h = (barred old new what bmc_size pch_size (LayoutBad bank rule) other is h.0, h.1.content)
 
-provision_keeps : (old new : FlashState) (what : RootSlot) (bmc_size pch_size : ℕ) (result : Result (Unit {0}) FuseFail) → size_of old ≡ 32768 → (judged : Result ℕ FuseFail)
+-- From the moment at which a slot is provisioned it stays as it is.
+pub KeepsProvision-slot : (old new : FlashState) (what : RootSlot) (number : ℕ) → size_of old ≡ 32768 → new.start ≡ old.start → IsSlot what → IsUnset (now old) → IsFirstBlank (now old) number
+    → DoesPart (provision_plan number what) old new → KeepsProvision old new
+KeepsProvision-slot old new what number size same_start slot unset first h = KeepsProvision-last old new each
+  where
+    each : (n : ℕ) → op_count_of old ≤ n → n < op_count_of new → IsUnset (upto new n)
+    each n low less =
+        let all : op_count_of new ≡ op_count_of old + length h.added = ap (λ (ops : List Operation). length ops) h.is ∙ length-append old.ops h.added in
+        let more : op_count_of old + (n - op_count_of old) ≡ n = omega arith in
+        let image : upto new n ≡ play (now old) (take (n - op_count_of old) h.added) =
+        subst (λ (k : ℕ). upto new k ≡ play (now old) (take (n - op_count_of old) h.added)) more (upto-added old new h.added (n - op_count_of old) same_start h.is) in
+        subst IsUnset (sym image)
+        (unset_before (now old) what number (length-now old ∙ size) first.within slot first.blank h.added (n - op_count_of old) unset h.part (omega (arith, all, low, less)))
+
+provision_keeps : (old new : FlashState) (what : RootSlot) (bmc_size pch_size : ℕ) (result : Result (Unit {0}) FuseFail) → size_of old ≡ 32768 → IsSlot what → (judged : Result ℕ FuseFail)
     → judge_provision (now old) what bmc_size pch_size ≡ judged → Provisions what old new result judged → KeepsProvision old new
-provision_keeps old new what bmc_size pch_size result size (Ok number) is h = record { keeps = λ n other low high by. absurd ((judged-ok (now old) what bmc_size pch_size number is).unset.gates other by.within by.gate) }
-provision_keeps old new what bmc_size pch_size result size (Err cause) is h =
-    let did = reads_did old new h.1 in KeepsProvision-plan 2048 0 [] old new size did.worked.moved.start did.part (omega arith) (tt {0})
+provision_keeps old new what bmc_size pch_size result size slot (Ok number) is h =
+    let can = judged-ok (now old) what bmc_size pch_size number is in
+    let did = follows_did (provision_plan number what) old new result h in
+    KeepsProvision-slot old new what number size did.worked.moved.start slot can.unset can.slot did.part
+provision_keeps old new what bmc_size pch_size result size slot (Err cause) is h = KeepsProvision-none old new h.1.ops
 
 slot_set : (old new : FlashState) (what : RootSlot) (number : ℕ) (result : Result (Unit {0}) FuseFail) → size_of old ≡ 32768 → IsSlot what → IsUnset (now old) → IsFirstBlank (now old) number
     → FollowsAs (provision_plan number what) old new result → OnOk result (IsProvisionedBy (now new) number)
@@ -407,7 +449,13 @@ module _ (old new : FlashState) (what : RootSlot) (bmc_size pch_size : ℕ) (res
   provision-grows = NeverGoesBack-programs 0 2048 in_slots.plan old new size in_slots.did.worked.moved.start in_slots.did.part in_slots.programs in_slots.within (inr (omega arith))
 
   pub provision-keeps : KeepsProvision old new
-  provision-keeps = provision_keeps old new what bmc_size pch_size result size (judge_provision (now old) what bmc_size pch_size) refl exact
+  provision-keeps = provision_keeps old new what bmc_size pch_size result size slot (judge_provision (now old) what bmc_size pch_size) refl exact
+
+  pub provision-loses : OnlyLoses 0 32768 old new
+  provision-loses = OnlyLoses-plan 0 32768 (omega arith) in_slots.plan old new size in_slots.did.worked.moved.start in_slots.did.part (AllLose-programs 0 32768 in_slots.plan in_slots.programs)
+
+  pub provision-count : AddsAtMost 2 old new
+  provision-count = AddsAtMost-plan 2 in_slots.plan old new in_slots.did.part in_slots.few
 
   pub provision-worked : Worked old new
   provision-worked = in_slots.did.worked

@@ -19,14 +19,16 @@ use Rattle.pfr_flash.proofs.FuseLemmas.{IsCleared-program}
 use Rattle.pfr_flash.proofs.RangeLemmas.{length-now}
 use Rattle.pfr_fuses.specs.FuseMap.{IsBit, IsFloorBit, IsFloor, profile_of, floor_at}
 use Rattle.pfr_fuses.specs.FusesState.{FusesState, floor_row, row_of, floor_of}
-use Rattle.pfr_fuses.specs.FusesOf.{FloorStands}
-use Rattle.pfr_fuses.specs.Changes.{Raises, StaysButFloor, clearing, raise_plan, raised, with_floor}
-use Rattle.pfr_fuses.specs.Growth.{NeverGoesBack, KeepsProvision, Adds}
+use Rattle.pfr_fuses.specs.FusesOf.{FloorStands, floor_fuses, fuses_of}
+use Rattle.pfr_fuses.specs.Changes.{Raises, SameProvision, StaysButFloor, clearing, raise_plan, raised, with_floor}
+use Rattle.pfr_fuses.specs.Growth.{NeverGoesBack, OnlyLoses, KeepsProvision, AddsAtMost, Adds}
 use Rattle.pfr_fuses.specs.declared.profile.Profile.TheVariants.{Two}
 use Rattle.pfr_fuses.proofs.ClearingLemmas.{clearing-within, clearing-programs, clearing-part, MayClear-refl, floor_bit-two, floor_bit-stays}
+use Rattle.pfr_fuses.proofs.ExactLemmas.{ChangedAt, fuses_of-but_floor, floor_kept, floor-cleared}
 use Rattle.pfr_fuses.proofs.FloorLemmas.{floor_in-above, floor_in-highest}
-use Rattle.pfr_fuses.proofs.GrowthLemmas.{AllPrograms, part_end, profile-outside, NeverGoesBack-programs, KeepsProvision-plan, Adds-within, slots-outside}
+use Rattle.pfr_fuses.proofs.GrowthLemmas.{AllPrograms, part_end, profile-outside, NeverGoesBack-programs, KeepsProvision-plan, Adds-within, AddsAtMost-plan, slots-outside}
 use Rattle.pfr_fuses.proofs.KeptLemmas.{raise_plan-none}
+use Rattle.pfr_fuses.proofs.LosingLemmas.{AllLose-programs, OnlyLoses-plan}
 use Rattle.pfr_fuses.proofs.StandsLemmas.{kept_floor}
 use Rattle.pfr_fuses.proofs.StaysLemmas.{floors_apart, row_behind_floors, floor_in_sector, floor_bits-outside, row_bits-outside, FloorStands-same, RowStands-same}
 
@@ -103,6 +105,15 @@ same_with_floor fuses Pch row = record { floors = λ other ne. other_floor fuses
 same_raised : (fuses : FusesState) (bank : Bank) (to : ℕ) → SameElse fuses bank (raised fuses bank to)
 same_raised fuses bank to = raised_cases (λ after. SameElse fuses bank after) fuses bank to (λ le. same_fuses fuses bank) (λ lt. same_with_floor fuses bank (with_cleared (floor_row fuses bank) (to - 1)))
 
+-- another row in place of the floor's
+floor_again : (fuses : FusesState) (bank : Bank) (row other : List ℕ) → with_floor (with_floor fuses bank row) bank other ≡ with_floor fuses bank other
+floor_again fuses Bmc row other = refl
+floor_again fuses Pch row other = refl
+
+raised_again : (fuses : FusesState) (bank : Bank) (to : ℕ) (other : List ℕ) → with_floor (raised fuses bank to) bank other ≡ with_floor fuses bank other
+raised_again fuses bank to other =
+    raised_cases (λ after. with_floor after bank other ≡ with_floor fuses bank other) fuses bank to (λ le. refl) (λ lt. floor_again fuses bank (with_cleared (floor_row fuses bank) (to - 1)) other)
+
 -- ---- one store and the next
 record Changed (bank : Bank) (old new : List ℕ) : Type 0 where
   size : length old ≡ 32768
@@ -116,16 +127,22 @@ new_profile bank old new h = profile-outside (floor_at Two bank) 16 old new (inl
 new_two : (bank : Bank) (old new : List ℕ) → Changed bank old new → profile_of new ≡ Two
 new_two bank old new h = new_profile bank old new h ∙ h.two
 
+same_provision : (bank : Bank) (old new : List ℕ) → Changed bank old new → SameProvision old new
+same_provision bank old new h = record {
+  slots = slots-outside (floor_at Two bank) 16 old new (omega (arith, (floor_in_sector bank).0)) h.size h.same_size h.outside;
+  profile = new_profile bank old new h;
+}
+
+changed_at : (bank : Bank) (old new : List ℕ) → Changed bank old new → ChangedAt (floor_at Two bank) 16 old new
+changed_at bank old new h = record { size = h.size; same_size = h.same_size; two = h.two; outside = h.outside; store = same_provision bank old new h }
+
 stays_but : (bank : Bank) (old new : List ℕ) (fuses after : FusesState) → Changed bank old new → SameElse fuses bank after → StaysButFloor bank old fuses new after
 stays_but bank old new fuses after h same = record {
   floors = λ other ne stands. FloorStands-same old new fuses after other (same.floors other ne)
       (floor_bits-outside (floor_at Two bank) 16 old new other h.size h.same_size (new_profile bank old new h) (rw h.two (floors_apart bank other ne)) h.outside) stands;
   rows = λ type stands. RowStands-same old new fuses after type (same.rows type)
       (row_bits-outside (floor_at Two bank) 16 old new type h.size h.same_size (new_profile bank old new h) (λ signing. rw h.two (inr (row_behind_floors bank type signing))) h.outside) stands;
-  store = record {
-    slots = slots-outside (floor_at Two bank) 16 old new (omega (arith, (floor_in_sector bank).0)) h.size h.same_size h.outside;
-    profile = new_profile bank old new h;
-  };
+  store = same_provision bank old new h;
   provision = same.provision;
   profile = same.profile;
 }
@@ -197,6 +214,10 @@ raised_floor fuses after bank to most above raises =
     too_high j more (inl z) below = let under : j < floor_of fuses bank = floor_in-above 128 (floor_row fuses bank) j below z in omega (arith, under)
     too_high j more (inr e) below = omega arith
 
+-- the store says what is kept, but for the floor
+abbrev SaysBut : Bank → List ℕ → FusesState → Type 0
+SaysBut bank nv kept = fuses_of nv ≡ Ok (with_floor kept bank (floor_fuses nv bank))
+
 -- ---- the call
 module _ (bank : Bank) (to : ℕ) (old new : FlashState) (fuses after : FusesState) (result : Result (Unit {0}) FlashFail) (size : size_of old ≡ 32768) (two : profile_of (now old) ≡ Two) (most : to ≤ 127)
     (follows : Follows (raise_plan (floor_of fuses bank) bank to) old new result) where
@@ -226,6 +247,14 @@ module _ (bank : Bank) (to : ℕ) (old new : FlashState) (fuses after : FusesSta
   pub raise-provision : KeepsProvision old new
   raise-provision = KeepsProvision-plan (floor_at Two bank) 16 (raise_plan (floor_of fuses bank) bank to) old new size follows.worked.moved.start follows.part
       (omega (arith, (floor_in_sector bank).0)) (raise-within (floor_of fuses bank) bank to most)
+
+  pub raise-loses : OnlyLoses 0 32768 old new
+  raise-loses = OnlyLoses-plan 0 32768 (omega arith) (raise_plan (floor_of fuses bank) bank to) old new size follows.worked.moved.start follows.part
+      (AllLose-programs 0 32768 (raise_plan (floor_of fuses bank) bank to) (raise-programs (floor_of fuses bank) bank to most))
+
+  pub raise-count : AddsAtMost 1 old new
+  raise-count = AddsAtMost-plan 1 (raise_plan (floor_of fuses bank) bank to) old new follows.part
+      (raise_cases (λ plan. length plan ≤ 1) (floor_of fuses bank) bank to (λ le. omega arith) (λ lt. omega arith))
 
   stays_kept : after ≡ fuses → StaysButFloor bank (now old) fuses (now new) after
   stays_kept e = stays_but bank (now old) (now new) fuses after changed (subst (λ (kept : FusesState). SameElse fuses bank kept) (sym e) (same_fuses fuses bank))
@@ -294,3 +323,39 @@ module _ (bank : Bank) (to : ℕ) (old new : FlashState) (fuses after : FusesSta
       by_result : (r : Result (Unit {0}) FlashFail) → OnErr r (IsFloor (now new) bank (floor_of fuses bank) ⊎ IsFloor (now new) bank to)
       by_result (Ok u) = tt
       by_result (Err f) = floor_after (kept_floor (now old) fuses bank stands) (cases_lt (floor_of fuses bank) to)
+
+  -- ---- what the store says
+  says_kept : fuses_of (now old) ≡ Ok fuses → SaysBut bank (now new) fuses
+  says_kept was = fuses_of-but_floor bank (now old) (now new) fuses (changed_at bank (now old) (now new) changed) was
+
+  pub raise-rest : OnOk result (after ≡ raised fuses bank to) → OnErr result (after ≡ fuses) → fuses_of (now old) ≡ Ok fuses → fuses_of (now new) ≡ Ok (with_floor after bank (floor_fuses (now new) bank))
+  raise-rest ok err was = by_result result ok err
+    where
+      by_result : (r : Result (Unit {0}) FlashFail) → OnOk r (after ≡ raised fuses bank to) → OnErr r (after ≡ fuses) → SaysBut bank (now new) after
+      by_result (Ok u) is none = says_kept was
+          ∙ ap (λ (kept : FusesState). Ok kept) (sym (ap (λ (kept : FusesState). with_floor kept bank (floor_fuses (now new) bank)) is ∙ raised_again fuses bank to (floor_fuses (now new) bank)))
+      by_result (Err f) none is = subst (SaysBut bank (now new)) (sym is) (says_kept was)
+
+  raised_row : floor_of fuses bank < to → now new ≡ play (now old) (raise_plan (floor_of fuses bank) bank to) → fuses_of (now old) ≡ Ok fuses
+      → floor_fuses (now new) bank ≡ with_cleared (floor_row fuses bank) (to - 1)
+  raised_row above is was =
+      let plan : raise_plan (floor_of fuses bank) bank to ≡ clearing (floor_at Two bank) (to - 1) =
+      raise_cases (λ plan. plan ≡ clearing (floor_at Two bank) (to - 1)) (floor_of fuses bank) bank to (λ low. absurd (omega (arith, low, above))) (λ high. refl) in
+      floor-cleared bank (now old) (now new) (to - 1) (changed_at bank (now old) (now new) changed) (omega arith) (is ∙ ap (λ (ops : List Operation). play (now old) ops) plan) (omega (arith, (floor_in_sector bank).1))
+      ∙ ap (λ (row : List ℕ). with_cleared row (to - 1)) (sym (floor_kept (now old) fuses bank was))
+
+  says_raised : now new ≡ play (now old) (raise_plan (floor_of fuses bank) bank to) → after ≡ raised fuses bank to → fuses_of (now old) ≡ Ok fuses
+      → ((floor_of fuses bank < to) ⊎ (to ≤ floor_of fuses bank)) → fuses_of (now new) ≡ Ok after
+  says_raised is kept was (inl above) =
+      let all : after ≡ with_floor fuses bank (with_cleared (floor_row fuses bank) (to - 1)) =
+      kept ∙ raised_cases (λ a. a ≡ with_floor fuses bank (with_cleared (floor_row fuses bank) (to - 1))) fuses bank to (λ low. absurd (omega (arith, low, above))) (λ high. refl) in
+      says_kept was ∙ ap (λ (a : FusesState). Ok a) (ap (λ (row : List ℕ). with_floor fuses bank row) (raised_row above is was) ∙ sym all)
+  says_raised is kept was (inr low) = ap fuses_of (now_same low is) ∙ was ∙ ap (λ (a : FusesState). Ok a) (sym (kept_same low kept))
+
+  pub raise-exact : OnOk result (after ≡ raised fuses bank to) → OnOk result (fuses_of (now old) ≡ Ok fuses → fuses_of (now new) ≡ Ok after)
+  raise-exact ok = by_result result done_now ok
+    where
+      by_result : (r : Result (Unit {0}) FlashFail) → OnOk r (now new ≡ play (now old) (raise_plan (floor_of fuses bank) bank to)) → OnOk r (after ≡ raised fuses bank to)
+          → OnOk r (fuses_of (now old) ≡ Ok fuses → fuses_of (now new) ≡ Ok after)
+      by_result (Ok u) is kept = λ was. says_raised is kept was (cases_lt (floor_of fuses bank) to)
+      by_result (Err f) is kept = tt

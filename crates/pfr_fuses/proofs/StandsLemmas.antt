@@ -96,7 +96,7 @@ pub no_row_stands : (nv : List ℕ) (fuses : FusesState) (type : ContentType) �
 no_row_stands nv fuses type other h =
     record { fuses_same = λ k below. (λ z. absurd (not_cleared 32 k below (subst (λ (row : List ℕ). IsCleared row k) h z)), λ (b : IsCancelBit nv type k). absurd (other b.signing)) }
 
-same_floor : (nv slot : List ℕ) (bank : Bank) → floor_row (fuses_with nv slot) bank ≡ floor_fuses nv bank
+pub same_floor : (nv slot : List ℕ) (bank : Bank) → floor_row (fuses_with nv slot) bank ≡ floor_fuses nv bank
 same_floor nv slot Bmc = refl
 same_floor nv slot Pch = refl
 

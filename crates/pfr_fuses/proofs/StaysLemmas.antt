@@ -1,7 +1,7 @@
 -- What stands for a store stands for one that is changed elsewhere.
-use Rattle.std.proofs.Common.{◌≡◌, ℕ, ◌+◌, ◌≤◌, List, length, refl, sym, subst, arith, ◌⊎◌, inl, inr}
+use Rattle.std.proofs.Common.{◌≡◌, ℕ, ◌+◌, ◌≤◌, List, length, refl, sym, ap, ◌∙◌, subst, arith, ◌⊎◌, inl, inr}
 use Rattle.std.specs.Prelude.{◌↔◌, ◌≢◌}
-use Rattle.pfr_flash.specs.Bytes.{bytes_at}
+use Rattle.pfr_flash.specs.Bytes.{bytes_at, continued}
 use Rattle.pfr_flash.specs.FuseRow.{IsCleared}
 use Rattle.pfr_flash.specs.Range.{SameOutside}
 use Rattle.pfr_flash.specs.declared.names.Bank.{Bank}
@@ -11,7 +11,7 @@ use Rattle.pfr_flash.specs.declared.names.ContentType.TheVariants.{PchManifest, 
 use Rattle.pfr_flash.proofs.RangeLemmas.{bytes_at-outside}
 use Rattle.pfr_fuses.specs.FuseMap.{IsSigning, IsBit, IsFloorBit, IsCancelBit, profile_of, floor_at, floor_width, row_at, row_width}
 use Rattle.pfr_fuses.specs.FusesState.{FusesState, floor_row, row_of}
-use Rattle.pfr_fuses.specs.FusesOf.{FloorStands, RowStands}
+use Rattle.pfr_fuses.specs.FusesOf.{FloorStands, RowStands, floor_fuses, row_fuses}
 use Rattle.pfr_fuses.specs.declared.profile.Profile.{Profile}
 use Rattle.pfr_fuses.specs.declared.profile.Profile.TheVariants.{Two}
 use Rattle.pfr_fuses.proofs.StandsLemmas.{floor_fits, row_fits}
@@ -63,6 +63,21 @@ pub row_bits-outside : (from len : ℕ) (old new : List ℕ) (type : ContentType
     → (k : ℕ) → (IsCancelBit new type k ↔ IsCancelBit old type k)
 row_bits-outside from len old new type whole size same apart outside =
     row_bits-same old new type same (λ signing. bytes_at-outside from len old new (row_at (profile_of old) type) (row_width (profile_of old)) outside size (apart signing) (omega (arith, row_fits (profile_of old) type)))
+
+-- ---- the fuses of a store that changed elsewhere
+pub floor_fuses-outside : (from len : ℕ) (old new : List ℕ) (bank : Bank) → length old ≡ 32768 → length new ≡ length old → profile_of new ≡ profile_of old
+    → AreOutside from len (floor_at (profile_of old) bank) (floor_width (profile_of old)) → SameOutside from len old new → floor_fuses new bank ≡ floor_fuses old bank
+unfolding floor_fuses
+floor_fuses-outside from len old new bank whole size same apart outside =
+    ap (λ (p : Profile). continued (bytes_at new (floor_at p bank) (floor_width p)) 16) same
+    ∙ ap (λ (row : List ℕ). continued row 16) (bytes_at-outside from len old new (floor_at (profile_of old) bank) (floor_width (profile_of old)) outside size apart (omega (arith, whole, floor_fits (profile_of old) bank)))
+
+pub row_fuses-outside : (from len : ℕ) (old new : List ℕ) (type : ContentType) → length old ≡ 32768 → length new ≡ length old → profile_of new ≡ profile_of old
+    → AreOutside from len (row_at (profile_of old) type) (row_width (profile_of old)) → SameOutside from len old new → row_fuses new type ≡ row_fuses old type
+unfolding row_fuses
+row_fuses-outside from len old new type whole size same apart outside =
+    ap (λ (p : Profile). continued (bytes_at new (row_at p type) (row_width p)) 32) same
+    ∙ ap (λ (row : List ℕ). continued row 32) (bytes_at-outside from len old new (row_at (profile_of old) type) (row_width (profile_of old)) outside size apart (omega (arith, whole, row_fits (profile_of old) type)))
 
 -- ---- what stands
 pub FloorStands-same : (old new : List ℕ) (fuses after : FusesState) (bank : Bank) → floor_row after bank ≡ floor_row fuses bank

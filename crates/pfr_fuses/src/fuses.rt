@@ -10,9 +10,9 @@ ghost use Rattle.pfr_fuses.specs.Slots.{IsProvisionedBy, IsUnset, HasBlank, slot
 ghost use Rattle.pfr_fuses.specs.FuseMap.{IsSigning, IsFloor, IsCancelled, profile_of, profile_number, floor_at, row_at};
 ghost use Rattle.pfr_fuses.specs.FusesState.{floor_of, row_of};
 ghost use Rattle.pfr_fuses.specs.RootSlot.{provision_in};
-ghost use Rattle.pfr_fuses.specs.FusesOf.{Stands, FloorStands, RowStands, IsRefused, fuses_of, fuses_with};
-ghost use Rattle.pfr_fuses.specs.Changes.{AreRows, IsMigrating, Raises, Cancels, CancelsAtMost, StaysButFloor, StaysButRow, raise_plan, cancellation, migrated, migration, raised, with_cancelled};
-ghost use Rattle.pfr_fuses.specs.Growth.{NeverGoesBack, KeepsProvision, Adds};
+ghost use Rattle.pfr_fuses.specs.FusesOf.{Stands, FloorStands, RowStands, IsRefused, floor_fuses, row_fuses, fuses_of, fuses_with};
+ghost use Rattle.pfr_fuses.specs.Changes.{AreRows, IsMigrating, Raises, Cancels, CancelsAtMost, StaysButFloor, StaysButRow, raise_plan, cancellation, migrated, migration, raised, with_cancelled, with_floor, with_row};
+ghost use Rattle.pfr_fuses.specs.Growth.{NeverGoesBack, OnlyLoses, KeepsProvision, Adds, AddsAtMost};
 ghost use Rattle.pfr_fuses.specs.declared.profile.Profile.TheVariants.{One, Two};
 ghost use Rattle.pfr_fuses.specs.declared.fuse_fail.FuseFail.TheVariants.{NotProvisioned, SlotsSpent};
 
@@ -193,10 +193,16 @@ impl Fuses {
         ensures exact { OnOk result (fuses_of (now (F.device nv.old)) ≡ Ok self.old →
             fuses_of (now (F.device nv.new)) ≡ Ok self.new) }
         ensures ok { OnOk result (Stands (now (F.device nv.new)) self.new) }
+        // After `Err` too, all that is kept is what the store says, but for the profile.
+        ensures rest { fuses_of (now (F.device nv.old)) ≡ Ok self.old →
+            fuses_of (now (F.device nv.new)) ≡ Ok (record self.new { profile = profile_of (now (F.device nv.new)) }) }
         ensures err { OnErr result (Stands (now (F.device nv.new))
             (record self.old { profile = profile_of (now (F.device nv.new)) })) }
-        // No operation touches a byte outside of sector 7 and the profile gate.
+        // There are three operations at most, and none touches a byte outside of sector 7 and the profile gate.
+        ensures count { AddsAtMost 3 (F.device nv.old) (F.device nv.new) }
         ensures within { Adds IsMigrating (F.device nv.old) (F.device nv.new) }
+        // Sector 0 only loses bits.
+        ensures loses { OnlyLoses 0 4096 (F.device nv.old) (F.device nv.new) }
         ensures grows { NeverGoesBack (F.device nv.old) (F.device nv.new) }
         ensures provision { KeepsProvision (F.device nv.old) (F.device nv.new) }
     {
@@ -210,6 +216,7 @@ impl Fuses {
         ensures ok { OnOk result (self.new ≡ raised self.old bank to) }
         ensures fuses { OnOk result (Raises self.old bank to self.new) }
         ensures err { OnErr result (self.new ≡ self.old) }
+        ensures nothing { to ≤ floor_of self.old bank → (result ≡ Ok tt) × (F.device nv.new ≡ F.device nv.old) × (self.new ≡ self.old) }
     {
         if to <= self.floor(bank) {
             return Ok(());
@@ -231,14 +238,23 @@ impl Fuses {
         ensures follows { Follows (raise_plan (floor_of self.old bank) bank to) (F.device nv.old) (F.device nv.new) result }
         ensures kept { OnOk result (self.new ≡ raised self.old bank to) }
         ensures floor { OnOk result (floor_of self.new bank ≡ max (floor_of self.old bank) to) }
+        ensures nothing { to ≤ floor_of self.old bank → (result ≡ Ok tt) × (F.device nv.new ≡ F.device nv.old) × (self.new ≡ self.old) }
+        ensures exact { OnOk result (fuses_of (now (F.device nv.old)) ≡ Ok self.old →
+            fuses_of (now (F.device nv.new)) ≡ Ok self.new) }
         ensures ok { OnOk result (FloorStands (now (F.device nv.new)) self.new bank) }
         ensures left { OnErr result (self.new ≡ self.old) }
         ensures err { OnErr result (IsFloor (now (F.device nv.new)) bank (floor_of self.old bank)
             ⊎ IsFloor (now (F.device nv.new)) bank to) }
+        // After `Err` too, all else of what is kept is what the store says.
+        ensures rest { fuses_of (now (F.device nv.old)) ≡ Ok self.old →
+            fuses_of (now (F.device nv.new)) ≡ Ok (with_floor self.new bank (floor_fuses (now (F.device nv.new)) bank)) }
         ensures stays { StaysButFloor bank (now (F.device nv.old)) self.old (now (F.device nv.new)) self.new }
-        // No operation touches another byte than those of the bank's floor.
+        // There is one operation at most, and it touches no other byte than those of the bank's floor.
+        ensures count { AddsAtMost 1 (F.device nv.old) (F.device nv.new) }
         ensures within { Adds (IsWithin (floor_at Two bank) 16) (F.device nv.old) (F.device nv.new) }
         ensures outside { SameOutside (floor_at Two bank) 16 (now (F.device nv.old)) (now (F.device nv.new)) }
+        // The store only loses bits.
+        ensures loses { OnlyLoses 0 32768 (F.device nv.old) (F.device nv.new) }
         ensures grows { NeverGoesBack (F.device nv.old) (F.device nv.new) }
         ensures provision { KeepsProvision (F.device nv.old) (F.device nv.new) }
     {
@@ -270,15 +286,23 @@ impl Fuses {
         ensures follows { Follows (cancellation ty id) (F.device nv.old) (F.device nv.new) result }
         ensures kept { OnOk result (self.new ≡ with_cancelled self.old ty id) }
         ensures fuses { OnOk result (Cancels self.old ty id self.new) }
+        ensures exact { OnOk result (fuses_of (now (F.device nv.old)) ≡ Ok self.old →
+            fuses_of (now (F.device nv.new)) ≡ Ok self.new) }
         ensures ok { OnOk result (RowStands (now (F.device nv.new)) self.new ty) }
         ensures done { OnOk result (IsCancelled (now (F.device nv.new)) ty id) }
         ensures left { OnErr result (self.new ≡ self.old) }
         // In the store no other key of the type is cancelled.
         ensures store { CancelsAtMost (now (F.device nv.old)) ty id (now (F.device nv.new)) }
+        // After `Err` too, all else of what is kept is what the store says.
+        ensures rest { fuses_of (now (F.device nv.old)) ≡ Ok self.old →
+            fuses_of (now (F.device nv.new)) ≡ Ok (with_row self.new ty (row_fuses (now (F.device nv.new)) ty)) }
         ensures stays { StaysButRow ty (now (F.device nv.old)) self.old (now (F.device nv.new)) self.new }
-        // No operation touches another byte than those of the type's row.
+        // There is one operation at most, and it touches no other byte than those of the type's row.
+        ensures count { AddsAtMost 1 (F.device nv.old) (F.device nv.new) }
         ensures within { Adds (IsWithin (row_at Two ty) 32) (F.device nv.old) (F.device nv.new) }
         ensures outside { SameOutside (row_at Two ty) 32 (now (F.device nv.old)) (now (F.device nv.new)) }
+        // The store only loses bits.
+        ensures loses { OnlyLoses 0 32768 (F.device nv.old) (F.device nv.new) }
         ensures grows { NeverGoesBack (F.device nv.old) (F.device nv.new) }
         ensures provision { KeepsProvision (F.device nv.old) (F.device nv.new) }
     {

@@ -9,7 +9,7 @@ ghost use Rattle.pfr_flash.specs.Range.{IsWithin, SameOutside};
 ghost use Rattle.pfr_flash.specs.Reading.{OnlyReads};
 ghost use Rattle.pfr_fuses.specs.Answer.{Answers};
 ghost use Rattle.pfr_fuses.specs.RootSlot.{IsSlot};
-ghost use Rattle.pfr_fuses.specs.Growth.{Adds, KeepsProvision, NeverGoesBack};
+ghost use Rattle.pfr_fuses.specs.Growth.{Adds, AddsAtMost, KeepsProvision, NeverGoesBack, OnlyLoses};
 ghost use Rattle.pfr_fuses.specs.Slots.{IsProvisionedBy, is_blank};
 ghost use Rattle.pfr_fuses.specs.Provisioning.{CanProvision, FollowsAs, IsJudged, IsProvisionable, IsProvisionedWith, KeepsFuses, ProvisionFails, Provisions, found_first, judge_slots, judge_places, judge_provision, layout_judged, provision_plan};
 
@@ -145,9 +145,12 @@ pub fn provision<F: Flash>(
     ensures found { OnOk result (CanProvision (now (F.device nv.old)) what.now bmc_size pch_size) }
     ensures err { IfErr result (ProvisionFails (F.device nv.old) (F.device nv.new) what.now bmc_size pch_size) }
     ensures fuses { KeepsFuses (now (F.device nv.old)) (now (F.device nv.new)) }
-    // No operation touches a byte behind the slots.
+    // No operation touches a byte behind the slots, and there are two at most.
     ensures within { Adds (IsWithin 0 2048) (F.device nv.old) (F.device nv.new) }
+    ensures count { AddsAtMost 2 (F.device nv.old) (F.device nv.new) }
     ensures outside { SameOutside 0 2048 (now (F.device nv.old)) (now (F.device nv.new)) }
+    // The store only loses bits.
+    ensures loses { OnlyLoses 0 32768 (F.device nv.old) (F.device nv.new) }
     ensures grows { NeverGoesBack (F.device nv.old) (F.device nv.new) }
     ensures provision { KeepsProvision (F.device nv.old) (F.device nv.new) }
     ensures worked { Worked (F.device nv.old) (F.device nv.new) }

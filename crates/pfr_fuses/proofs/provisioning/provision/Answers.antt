@@ -1,4 +1,4 @@
-use Rattle.pfr_fuses.proofs.ProvisionLemmas.{provision-ok, provision-slot, provision-found, provision-err, provision-fuses, provision-within, provision-outside, provision-grows, provision-keeps, provision-worked}
+use Rattle.pfr_fuses.proofs.ProvisionLemmas.{provision-ok, provision-slot, provision-found, provision-err, provision-fuses, provision-within, provision-outside, provision-grows, provision-keeps, provision-loses, provision-count, provision-worked}
 use Rattle.pfr_fuses.proofs.provisioning.provision.Goals as goal
 
 pub returns-clause-ok : goal.returns-clause-ok
@@ -39,4 +39,12 @@ returns-clause-provision g c = provision-keeps (g.F.Flash.device c.args.nv.now) 
 
 pub returns-clause-worked : goal.returns-clause-worked
 returns-clause-worked g c = provision-worked (g.F.Flash.device c.args.nv.now) (g.F.Flash.device c.provision_slot.new.nv) c.args.what.now c.args.bmc_size c.args.pch_size c.provision_slot.result
+    c.requires c.provision_slot.ensures.slot c.provision_slot.ensures.exact
+
+pub returns-clause-count : goal.returns-clause-count
+returns-clause-count g c = provision-count (g.F.Flash.device c.args.nv.now) (g.F.Flash.device c.provision_slot.new.nv) c.args.what.now c.args.bmc_size c.args.pch_size c.provision_slot.result
+    c.requires c.provision_slot.ensures.slot c.provision_slot.ensures.exact
+
+pub returns-clause-loses : goal.returns-clause-loses
+returns-clause-loses g c = provision-loses (g.F.Flash.device c.args.nv.now) (g.F.Flash.device c.provision_slot.new.nv) c.args.what.now c.args.bmc_size c.args.pch_size c.provision_slot.result
     c.requires c.provision_slot.ensures.slot c.provision_slot.ensures.exact

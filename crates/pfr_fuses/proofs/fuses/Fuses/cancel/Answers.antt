@@ -1,5 +1,5 @@
 use Rattle.std.proofs.Common.{arith}
-use Rattle.pfr_fuses.proofs.CancelLemmas.{cancel-ok, cancel-done, cancel-store, cancel-stays, cancel-adds, cancel-outside, cancel-grows, cancel-provision}
+use Rattle.pfr_fuses.proofs.CancelLemmas.{cancel-ok, cancel-done, cancel-store, cancel-exact, cancel-rest, cancel-stays, cancel-loses, cancel-count, cancel-adds, cancel-outside, cancel-grows, cancel-provision}
 use Rattle.pfr_fuses.proofs.fuses.Fuses.cancel.Goals as goal
 
 pub returns-clause-ok : goal.returns-clause-ok
@@ -32,4 +32,20 @@ returns-clause-grows g c = cancel-grows c.args.ty c.args.id (g.F.Flash.device c.
 
 pub returns-clause-provision : goal.returns-clause-provision
 returns-clause-provision g c = cancel-provision c.args.ty c.args.id (g.F.Flash.device c.args.nv.now) (g.F.Flash.device c.cancel_key.new.nv) c.args.self.now c.cancel_key.new.self c.cancel_key.result
+    c.requires.size c.requires.profile c.requires.signing (omega arith) c.cancel_key.ensures.follows
+
+pub returns-clause-exact : goal.returns-clause-exact
+returns-clause-exact g c = cancel-exact c.args.ty c.args.id (g.F.Flash.device c.args.nv.now) (g.F.Flash.device c.cancel_key.new.nv) c.args.self.now c.cancel_key.new.self c.cancel_key.result
+    c.requires.size c.requires.profile c.requires.signing (omega arith) c.cancel_key.ensures.follows c.cancel_key.ensures.ok
+
+pub returns-clause-rest : goal.returns-clause-rest
+returns-clause-rest g c = cancel-rest c.args.ty c.args.id (g.F.Flash.device c.args.nv.now) (g.F.Flash.device c.cancel_key.new.nv) c.args.self.now c.cancel_key.new.self c.cancel_key.result
+    c.requires.size c.requires.profile c.requires.signing (omega arith) c.cancel_key.ensures.follows c.cancel_key.ensures.ok c.cancel_key.ensures.err
+
+pub returns-clause-count : goal.returns-clause-count
+returns-clause-count g c = cancel-count c.args.ty c.args.id (g.F.Flash.device c.args.nv.now) (g.F.Flash.device c.cancel_key.new.nv) c.args.self.now c.cancel_key.new.self c.cancel_key.result
+    c.requires.size c.requires.profile c.requires.signing (omega arith) c.cancel_key.ensures.follows
+
+pub returns-clause-loses : goal.returns-clause-loses
+returns-clause-loses g c = cancel-loses c.args.ty c.args.id (g.F.Flash.device c.args.nv.now) (g.F.Flash.device c.cancel_key.new.nv) c.args.self.now c.cancel_key.new.self c.cancel_key.result
     c.requires.size c.requires.profile c.requires.signing (omega arith) c.cancel_key.ensures.follows

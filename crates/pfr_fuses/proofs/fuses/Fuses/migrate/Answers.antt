@@ -1,4 +1,4 @@
-use Rattle.pfr_fuses.proofs.MigrationLemmas.{migrate-exact, migrate-ok, migrate-err, migrate-adds, migrate-grows, migrate-provision}
+use Rattle.pfr_fuses.proofs.MigrationLemmas.{migrate-exact, migrate-rest, migrate-ok, migrate-err, migrate-loses, migrate-count, migrate-adds, migrate-grows, migrate-provision}
 use Rattle.pfr_fuses.proofs.fuses.Fuses.migrate.Goals as goal
 
 pub returns-clause-exact : goal.returns-clause-exact
@@ -23,4 +23,16 @@ returns-clause-grows g c = migrate-grows (g.F.Flash.device c.args.nv.now) (g.F.F
 
 pub returns-clause-provision : goal.returns-clause-provision
 returns-clause-provision g c = migrate-provision (g.F.Flash.device c.args.nv.now) (g.F.Flash.device c.migrate_fuses.new.nv) c.args.self.now c.migrate_fuses.new.self c.migrate_fuses.result
+    c.requires.size c.requires.profile c.requires.stands c.migrate_fuses.ensures.follows c.migrate_fuses.ensures.rows c.migrate_fuses.ensures.bytes
+
+pub returns-clause-count : goal.returns-clause-count
+returns-clause-count g c = migrate-count (g.F.Flash.device c.args.nv.now) (g.F.Flash.device c.migrate_fuses.new.nv) c.args.self.now c.migrate_fuses.new.self c.migrate_fuses.result
+    c.requires.size c.requires.profile c.requires.stands c.migrate_fuses.ensures.follows c.migrate_fuses.ensures.rows c.migrate_fuses.ensures.bytes
+
+pub returns-clause-rest : goal.returns-clause-rest
+returns-clause-rest g c = migrate-rest (g.F.Flash.device c.args.nv.now) (g.F.Flash.device c.migrate_fuses.new.nv) c.args.self.now c.migrate_fuses.new.self c.migrate_fuses.result
+    c.requires.size c.requires.profile c.requires.stands c.migrate_fuses.ensures.follows c.migrate_fuses.ensures.rows c.migrate_fuses.ensures.bytes c.migrate_fuses.ensures.ok c.migrate_fuses.ensures.err
+
+pub returns-clause-loses : goal.returns-clause-loses
+returns-clause-loses g c = migrate-loses (g.F.Flash.device c.args.nv.now) (g.F.Flash.device c.migrate_fuses.new.nv) c.args.self.now c.migrate_fuses.new.self c.migrate_fuses.result
     c.requires.size c.requires.profile c.requires.stands c.migrate_fuses.ensures.follows c.migrate_fuses.ensures.rows c.migrate_fuses.ensures.bytes

@@ -1,4 +1,4 @@
-use Rattle.pfr_fuses.proofs.RaiseLemmas.{raise-floor, raise-ok, raise-err, raise-stays, raise-adds, raise-outside, raise-grows, raise-provision}
+use Rattle.pfr_fuses.proofs.RaiseLemmas.{raise-floor, raise-ok, raise-err, raise-exact, raise-rest, raise-stays, raise-loses, raise-count, raise-adds, raise-outside, raise-grows, raise-provision}
 use Rattle.pfr_fuses.proofs.fuses.Fuses.raise.Goals as goal
 
 pub returns-clause-floor : goal.returns-clause-floor
@@ -31,4 +31,20 @@ returns-clause-grows g c = raise-grows c.args.bank c.args.to (g.F.Flash.device c
 
 pub returns-clause-provision : goal.returns-clause-provision
 returns-clause-provision g c = raise-provision c.args.bank c.args.to (g.F.Flash.device c.args.nv.now) (g.F.Flash.device c.raise_fuse.new.nv) c.args.self.now c.raise_fuse.new.self c.raise_fuse.result
+    c.requires.size c.requires.profile c.requires.to c.raise_fuse.ensures.follows
+
+pub returns-clause-exact : goal.returns-clause-exact
+returns-clause-exact g c = raise-exact c.args.bank c.args.to (g.F.Flash.device c.args.nv.now) (g.F.Flash.device c.raise_fuse.new.nv) c.args.self.now c.raise_fuse.new.self c.raise_fuse.result
+    c.requires.size c.requires.profile c.requires.to c.raise_fuse.ensures.follows c.raise_fuse.ensures.ok
+
+pub returns-clause-rest : goal.returns-clause-rest
+returns-clause-rest g c = raise-rest c.args.bank c.args.to (g.F.Flash.device c.args.nv.now) (g.F.Flash.device c.raise_fuse.new.nv) c.args.self.now c.raise_fuse.new.self c.raise_fuse.result
+    c.requires.size c.requires.profile c.requires.to c.raise_fuse.ensures.follows c.raise_fuse.ensures.ok c.raise_fuse.ensures.err
+
+pub returns-clause-count : goal.returns-clause-count
+returns-clause-count g c = raise-count c.args.bank c.args.to (g.F.Flash.device c.args.nv.now) (g.F.Flash.device c.raise_fuse.new.nv) c.args.self.now c.raise_fuse.new.self c.raise_fuse.result
+    c.requires.size c.requires.profile c.requires.to c.raise_fuse.ensures.follows
+
+pub returns-clause-loses : goal.returns-clause-loses
+returns-clause-loses g c = raise-loses c.args.bank c.args.to (g.F.Flash.device c.args.nv.now) (g.F.Flash.device c.raise_fuse.new.nv) c.args.self.now c.raise_fuse.new.self c.raise_fuse.result
     c.requires.size c.requires.profile c.requires.to c.raise_fuse.ensures.follows
