@@ -20,6 +20,7 @@ use Rattle.pfr_manifest.specs.declared.manifest.Manifest.{Manifest}
 use Rattle.pfr_manifest.specs.declared.region.Region.{Region}
 use Rattle.pfr_auth.specs.Lasting.{SameAt, KeepsTrustedBytes, KeepsTrustedFuses}
 use Rattle.pfr_auth.specs.Leaving.{Leaves, LeavesImage, LeavesStore}
+use Rattle.pfr_auth.specs.Throughout.{IsTrustedBy, StaysTrusted, between, upto}
 use Rattle.pfr_auth.specs.Trusted.{IsTrusted}
 use Rattle.pfr_auth.proofs.LastingLaw.{trust_lasts}
 
@@ -57,43 +58,36 @@ left_store bank fuses nv ops same h = record {
 }
 
 -- ---- the law
-abbrev TrustedBy : List ℕ → List ℕ → Bank → Acceptance → Manifest → Type 0
-TrustedBy image nv bank accepts m = (u : IsTrusted image nv bank accepts) × (u.manifest ≡ m)
-
-pub trusted_after : (image nv : List ℕ) (bank : Bank) (accepts : Acceptance) (t : IsTrusted image nv bank accepts) (ops store : List Operation)
+trusted_after : (image nv : List ℕ) (bank : Bank) (accepts : Acceptance) (t : IsTrusted image nv bank accepts) (ops store : List Operation)
     → All (LeavesImage (layout_of t.fuses.provision bank) t.manifest) ops → All (LeavesStore t.fuses bank) store
-    → (u : IsTrusted (play image ops) (play nv store) bank accepts) × (u.manifest ≡ t.manifest)
+    → IsTrustedBy t.manifest (play image ops) (play nv store) bank accepts
 trusted_after image nv bank accepts t ops store left left_fuses =
     let found = fuses_of-ok nv t.fuses t.provisioned in
     trust_lasts image (play image ops) nv (play nv store) bank accepts t (left_image (layout_of t.fuses.provision bank) t.manifest image ops left)
     (left_store bank t.fuses nv store (ap (λ (f : FusesState). f.profile) found.2) left_fuses)
 
 -- the operations to a count, by those to an earlier one and those from it on
-take_between : (ops : List Operation) (begin n end : ℕ) → begin ≤ n → n ≤ end → take begin ops ++ take (n - begin) (drop begin (take end ops)) ≡ take n ops
+take_between : (ops : List Operation) (begin n end : ℕ) → begin ≤ n → n ≤ end → take begin ops ++ take (n - begin) (between begin end ops) ≡ take n ops
 take_between ops begin n end low high =
     let m : begin + (n - begin) ≡ n = omega arith in
     let first : take begin ops ≡ take begin (take n ops) = sym (take-take begin n ops low) in
-    let inner : take (n - begin) (drop begin (take end ops)) ≡ drop begin (take (begin + (n - begin)) (take end ops)) = sym (drop-take begin (n - begin) (take end ops)) in
+    let inner : take (n - begin) (between begin end ops) ≡ drop begin (take (begin + (n - begin)) (take end ops)) = sym (drop-take begin (n - begin) (take end ops)) in
     let then : drop begin (take (begin + (n - begin)) (take end ops)) ≡ drop begin (take n ops) =
     ap (λ (k : ℕ). drop begin (take k (take end ops))) m ∙ ap (λ (xs : List Operation). drop begin xs) (take-take n end ops high) in
-    ap (λ (xs : List Operation). xs ++ take (n - begin) (drop begin (take end ops))) first ∙ ap (λ (xs : List Operation). take begin (take n ops) ++ xs) (inner ∙ then)
+    ap (λ (xs : List Operation). xs ++ take (n - begin) (between begin end ops)) first ∙ ap (λ (xs : List Operation). take begin (take n ops) ++ xs) (inner ∙ then)
     ∙ take-append-drop begin (take n ops)
 
 play_between : (image : List ℕ) (ops : List Operation) (begin n end : ℕ) → begin ≤ n → n ≤ end
-    → play (play image (take begin ops)) (take (n - begin) (drop begin (take end ops))) ≡ play image (take n ops)
+    → play (upto image ops begin) (take (n - begin) (between begin end ops)) ≡ upto image ops n
 play_between image ops begin n end low high =
-    sym (play-append image (take begin ops) (take (n - begin) (drop begin (take end ops)))) ∙ ap (λ (xs : List Operation). play image xs) (take_between ops begin n end low high)
+    sym (play-append image (take begin ops) (take (n - begin) (between begin end ops))) ∙ ap (λ (xs : List Operation). play image xs) (take_between ops begin n end low high)
 
 -- The bank is trusted at each count of its operations and of the store's from those where it was, as long as each leaves the bytes.
-pub trusted_between : (image nv : List ℕ) (bank : Bank) (accepts : Acceptance) (ops store : List Operation) (begin end first last n k : ℕ)
-    → (t : IsTrusted (play image (take begin ops)) (play nv (take first store)) bank accepts)
-    → All (LeavesImage (layout_of t.fuses.provision bank) t.manifest) (drop begin (take end ops)) → All (LeavesStore t.fuses bank) (drop first (take last store))
-    → begin ≤ n → n ≤ end → first ≤ k → k ≤ last
-    → (u : IsTrusted (play image (take n ops)) (play nv (take k store)) bank accepts) × (u.manifest ≡ t.manifest)
-trusted_between image nv bank accepts ops store begin end first last n k t left left_fuses low high from upto =
-    let after = trusted_after (play image (take begin ops)) (play nv (take first store)) bank accepts t
-    (take (n - begin) (drop begin (take end ops))) (take (k - first) (drop first (take last store)))
-    (All-take (LeavesImage (layout_of t.fuses.provision bank) t.manifest) (n - begin) (drop begin (take end ops)) left)
-    (All-take (LeavesStore t.fuses bank) (k - first) (drop first (take last store)) left_fuses) in
-    subst (λ (later : List ℕ). TrustedBy (play image (take n ops)) later bank accepts t.manifest) (play_between nv store first k last from upto)
-    (subst (λ (later : List ℕ). TrustedBy later (play (play nv (take first store)) (take (k - first) (drop first (take last store)))) bank accepts t.manifest) (play_between image ops begin n end low high) after)
+pub trusted_between : StaysTrusted
+trusted_between accepts bank image nv ops store begin end first last t left left_fuses b n low high from upon =
+    let after = trusted_after (upto image ops begin) (upto nv store first) bank accepts t
+    (take (b - begin) (between begin end ops)) (take (n - first) (between first last store))
+    (All-take (LeavesImage (layout_of t.fuses.provision bank) t.manifest) (b - begin) (between begin end ops) left)
+    (All-take (LeavesStore t.fuses bank) (n - first) (between first last store) left_fuses) in
+    subst (λ (later : List ℕ). IsTrustedBy t.manifest (upto image ops b) later bank accepts) (play_between nv store first n last from upon)
+    (subst (λ (later : List ℕ). IsTrustedBy t.manifest later (play (upto nv store first) (take (n - first) (between first last store))) bank accepts) (play_between image ops begin b end low high) after)

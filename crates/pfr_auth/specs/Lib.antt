@@ -6,3 +6,4 @@ pub mod Trusted
 pub mod Areas
 pub mod Lasting
 pub mod Leaving
+pub mod Throughout

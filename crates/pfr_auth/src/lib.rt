@@ -9,6 +9,7 @@ ghost use Rattle.pfr_fuses.specs.RootSlot.{layout_of};
 ghost use Rattle.pfr_auth.specs.Answer.{Answers};
 ghost use Rattle.pfr_auth.specs.Judge.{judge_active};
 ghost use Rattle.pfr_auth.specs.Lasting.{KeepsTrustedBytes, KeepsTrustedFuses};
+ghost use Rattle.pfr_auth.specs.Throughout.{IsTrustedBy, StaysTrusted};
 ghost use Rattle.pfr_auth.specs.Trusted.{IsTrusted, StandFor};
 
 mod areas;
@@ -39,11 +40,13 @@ pub fn active<F: Flash, E: Engine>(
     requires valid { IsValidLayout layout.now (size_of (F.device flash.old)) }
     // What is found to be trusted is, by this manifest, with each store that the fuses stand for.
     ensures ok { let image = now (F.device flash.old) in
-        IfOk result (λ m. (nv : List ℕ) → StandFor nv fuses.now bank → (t : IsTrusted image nv bank (E.accepts engine.now)) × (t.manifest ≡ m)) }
+        IfOk result (λ m. (nv : List ℕ) → StandFor nv fuses.now bank → IsTrustedBy m image nv bank (E.accepts engine.now)) }
     // It stays trusted while the bytes stay that its trust rests on.
     ensures lasts { let image = now (F.device flash.old) in
         IfOk result (λ m. (nv later after : List ℕ) → StandFor nv fuses.now bank → KeepsTrustedBytes layout.now m image later → KeepsTrustedFuses bank nv after →
-        (t : IsTrusted later after bank (E.accepts engine.now)) × (t.manifest ≡ m)) }
+        IsTrustedBy m later after bank (E.accepts engine.now)) }
+    // So a trusted bank is trusted at every count of operations that touch none of these bytes.
+    ensures spans { StaysTrusted }
     // What is trusted is found to be, unless the device fails.
     ensures only { let image = now (F.device flash.old) in
         (nv : List ℕ) → StandFor nv fuses.now bank → (t : IsTrusted image nv bank (E.accepts engine.now)) →

@@ -13,6 +13,7 @@ use Rattle.pfr_auth.specs.Judge.{judge_active}
 use Rattle.pfr_auth.specs.Trusted.{IsSigned, IsTrusted, StandFor}
 use Rattle.pfr_auth.specs.declared.fail.ActiveFail.{ActiveFail}
 use Rattle.pfr_auth.proofs.LastingLaw.{answer_lasts}
+use Rattle.pfr_auth.proofs.LeavingLaw.{trusted_between}
 use Rattle.pfr_auth.proofs.TrustedLaw.{judged_trusted_by, trusted_found}
 use Rattle.pfr_auth.proofs.active.Goals as goal
 
@@ -34,3 +35,6 @@ returns-clause-only g c = λ nv p t. rw (trusted_found _ nv _ _ _ p t) at c.judg
 
 pub returns-clause-lasts : goal.returns-clause-lasts
 returns-clause-lasts g c = answer_lasts (now (g.F.Flash.device c.args.flash.now)) c.args.bank _ c.args.fuses.now c.args.layout.now c.judged.result c.requires.layout (returns-clause-ok g c)
+
+pub returns-clause-spans : goal.returns-clause-spans
+returns-clause-spans g c = trusted_between
