@@ -10,3 +10,4 @@ pub mod SpellingLaws
 pub mod ReadingLaw
 pub mod FindingLaw
 pub mod HashLemmas
+pub mod SameLemmas

@@ -1,5 +1,5 @@
 // A bank's manifest.
-ghost use Rattle.std.specs.Prelude.{◌≡◌, ◌+◌, ◌≤◌, length, Ok, IfOk, OnOk, IfErr};
+ghost use Rattle.std.specs.Prelude.{◌≡◌, ◌+◌, ◌≤◌, length, Ok, IfOk, OnOk, IfErr, IsTrue, ◌↔◌, ℕ};
 ghost use Rattle.pfr_flash.specs.Bytes.{bytes_at};
 ghost use Rattle.pfr_flash.specs.FlashState.{now, size_of};
 ghost use Rattle.pfr_flash.specs.Layout.{IsValidLayout};
@@ -8,6 +8,8 @@ ghost use Rattle.pfr_manifest.specs.Answer.{IsFound, Answers};
 ghost use Rattle.pfr_manifest.specs.Fields.{AreBytes};
 ghost use Rattle.pfr_manifest.specs.Judge.{HasNoEntries, header_at, judge_header, judge_manifest};
 ghost use Rattle.pfr_manifest.specs.Manifest.{IsManifestOf};
+ghost use Rattle.pfr_flash.specs.declared.layout.Layout.{Layout};
+ghost use Rattle.pfr_manifest.specs.Spelling.{manifest_bytes};
 ghost use Rattle.pfr_manifest.specs.declared.manifest.Manifest.{Manifest};
 
 use crate::fail::ManifestFail;
@@ -21,7 +23,7 @@ use pfr_flash::{Flash, Layout};
 pub const HEADER: usize = 32;
 
 /// A bank's manifest: its regions, and its SMBus rules. `length` is that of its text.
-#[derive(Drop)]
+#[derive(PartialEq, Drop)]
 pub struct Manifest {
     pub svn: u8,
     pub bkc: u8,
@@ -94,5 +96,16 @@ impl Manifest {
         ensures reads { OnlyReads (F.device flash.old) (F.device flash.new) }
     {
         judged(flash, place, size, layout)
+    }
+
+    /// Whether the other one is the same manifest.
+    #[tactic(auto, using(crate::proofs::SameLemmas::same_manifest))]
+    pub fn is_same(&self, other: &Manifest) -> bool
+        ensures same { IsTrue result ↔ self.now ≡ other.now }
+        // Two manifests of a bank are the same exactly where the same bytes spell them.
+        ensures texts { (layout : Layout) (size : ℕ) → IsManifestOf (manifest_bytes self.now) self.now layout size → IsManifestOf (manifest_bytes other.now) other.now layout size →
+            (IsTrue result ↔ manifest_bytes self.now ≡ manifest_bytes other.now) }
+    {
+        self == other
     }
 }

@@ -1,4 +1,6 @@
 // The regions of a manifest.
+ghost use Rattle.std.specs.Cmp.Lexicographic.{lists_per, pointwise};
+ghost use Rattle.pfr_manifest.specs.contracts.region.RegionPartialEq.TheImpl.Laws.{laws-law};
 ghost use Rattle.std.specs.Prelude.{◌≡◌, ◌<◌, ◌≤◌, ◌==◌, [], ◌∷◌, ◌++◌, length, slice_index_or};
 ghost use Rattle.pfr_manifest.specs.Regions.{last_start, last_end};
 
@@ -19,6 +21,16 @@ impl Model for Regions {
     ghost Value = { List Region };
 
     ghost view = { λ regions. regions.items.items };
+}
+
+impl PartialEq for Regions {
+    ghost eq = { pointwise ⟦<Region as PartialEq>⟧.eq };
+
+    ghost laws = { lists_per laws-law };
+
+    fn eq(&self, other: &Regions) -> bool {
+        self.items == other.items
+    }
 }
 
 impl Regions {

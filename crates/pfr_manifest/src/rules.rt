@@ -1,4 +1,6 @@
 // The SMBus rules of a manifest.
+ghost use Rattle.std.specs.Cmp.Lexicographic.{lists_per, pointwise};
+ghost use Rattle.pfr_manifest.specs.contracts.rule.RulePartialEq.TheImpl.Laws.{laws-law};
 ghost use Rattle.std.specs.Prelude.{◌≡◌, ◌<◌, ◌≤◌, ◌==◌, [], ◌∷◌, ◌++◌, length, slice_index_or};
 
 use crate::rule::Rule;
@@ -18,6 +20,16 @@ impl Model for Rules {
     ghost Value = { List Rule };
 
     ghost view = { λ rules. rules.items.items };
+}
+
+impl PartialEq for Rules {
+    ghost eq = { pointwise ⟦<Rule as PartialEq>⟧.eq };
+
+    ghost laws = { lists_per laws-law };
+
+    fn eq(&self, other: &Rules) -> bool {
+        self.items == other.items
+    }
 }
 
 impl Rules {
