@@ -1,6 +1,8 @@
 // Reads a script from its text.
-ghost use Rattle.std.specs.Prelude.{◌≡◌, ◌<◌, ◌≤◌, length};
-ghost use Rattle.pfr_script.specs.Line.{IsNumbered};
+ghost use Rattle.std.specs.Prelude.{◌≡◌, ◌↔◌, ℕ, ◌<◌, ◌≤◌, List, length, Ok};
+ghost use Rattle.pfr_script.specs.Grammar.{Says};
+ghost use Rattle.pfr_script.specs.Line.{IsNumbered, judge_first};
+ghost use Rattle.pfr_script.specs.declared.line.Line.{Line};
 ghost use Rattle.pfr_script.specs.Reading.{Answers, Leaves, added, at_line, is_no_item, judge_line, judge_script};
 
 use crate::line::Line;
@@ -68,20 +70,9 @@ fn read_item(script: &mut Script, number: u32, text: &[u8]) -> Result<(), Script
     add_line(script, number, line)
 }
 
-/// Reads a script: one line is one item. An empty line and one that begins with `#` are none, and
-/// the last line may lack its newline.
-///
-/// A line is `power`, `off`, `provision <hex>` with a slot's 72 bytes before its gate,
-/// `cut <device> <n> <tear>`, `fault <device> <n> <tear>` or `readfault <device> <n>`, with single
-/// spaces between its words. A device is `bmc`, `pch` or `nv`, `n` is decimal from 1 to
-/// 4,294,967,295 without leading zeros, and a tear is `-` or hex of at most 4,096 bytes. Hex has
-/// digits of either case.
-///
-/// # Errors
-///
-/// The first thing that is wrong with the first bad line, or want of memory.
+// Reads a script line by line.
 #[tactic(auto, unfolding(crate::specs::Reading::judge_script))]
-pub fn parse(alloc: Global, text: &[u8]) -> Result<Script, ScriptFail>
+fn read_lines(alloc: Global, text: &[u8]) -> Result<Script, ScriptFail>
     requires { length text.now ≤ 4294967294 }
     ensures exact { Answers result (judge_script text.now) }
 {
@@ -95,4 +86,25 @@ pub fn parse(alloc: Global, text: &[u8]) -> Result<Script, ScriptFail>
     }
     read_item(&mut script, line, rest)?;
     Ok(script)
+}
+
+/// Reads a script: one line is one item. An empty line and one that begins with `#` are none, and
+/// the last line may lack its newline.
+///
+/// A line is `power`, `off`, `provision <hex>` with a slot's 72 bytes before its gate,
+/// `cut <device> <n> <tear>`, `fault <device> <n> <tear>` or `readfault <device> <n>`, with single
+/// spaces between its words. A device is `bmc`, `pch` or `nv`, `n` is decimal from 1 to
+/// 4,294,967,295 without leading zeros, and a tear is `-` or hex of at most 4,096 bytes. Hex has
+/// digits of either case.
+///
+/// # Errors
+///
+/// The first thing that is wrong with the first bad line, or want of memory.
+pub fn parse(alloc: Global, text: &[u8]) -> Result<Script, ScriptFail>
+    requires { length text.now ≤ 4294967294 }
+    ensures exact { Answers result (judge_script text.now) }
+    // The judgement takes the words of a line for just what they spell.
+    ensures spelled { (words : List (List ℕ)) (line : Line) → (judge_first words ≡ Ok line) ↔ Says line words }
+{
+    read_lines(alloc, text)
 }

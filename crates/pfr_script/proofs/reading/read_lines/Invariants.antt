@@ -2,7 +2,7 @@ use Rattle.std.proofs.Common.{◌≡◌, ℕ, List, ◌+◌, ◌≤◌, length}
 use Rattle.pfr_engine.specs.Rows.{lines_in}
 use Rattle.pfr_script.specs.ScriptState.{ScriptState}
 use Rattle.pfr_script.specs.Reading.{judge_lines, judge_script}
-use Rattle.pfr_script.proofs.reading.parse.Given as goal
+use Rattle.pfr_script.proofs.reading.read_lines.Given as goal
 
 -- what was read so far, with what is still to be read, is the whole
 pub record Read (script : ScriptState) (line : ℕ) (rest text : List ℕ) : Type 0 where
