@@ -1,1 +1,3 @@
 pub mod NotedLemmas
+mod CauseLemmas
+mod VerdictLemmas

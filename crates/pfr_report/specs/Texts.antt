@@ -5,9 +5,9 @@ use Rattle.pfr_flash.specs.declared.names.Bank.{Bank}
 use Rattle.pfr_flash.specs.declared.names.Bank.TheVariants as bank
 use Rattle.pfr_flash.specs.declared.names.Device.{Device}
 use Rattle.pfr_flash.specs.declared.names.Device.TheVariants as device
-use Rattle.pfr_report.specs.Words.{rule_word, active_text, IsFound}
+use Rattle.pfr_report.specs.Words.{rule_word, active_text, capsule_text, IsFound, AreFound}
 use Rattle.pfr_report.specs.declared.note.LockWhy.{LockWhy}
-use Rattle.pfr_report.specs.declared.note.LockWhy.TheVariants.{Unprovisioned, SlotsSpent, Layout, FlashFault, StoreFault, NotRestored}
+use Rattle.pfr_report.specs.declared.note.LockWhy.TheVariants.{Unprovisioned, SlotsSpent, Layout, FlashFault, StoreFault, NotRestored, NoGoodImage}
 use Rattle.pfr_report.specs.declared.note.ProvisionWhy.{ProvisionWhy}
 use Rattle.pfr_report.specs.declared.note.ProvisionWhy.TheVariants as provision
 use Rattle.pfr_report.specs.declared.note.What.{What}
@@ -25,6 +25,12 @@ lock_word (Layout rule) = codes "layout " ++ rule_word rule
 lock_word FlashFault = codes "flash-fault"
 lock_word StoreFault = codes "store-fault"
 lock_word NotRestored = codes "not-restored"
+lock_word (NoGoodImage active recovery) = codes "no-good-image " ++ (active_text active ++ (codes " " ++ capsule_text recovery))
+
+-- a lock without causes in the bank's images
+abbrev pub HasWord : LockWhy → Type 0
+HasWord (NoGoodImage active recovery) = ⊥
+HasWord why = Unit {0}
 
 abbrev pub device_word : Device → List ℕ
 device_word device.Bmc = codes "bmc"
@@ -63,6 +69,7 @@ report notes = flat_map note_text notes
 -- a note's cause is no failed device
 abbrev pub HasText : What → Type 0
 HasText (Untrusted bank why) = IsFound why
+HasText (Locked bank (NoGoodImage active recovery) counts) = AreFound active recovery
 HasText what = Unit {0}
 
 abbrev pub AllText : List Note → Type 0

@@ -6,6 +6,9 @@ use Rattle.pfr_chain.specs.declared.fail.ChainFail.{ChainFail}
 use Rattle.pfr_chain.specs.declared.fail.ChainFail.TheVariants as chain
 use Rattle.pfr_manifest.specs.declared.fail.ManifestFail.{ManifestFail}
 use Rattle.pfr_manifest.specs.declared.fail.ManifestFail.TheVariants as manifest
+use Rattle.pfr_capsule.specs.Answer as capsules
+use Rattle.pfr_capsule.specs.declared.fail.CapsuleFail.{CapsuleFail}
+use Rattle.pfr_capsule.specs.declared.fail.CapsuleFail.TheVariants as capsule
 use Rattle.pfr_auth.specs.Answer.{failure_of}
 use Rattle.pfr_auth.specs.declared.fail.ActiveFail.{ActiveFail}
 use Rattle.pfr_auth.specs.declared.fail.ActiveFail.TheVariants as active
@@ -62,18 +65,78 @@ manifest_number (manifest.Order k) = Some k
 manifest_number (manifest.Overlap k) = Some k
 manifest_number cause = None
 
+-- the number behind a word, with a colon before it
+abbrev pub colon : Option ℕ → List ℕ
+colon None = []
+colon (Some number) = codes ":"
+
+abbrev pub digits : Option ℕ → List ℕ
+digits None = []
+digits (Some number) = decimal number
+
 abbrev pub numbered : List ℕ → Option ℕ → List ℕ
-numbered word None = word
-numbered word (Some number) = word ++ (codes ":" ++ decimal number)
+numbered word number = word ++ (colon number ++ digits number)
+
+-- what is before the word of an active image's cause, its word, and its number
+abbrev pub active_kind : ActiveFail → List ℕ
+active_kind (active.Chain cause) = codes "chain:"
+active_kind (active.Manifest cause) = codes "manifest:"
+active_kind cause = []
+
+abbrev pub active_word : ActiveFail → List ℕ
+active_word (active.Chain cause) = chain_word cause
+active_word (active.Manifest cause) = manifest_word cause
+active_word active.SvnFloor = codes "svn-floor"
+active_word (active.RegionHash k) = codes "region-hash"
+active_word (active.Flash f) = []
+
+abbrev pub active_number : ActiveFail → Option ℕ
+active_number (active.Manifest cause) = manifest_number cause
+active_number (active.RegionHash k) = Some k
+active_number cause = None
 
 -- the text of an active image's cause
 abbrev pub active_text : ActiveFail → List ℕ
-active_text (active.Chain cause) = codes "chain:" ++ chain_word cause
-active_text (active.Manifest cause) = codes "manifest:" ++ numbered (manifest_word cause) (manifest_number cause)
-active_text active.SvnFloor = codes "svn-floor"
-active_text (active.RegionHash k) = codes "region-hash:" ++ decimal k
-active_text (active.Flash f) = []
+active_text cause = active_kind cause ++ numbered (active_word cause) (active_number cause)
+
+-- the same of a capsule's cause
+abbrev pub capsule_kind : CapsuleFail → List ℕ
+capsule_kind (capsule.Chain cause) = codes "chain:"
+capsule_kind (capsule.ManifestChain cause) = codes "manifest-chain:"
+capsule_kind (capsule.Manifest cause) = codes "manifest:"
+capsule_kind cause = []
+
+abbrev pub capsule_word : CapsuleFail → List ℕ
+capsule_word (capsule.Chain cause) = chain_word cause
+capsule_word (capsule.ManifestChain cause) = chain_word cause
+capsule_word (capsule.Manifest cause) = manifest_word cause
+capsule_word capsule.SvnFloor = codes "svn-floor"
+capsule_word capsule.PbcHeader = codes "pbc-header"
+capsule_word capsule.MapBits = codes "map-bits"
+capsule_word capsule.BodyLength = codes "body-length"
+capsule_word (capsule.CopyNotErase page) = codes "copy-not-erase"
+capsule_word (capsule.PageOutside page) = codes "page-outside"
+capsule_word capsule.PayloadLength = codes "payload-length"
+capsule_word (capsule.StaticNotCovered k) = codes "static-not-covered"
+capsule_word (capsule.Incoherent k) = codes "incoherent"
+capsule_word (capsule.Flash f) = []
+
+abbrev pub capsule_number : CapsuleFail → Option ℕ
+capsule_number (capsule.Manifest cause) = manifest_number cause
+capsule_number (capsule.CopyNotErase page) = Some page
+capsule_number (capsule.PageOutside page) = Some page
+capsule_number (capsule.StaticNotCovered k) = Some k
+capsule_number (capsule.Incoherent k) = Some k
+capsule_number cause = None
+
+abbrev pub capsule_text : CapsuleFail → List ℕ
+capsule_text cause = capsule_kind cause ++ numbered (capsule_word cause) (capsule_number cause)
 
 -- it is found in the bytes, and is no failure of the device
 abbrev pub IsFound : ActiveFail → Type 0
 IsFound cause = failure_of cause ≡ None
+
+-- both causes of a bank without a good image are such
+pub record AreFound (active : ActiveFail) (recovery : CapsuleFail) : Type 0 where
+  pub first : IsFound active
+  pub second : capsules.IsFound recovery

@@ -3,7 +3,7 @@ ghost use Rattle.std.specs.Prelude.{◌≡◌, None, Some};
 ghost use Rattle.pfr_report.specs.Words.{chain_word, manifest_number, manifest_word, rule_word};
 ghost use Rattle.pfr_chain.specs.Answer.{chain_failure};
 ghost use Rattle.pfr_manifest.specs.Answer.{manifest_failure};
-ghost use Rattle.pfr_report.specs.Texts.{bank_word, lock_word, lost_word, provision_word};
+ghost use Rattle.pfr_report.specs.Texts.{bank_word, lock_word, lost_word, provision_word, HasWord};
 
 use crate::note::{LockWhy, ProvisionWhy};
 use pfr_chain::ChainFail;
@@ -19,7 +19,20 @@ pub fn bank_word(bank: Bank) -> &'static [u8]
     }
 }
 
+/// The word of a rule of layouts.
+pub fn rule_word(rule: LayoutRule) -> &'static [u8]
+    ensures { result.now ≡ rule_word rule }
+{
+    match rule {
+        LayoutRule::Align => b"align",
+        LayoutRule::Outside => b"outside",
+        LayoutRule::Overlap => b"overlap",
+    }
+}
+
+/// The word of a lock that has no causes in the bank's images.
 pub fn lock_word(why: LockWhy) -> &'static [u8]
+    requires { HasWord why }
     ensures { result.now ≡ lock_word why }
 {
     match why {
@@ -31,6 +44,7 @@ pub fn lock_word(why: LockWhy) -> &'static [u8]
         LockWhy::FlashFault => b"flash-fault",
         LockWhy::StoreFault => b"store-fault",
         LockWhy::NotRestored => b"not-restored",
+        LockWhy::NoGoodImage(_, _) => unreachable!(),
     }
 }
 

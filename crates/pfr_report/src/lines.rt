@@ -1,100 +1,90 @@
 // The line of a note.
 ghost use Rattle.std.specs.Prelude.{None, ◌≡◌, ◌++◌, ℕ, codes, decimal};
 ghost use Rattle.pfr_shelf.specs.Pieces.{Writes};
-ghost use Rattle.pfr_report.specs.Words.{active_text, manifest_number, manifest_word, numbered, IsFound};
-ghost use Rattle.pfr_manifest.specs.Answer.{manifest_failure};
-ghost use Rattle.pfr_report.specs.Texts.{bank_word, note_text, HasText};
+ghost use Rattle.pfr_report.specs.Words.{active_text, AreFound, IsFound};
+ghost use Rattle.pfr_report.specs.Texts.{bank_word, lock_word, note_text, HasText};
+ghost use Rattle.pfr_report.specs.declared.note.LockWhy.TheVariants.{NoGoodImage};
 
-use crate::cause_words::{
-    bank_word, chain_word, lock_word, lost_word, manifest_number, manifest_word, provision_word,
-};
-use crate::note::{Note, What};
+use crate::cause::{active_cause, capsule_cause};
+use crate::cause_words::{bank_word, lock_word, lost_word, provision_word};
+use crate::note::{LockWhy, Note, What};
 use itoa::Buffer;
 use pfr_auth::ActiveFail;
+use pfr_capsule::CapsuleFail;
 use pfr_flash::Bank;
-use pfr_manifest::ManifestFail;
 use pfr_shelf::{Sink, SinkFail, write_pieces};
-
-// The line of a bank whose active image has no manifest.
-fn write_bad_manifest<K: Sink>(
-    item: u32,
-    bank: Bank,
-    cause: ManifestFail,
-    out: &mut K,
-) -> Result<(), SinkFail>
-    requires { manifest_failure cause ≡ None }
-    ensures { Writes K.tells K.written K.faults out.old out.new
-        (decimal item ++ (codes " " ++ (bank_word bank ++ (codes " untrusted manifest:" ++ (numbered (manifest_word cause) (manifest_number cause) ++ codes "\n"))))) result }
-{
-    let mut item_buffer = Buffer::new();
-    let item = item_buffer.format(item).as_bytes();
-    let bank = bank_word(bank);
-    let word = manifest_word(cause);
-    match manifest_number(cause) {
-        None => write_pieces(
-            out,
-            &[item, b" ", bank, b" untrusted manifest:", word, b"\n"],
-        ),
-        Some(number) => {
-            let mut buffer = Buffer::new();
-            let number = buffer.format(number).as_bytes();
-            write_pieces(
-                out,
-                &[
-                    item,
-                    b" ",
-                    bank,
-                    b" untrusted manifest:",
-                    word,
-                    b":",
-                    number,
-                    b"\n",
-                ],
-            )
-        }
-    }
-}
 
 // The line of a bank whose active image isn't trusted.
 fn write_untrusted<K: Sink>(
-    item_number: u32,
-    named: Bank,
+    item: u32,
+    bank: Bank,
     why: ActiveFail,
     out: &mut K,
 ) -> Result<(), SinkFail>
     requires { IsFound why }
     ensures { Writes K.tells K.written K.faults out.old out.new
-        (decimal item_number ++ (codes " " ++ ((bank_word named ++ (codes " untrusted " ++ active_text why)) ++ codes "\n"))) result }
+        (decimal item ++ (codes " " ++ ((bank_word bank ++ (codes " untrusted " ++ active_text why)) ++ codes "\n"))) result }
 {
     let mut item_buffer = Buffer::new();
-    let item = item_buffer.format(item_number).as_bytes();
-    let bank = bank_word(named);
+    let item = item_buffer.format(item).as_bytes();
+    let cause = active_cause(why);
     let mut buffer = Buffer::new();
-    match why {
-        ActiveFail::Chain(cause) => write_pieces(
-            out,
-            &[
-                item,
-                b" ",
-                bank,
-                b" untrusted chain:",
-                chain_word(cause),
-                b"\n",
-            ],
-        ),
-        ActiveFail::Manifest(cause) => write_bad_manifest(item_number, named, cause, out),
-        ActiveFail::SvnFloor => {
-            write_pieces(out, &[item, b" ", bank, b" untrusted svn-floor\n"])
-        }
-        ActiveFail::RegionHash(region) => {
-            let region = buffer.format(region).as_bytes();
-            write_pieces(
-                out,
-                &[item, b" ", bank, b" untrusted region-hash:", region, b"\n"],
-            )
-        }
-        ActiveFail::Flash(_) => unreachable!(),
-    }
+    let digits = cause.digits(&mut buffer);
+    write_pieces(
+        out,
+        &[
+            item,
+            b" ",
+            bank_word(bank),
+            b" untrusted ",
+            cause.kind,
+            cause.word,
+            cause.colon(),
+            digits,
+            b"\n",
+        ],
+    )
+}
+
+// The line of a bank that is locked since neither image of it is good.
+fn write_no_good_image<K: Sink>(
+    item: u32,
+    bank: Bank,
+    active: ActiveFail,
+    recovery: CapsuleFail,
+    out: &mut K,
+) -> Result<(), SinkFail>
+    requires { AreFound active recovery }
+    ensures { Writes K.tells K.written K.faults out.old out.new
+        (decimal item ++ (codes " " ++ ((bank_word bank ++ (codes " locked " ++ lock_word (NoGoodImage active recovery))) ++ codes "\n"))) result }
+{
+    let mut item_buffer = Buffer::new();
+    let item = item_buffer.format(item).as_bytes();
+    let active = active_cause(active);
+    let mut active_buffer = Buffer::new();
+    let active_digits = active.digits(&mut active_buffer);
+    let recovery = capsule_cause(recovery);
+    let mut recovery_buffer = Buffer::new();
+    let recovery_digits = recovery.digits(&mut recovery_buffer);
+    write_pieces(
+        out,
+        &[
+            item,
+            b" ",
+            bank_word(bank),
+            b" locked no-good-image ",
+            active.kind,
+            active.word,
+            active.colon(),
+            active_digits,
+            b" ",
+            recovery.kind,
+            recovery.word,
+            recovery.colon(),
+            recovery_digits,
+            b"\n",
+        ],
+    )
 }
 
 /// Writes the line of a note. At `Err` a prefix of it was written.
@@ -116,6 +106,11 @@ pub fn write_note<K: Sink>(note: &Note, out: &mut K) -> Result<(), SinkFail>
                 &[item, b" ", bank_word(bank), b" released svn ", svn, b"\n"],
             )
         }
+        What::Locked {
+            bank,
+            why: LockWhy::NoGoodImage(active, recovery),
+            ..
+        } => write_no_good_image(note.item, bank, active, recovery, out),
         What::Locked { bank, why, .. } => write_pieces(
             out,
             &[

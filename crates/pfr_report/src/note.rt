@@ -1,6 +1,7 @@
 // What the platform notes.
 
 use pfr_auth::ActiveFail;
+use pfr_capsule::CapsuleFail;
 use pfr_flash::{Bank, Counts, Device, LayoutRule};
 
 /// Why a bank is locked.
@@ -16,8 +17,10 @@ pub enum LockWhy {
     FlashFault,
     /// The store failed while the bank was in work.
     StoreFault,
-    /// The active image isn't trusted, and was not restored.
+    /// The active image isn't trusted, and was not restored from the good image in the recovery area.
     NotRestored,
+    /// The active image isn't trusted, and what is in the recovery area is no good image either.
+    NoGoodImage(ActiveFail, CapsuleFail),
 }
 
 /// Why a provision is refused.
