@@ -4,7 +4,7 @@ use Rattle.pfr_flash.specs.declared.flash.FlashFail.TheVariants.{Fault, Lost}
 use Rattle.pfr_flash.specs.declared.names.Device.{Device}
 use Rattle.pfr_calm.specs.World.{World, story_of}
 use Rattle.pfr_calm.specs.Goes.{Ran, Stopped}
-use Rattle.pfr_calm.specs.Course.{Stretch, Shown, Crosses, Faults, LosesPower, CrossesOrFaults, Ends, goes_on_if, Steps, Halts, IsEarly, lost}
+use Rattle.pfr_calm.specs.Course.{Stretch, Shown, Crosses, Faults, LosesPower, CrossesOrFaults, Ends, goes_on_if, Steps, Halts, lost}
 use Rattle.pfr_calm.proofs.Sequence.{Ran-refl}
 
 -- nothing is left
@@ -42,11 +42,12 @@ pub Crosses-ran : (s : Stretch) (old new : World) → Ran (s.plan (story_of old)
 Crosses-ran s old new p shown = record { ran = p; shown = shown }
 
 pub Faults-stopped : (s : Stretch) (which : Device) (old mid new : World) → s.calls which ≡ true
-    → Stopped (s.plan (story_of old)) which Fault old mid → IsEarly s.checks old mid → Ran (s.on_fault which) mid new → Faults s old new
+    → Stopped (s.plan (story_of old)) which Fault old mid → s.stops (story_of old) (story_of mid)
+    → Ran (s.on_fault which) mid new → Faults s old new
 Faults-stopped s which old mid new c p e q = record { which = which; called = c; at = mid; stopped = p; early = e; noted = q }
 
 pub Halts-first : (s : Stretch) (ss : List Stretch) (which : Device) (old new : World) → s.calls which ≡ true
-    → Stopped (s.plan (story_of old)) which Lost old new → IsEarly s.checks old new → Halts (s ∷ ss) which old new
+    → Stopped (s.plan (story_of old)) which Lost old new → s.stops (story_of old) (story_of new) → Halts (s ∷ ss) which old new
 Halts-first s ss which old new c p e = inl (record { called = c; stopped = p; early = e })
 
 pub Halts-next : (s : Stretch) (ss : List Stretch) (which : Device) (old mid new : World) → s.goes_on ≡ true

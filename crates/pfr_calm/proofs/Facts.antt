@@ -1,26 +1,26 @@
 -- What is known of a note where it is made, and of an operation where it is done.
-use Rattle.std.proofs.Common.{◌≡◌, ◌∙◌, refl, sym, ap, subst, ℕ, ◌+◌, ◌<◌, ◌≤◌, arith, List, [], ◌∷◌, ◌++◌, length, length-append, Some, None, ◌⊎◌, inl, inr}
-use Rattle.std.proofs.lemmas.List.{append-nil}
+use Rattle.std.proofs.Common.{◌≡◌, refl, sym, subst, ℕ, ◌<◌, ◌≤◌, arith, List, [], ◌∷◌, Option, Some, None}
 use Rattle.pfr_flash.specs.Operation.{Operation}
 use Rattle.pfr_flash.specs.FlashState.{Rose}
 use Rattle.pfr_flash.specs.declared.names.Bank.{Bank}
-use Rattle.pfr_flash.specs.declared.names.Counts.{Counts}
 use Rattle.pfr_flash.specs.declared.names.Device.{Device}
 use Rattle.pfr_flash.specs.declared.names.Device.TheVariants as device
 use Rattle.pfr_engine.specs.Acceptance.{Acceptance}
+use Rattle.pfr_capsule.specs.declared.fail.CapsuleFail.{CapsuleFail}
 use Rattle.pfr_report.specs.declared.note.LockWhy.{LockWhy}
 use Rattle.pfr_report.specs.declared.note.LockWhy.TheVariants as why
 use Rattle.pfr_report.specs.declared.note.Note.{Note}
 use Rattle.pfr_report.specs.declared.note.What.{What}
 use Rattle.pfr_report.specs.declared.note.What.TheVariants as what
-use Rattle.pfr_calm.specs.Story.{Story, Move, Says, Does, after, noted, operated, counts_of, device_of, image_at, all_do, IsCut}
+use Rattle.pfr_calm.specs.Story.{Story, Move, Says, Does, after, noted, operated, counts_of, device_of, image_at, all_do}
 use Rattle.pfr_calm.specs.World.{World, state_at}
-use Rattle.pfr_calm.specs.Plans.{concluded}
+use Rattle.pfr_calm.specs.Plans.{concluded, distrusted}
 use Rattle.pfr_calm.specs.Promises.{IsDue, IsAgainst, IsTrustedWith}
+use Rattle.pfr_calm.specs.Authentication.{authentication_of}
 use Rattle.pfr_calm.specs.declared.authentication.Authentication.{Authentication}
 use Rattle.pfr_calm.specs.declared.authentication.Authentication.TheVariants.{Unprovisioned, SlotsSpent, BadLayout, Untrusted, Trusted}
 use Rattle.pfr_calm.proofs.Traces.{AllGood, KnowsNoOperation, image_noted}
-use Rattle.pfr_calm.proofs.Findings.{Found, unset, spent, misplaced, distrusted, trusted, not_trusted}
+use Rattle.pfr_calm.proofs.Findings.{Found, unset, spent, misplaced, distrusted as called_untrusted, trusted, RecoveryFound, against_of, not_trusted}
 
 -- What is looked at: the worlds at the two ends, the engine, what is known of the store where a bank is released, of
 -- the notes where an operation is done, and where the power is switched off.
@@ -65,14 +65,32 @@ ops_good s which (op ∷ ops) story w = (w, ops_good s which ops (operated which
 
 -- ---- a bank is released or locked by what was found
 module _ (s : Setting) (b : Bank) (mine nv : List ℕ) where
-  pub conclusion_good : (a : Authentication) (story : Story) → Found b mine nv s.accepts a → s.Fits nv
-      → image_at (device_of b) story ≡ mine → image_at device.Nv story ≡ nv → AllGood (IsGood s) (concluded b a) story
-  conclusion_good Unprovisioned story (unset u h) fits e f = ((refl, rw f (u, h)), tt)
-  conclusion_good SlotsSpent story (spent u h) fits e f = ((refl, rw f (u, h)), tt)
-  conclusion_good (BadLayout rule) story (misplaced m) fits e f = ((refl, rw (e, f) m), tt)
-  conclusion_good (Untrusted cause) story (distrusted a) fits e f =
-      (rw (e, f) a, ((refl, rw (image_noted (device_of b) (λ _. what.Untrusted b cause) story, e, f) (not_trusted cause b mine nv s.accepts a)), tt))
-  conclusion_good (Trusted svn) story (trusted t is) fits e f = ((refl, rw (e, f) (t, is), rw f fits), tt)
+  pub conclusion_good : (recovery : Option CapsuleFail) (a : Authentication) (story : Story) → Found b mine nv s.accepts a
+      → RecoveryFound a recovery b mine nv s.accepts → s.Fits nv → image_at (device_of b) story ≡ mine → image_at device.Nv story ≡ nv
+      → AllGood (IsGood s) (concluded b recovery a) story
+  conclusion_good recovery Unprovisioned story (unset u h) r fits e f = ((refl, rw f (u, h)), tt)
+  conclusion_good recovery SlotsSpent story (spent u h) r fits e f = ((refl, rw f (u, h)), tt)
+  conclusion_good recovery (BadLayout rule) story (misplaced m) r fits e f = ((refl, rw (e, f) m), tt)
+  conclusion_good None (Untrusted cause) story (called_untrusted a) good fits e f = (
+    rw (e, f) a,
+    (
+      (
+        refl,
+        rw (image_noted (device_of b) (λ _. what.Untrusted b cause) story, e, f)
+            (not_trusted cause b mine nv s.accepts a, good),
+      ),
+      tt,
+    ),
+  )
+  conclusion_good (Some against) (Untrusted cause) story (called_untrusted a) bad fits e f =
+      (rw (e, f) a, ((refl, rw (image_noted (device_of b) (λ _. what.Untrusted b cause) story, e, f) (a, bad)), tt))
+  conclusion_good recovery (Trusted svn) story (trusted t is) r fits e f = ((refl, rw (e, f) (t, is), rw f fits), tt)
+
+  -- it is called untrusted, before its recovery area is looked at
+  pub distrust_good : (a : Authentication) (story : Story) → authentication_of b mine nv s.accepts ≡ a
+      → image_at (device_of b) story ≡ mine → image_at device.Nv story ≡ nv → AllGood (IsGood s) (distrusted b a) story
+  distrust_good (Untrusted cause) story is e f = (rw (e, f) (against_of cause b mine nv s.accepts is), tt)
+  distrust_good _ story is e f = tt
 
 -- ---- plans that only note
 abbrev pub AllSay : List Move → Type 0
@@ -80,53 +98,16 @@ AllSay [] = Unit {0}
 AllSay (Says w ∷ moves) = AllSay moves
 AllSay (Does which op ∷ moves) = ⊥
 
-pub concluded_says : (b : Bank) (a : Authentication) → AllSay (concluded b a)
-concluded_says b Unprovisioned = tt
-concluded_says b SlotsSpent = tt
-concluded_says b (BadLayout rule) = tt
-concluded_says b (Untrusted cause) = tt
-concluded_says b (Trusted svn) = tt
+pub concluded_says : (b : Bank) (recovery : Option CapsuleFail) (a : Authentication) → AllSay (concluded b recovery a)
+concluded_says b recovery Unprovisioned = tt
+concluded_says b recovery SlotsSpent = tt
+concluded_says b recovery (BadLayout rule) = tt
+concluded_says b recovery (Untrusted cause) = tt
+concluded_says b recovery (Trusted svn) = tt
 
-AllSay-left : (a b : List Move) → AllSay (a ++ b) → AllSay b
-AllSay-left [] b p = p
-AllSay-left (Says w ∷ a) b p = AllSay-left a b p
-AllSay-left (Does which op ∷ a) b p = absurd p
-
-notes_grow : (moves : List Move) (story : Story) → length story.notes ≤ length (after moves story).notes
-notes_grow [] story = omega arith
-notes_grow (Says w ∷ moves) story =
-    omega (arith, notes_grow moves (noted w story), length-append story.notes (record { item = story.item; what = w (counts_of story) } ∷ []))
-notes_grow (Does device.Bmc op ∷ moves) story = notes_grow moves (operated device.Bmc op story)
-notes_grow (Does device.Pch op ∷ moves) story = notes_grow moves (operated device.Pch op story)
-notes_grow (Does device.Nv op ∷ moves) story = notes_grow moves (operated device.Nv op story)
-
-short_front : (w : Counts → What) (rest front left : List Move) (story : Story) → Says w ∷ rest ≡ front ++ left → AllSay rest
-    → length (after front story).notes ≤ length story.notes + 1 → (front ≡ []) ⊎ (front ≡ Says w ∷ [])
-short_front w rest [] left story e p h = inl refl
-short_front w rest (m ∷ []) left story e p h = inr (let same : m ≡ Says w = cc in ap (λ (x : Move). x ∷ []) same)
-short_front w rest (Says x ∷ Says y ∷ front) left story e p h = absurd (
-    let one = length-append story.notes (record { item = story.item; what = x (counts_of story) } ∷ []) in
-    let two = length-append (noted x story).notes (record { item = story.item; what = y (counts_of story) } ∷ []) in
-    let more = notes_grow front (noted y (noted x story)) in
-    omega (arith, h, one, two, more))
-short_front w rest (Says x ∷ Does which op ∷ front) left story e p h =
-    absurd (let same : rest ≡ Does which op ∷ (front ++ left) = cc in subst AllSay same p)
-short_front w rest (Does which op ∷ m ∷ front) left story e p h = absurd (let never : Says w ≡ Does which op = cc in cc)
-
--- what was made of such a plan, where no more than one note was
-pub at_most_one : (which : Device) (w : Counts → What) (rest trace : List Move) (story : Story) → AllSay rest → IsCut which (Says w ∷ rest) story trace
-    → length (after trace story).notes ≤ length story.notes + 1 → (trace ≡ []) ⊎ (trace ≡ Says w ∷ [])
-at_most_one which w rest trace story p cut h =
-    let e : trace ≡ cut.front = elim cut.end [
-      | inl none ↦ cut.is ∙ ap (λ (ms : List Move). cut.front ++ ms) none ∙ append-nil cut.front
-      | inr torn ↦ absurd (
-          let says : AllSay (cut.front ++ cut.left) = subst AllSay cut.plan p in
-          subst AllSay torn.next (AllSay-left cut.front cut.left says))
-    ] in
-    elim (short_front w rest cut.front cut.left story cut.plan p (subst (λ (ms : List Move). length (after ms story).notes ≤ length story.notes + 1) e h)) [
-      | inl f ↦ inl (e ∙ f)
-      | inr f ↦ inr (e ∙ f)
-    ]
+pub distrusted_says : (b : Bank) (a : Authentication) → AllSay (distrusted b a)
+distrusted_says b (Untrusted cause) = tt
+distrusted_says b _ = tt
 
 pub says_nv : (moves : List Move) (story : Story) → AllSay moves → (after moves story).nv ≡ story.nv
 says_nv [] story p = refl

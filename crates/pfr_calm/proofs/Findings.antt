@@ -1,9 +1,10 @@
 -- What a bank is found to be has its reason, and the reasons exclude one another.
-use Rattle.std.proofs.Common.{◌≡◌, ◌∙◌, ap, sym, subst, refl, ℕ, List, [], ◌∷◌, ◌++◌, length, Result, Ok, Err, inl, inr, ◌⊎◌}
+use Rattle.std.proofs.Common.{◌≡◌, ◌∙◌, ap, sym, subst, refl, ℕ, List, [], ◌∷◌, ◌++◌, length, Option, Some, None, Result, Ok, Err, inl, inr, ◌⊎◌}
 use Rattle.pfr_flash.specs.Layout.{IsValidLayout, judge_layout}
 use Rattle.pfr_flash.proofs.LayoutLemmas.{judged_valid, valid_judged}
 use Rattle.pfr_flash.specs.declared.names.Bank.{Bank}
 use Rattle.pfr_flash.specs.declared.names.Counts.{Counts}
+use Rattle.pfr_flash.specs.declared.layout.Layout.{Layout}
 use Rattle.pfr_flash.specs.declared.layout.LayoutRule.{LayoutRule}
 use Rattle.pfr_engine.specs.Acceptance.{Acceptance}
 use Rattle.pfr_fuses.specs.FusesState.{FusesState}
@@ -14,6 +15,10 @@ use Rattle.pfr_fuses.specs.declared.fuse_fail.FuseFail.{FuseFail}
 use Rattle.pfr_fuses.specs.declared.fuse_fail.FuseFail.TheVariants as fuse
 use Rattle.pfr_fuses.proofs.StandsLemmas.{fuses_of-ok, fuses_of-err}
 use Rattle.pfr_manifest.specs.declared.manifest.Manifest.{Manifest}
+use Rattle.pfr_capsule.specs.CapsuleState.{CapsuleState}
+use Rattle.pfr_capsule.specs.Judge.{judge_capsule}
+use Rattle.pfr_capsule.specs.declared.fail.CapsuleFail.{CapsuleFail}
+use Rattle.pfr_capsule.proofs.GoodLaw.{good_judged}
 use Rattle.pfr_auth.specs.Judge.{judge_active}
 use Rattle.pfr_auth.specs.Trusted.{IsTrusted}
 use Rattle.pfr_auth.specs.declared.fail.ActiveFail.{ActiveFail}
@@ -23,7 +28,7 @@ use Rattle.pfr_report.specs.declared.note.LockWhy.{LockWhy}
 use Rattle.pfr_report.specs.declared.note.What.{What}
 use Rattle.pfr_report.specs.declared.note.What.TheVariants as what
 use Rattle.pfr_report.specs.declared.note.Note.{Note}
-use Rattle.pfr_calm.specs.Authentication.{authentication_of, authentication_with, by_active, by_layout, IsBacked}
+use Rattle.pfr_calm.specs.Authentication.{authentication_of, authentication_with, by_active, by_layout, IsBacked, judge_recovery, HasGoodRecovery, HasBadRecovery, refusal_in, recovery_with, recovery_of, IsRestorable}
 use Rattle.pfr_calm.specs.Promises.{IsMisplaced, IsNotTrusted, IsAgainst}
 use Rattle.pfr_calm.specs.declared.authentication.Authentication.{Authentication}
 use Rattle.pfr_calm.specs.declared.authentication.Authentication.TheVariants.{Unprovisioned, SlotsSpent, BadLayout, Untrusted, Trusted}
@@ -69,6 +74,49 @@ pub found : (bank : Bank) (image nv : List ℕ) (accepts : Acceptance) → IsBac
     → Found bank image nv accepts (authentication_of bank image nv accepts)
 unfolding authentication_of
 found bank image nv accepts b = by_fuses bank image nv accepts (fuses_of nv) refl b
+
+against_in : (cause : ActiveFail) (bank : Bank) (image nv : List ℕ) (accepts : Acceptance)
+    → Found bank image nv accepts (Untrusted cause) → IsAgainst cause bank image nv accepts
+against_in cause bank image nv accepts (distrusted a) = a
+
+-- the cause that is named has its reason
+pub against_of : (cause : ActiveFail) (bank : Bank) (image nv : List ℕ) (accepts : Acceptance)
+    → authentication_of bank image nv accepts ≡ Untrusted cause → IsAgainst cause bank image nv accepts
+against_of cause bank image nv accepts e =
+    let backed : IsBacked (authentication_of bank image nv accepts) bank image nv accepts =
+    subst (λ (a : Authentication). IsBacked a bank image nv accepts) (sym e) tt in
+    against_in cause bank image nv accepts (subst (λ (a : Authentication). Found bank image nv accepts a) e (found bank image nv accepts backed))
+
+-- ---- what is found of the recovery image of a bank that isn't trusted, with its reason
+abbrev pub RecoveryFound : Authentication → Option CapsuleFail → Bank → List ℕ → List ℕ → Acceptance → Type 0
+RecoveryFound (Untrusted why) None bank image nv accepts = HasGoodRecovery bank image nv accepts
+RecoveryFound (Untrusted why) (Some cause) bank image nv accepts = HasBadRecovery cause bank image nv accepts
+RecoveryFound authentication recovery bank image nv accepts = Unit {0}
+
+bad_judged : (cause : CapsuleFail) (bank : Bank) (image nv : List ℕ) (accepts : Acceptance) (fuses : FusesState)
+    (judged : Result CapsuleState CapsuleFail) → fuses_of nv ≡ Ok fuses → judge_recovery bank image fuses accepts ≡ judged → refusal_in judged ≡ Some cause
+    → HasBadRecovery cause bank image nv accepts
+bad_judged cause bank image nv accepts fuses (Ok capsule) f j e = absurd cc
+bad_judged cause bank image nv accepts fuses (Err other) f j e =
+    let same : other ≡ cause = cc in
+    record { fuses = fuses; provisioned = f; judged = j ∙ ap (λ (c : CapsuleFail). Err c) same }
+
+bad_fuses : (cause : CapsuleFail) (bank : Bank) (image nv : List ℕ) (accepts : Acceptance) (read : Result FusesState FuseFail) → fuses_of nv ≡ read
+    → recovery_with bank image accepts read ≡ Some cause → HasBadRecovery cause bank image nv accepts
+bad_fuses cause bank image nv accepts (Ok fuses) f e =
+    bad_judged cause bank image nv accepts fuses (judge_recovery bank image fuses accepts) f refl e
+bad_fuses cause bank image nv accepts (Err why) f e = absurd cc
+
+bad_recovery : (cause : CapsuleFail) (bank : Bank) (image nv : List ℕ) (accepts : Acceptance) → recovery_of bank image nv accepts ≡ Some cause
+    → HasBadRecovery cause bank image nv accepts
+unfolding recovery_of
+bad_recovery cause bank image nv accepts e = bad_fuses cause bank image nv accepts (fuses_of nv) refl e
+
+pub recovery_found : (bank : Bank) (image nv : List ℕ) (accepts : Acceptance) (a : Authentication) (recovery : Option CapsuleFail)
+    → recovery_of bank image nv accepts ≡ recovery → IsRestorable a recovery bank image nv accepts → RecoveryFound a recovery bank image nv accepts
+recovery_found bank image nv accepts (Untrusted why) None e r = r
+recovery_found bank image nv accepts (Untrusted why) (Some cause) e r = bad_recovery cause bank image nv accepts e
+recovery_found bank image nv accepts _ recovery e r = tt
 
 -- ---- the reasons exclude one another
 pub one_provision : (nv : List ℕ) (fuses other : FusesState) → fuses_of nv ≡ Ok fuses → fuses_of nv ≡ Ok other → fuses ≡ other
@@ -137,6 +185,36 @@ trusted_once bank image nv accepts t u =
     (trusted_judged image nv bank accepts t) (trusted_judged image nv bank accepts u) in
     let m : t.manifest ≡ u.manifest = cc in
     ap (λ (x : Manifest). x.svn) m
+
+-- of the recovery image
+other_recovery : (bank : Bank) (image nv : List ℕ) (accepts : Acceptance) (fuses other : FusesState) (x y : Result CapsuleState CapsuleFail)
+    → fuses_of nv ≡ Ok fuses → fuses_of nv ≡ Ok other → judge_recovery bank image fuses accepts ≡ x → judge_recovery bank image other accepts ≡ y → x ≡ y
+other_recovery bank image nv accepts fuses other x y f g h k =
+    sym h ∙ (ap (λ (s : FusesState). judge_recovery bank image s accepts) (one_provision nv fuses other f g) ∙ k)
+
+-- what is good is judged to be, by the one provision that there is
+good_recovery : (bank : Bank) (image nv : List ℕ) (accepts : Acceptance) (g : HasGoodRecovery bank image nv accepts)
+    → judge_recovery bank image g.good.fuses accepts ≡ Ok g.good.capsule
+good_recovery bank image nv accepts g =
+    let fuses : FusesState = g.good.fuses in
+    let layout : Layout = layout_of fuses.provision bank in
+    let by : Layout → Result CapsuleState CapsuleFail = λ l. judge_capsule image l.recovery_at l.area_len bank layout fuses accepts in
+    let one : fuses ≡ g.fuses = one_provision nv fuses g.fuses g.good.provisioned g.provisioned in
+    let here : Layout = layout_of g.fuses.provision bank in
+    ap (λ (s : FusesState). by (layout_of s.provision bank)) one ∙ good_judged image nv here.recovery_at here.area_len bank accepts g.good
+
+pub good_bad : (cause : CapsuleFail) (bank : Bank) (image nv : List ℕ) (accepts : Acceptance)
+    → HasGoodRecovery bank image nv accepts → ¬ HasBadRecovery cause bank image nv accepts
+good_bad cause bank image nv accepts g b =
+    let e : Ok g.good.capsule ≡ Err cause =
+    other_recovery bank image nv accepts g.good.fuses b.fuses (Ok g.good.capsule) (Err cause) g.good.provisioned b.provisioned
+    (good_recovery bank image nv accepts g) b.judged in cc
+
+pub bad_once : (cause other : CapsuleFail) (bank : Bank) (image nv : List ℕ) (accepts : Acceptance)
+    → HasBadRecovery cause bank image nv accepts → HasBadRecovery other bank image nv accepts → cause ≡ other
+bad_once cause other bank image nv accepts a b =
+    let e : Err cause ≡ Err other =
+    other_recovery bank image nv accepts a.fuses b.fuses (Err cause) (Err other) a.provisioned b.provisioned a.judged b.judged in cc
 
 pub not_trusted : (cause : ActiveFail) (bank : Bank) (image nv : List ℕ) (accepts : Acceptance) → IsAgainst cause bank image nv accepts → IsNotTrusted bank image nv accepts
 not_trusted cause bank image nv accepts a =

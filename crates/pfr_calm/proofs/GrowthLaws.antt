@@ -1,7 +1,7 @@
 -- Fuses are never taken back, and a provision never changes.
-use Rattle.std.proofs.Common.{◌≡◌, ◌∙◌, refl, sym, ap, subst, ℕ, ◌<◌, ◌≤◌, arith, List, [], ◌∷◌, ◌++◌, length, length-append, take, drop, All, Result, Ok, Err, ◌⊎◌, inl, inr}
+use Rattle.std.proofs.Common.{◌≡◌, ◌∙◌, refl, sym, ap, subst, ℕ, ◌<◌, ◌≤◌, arith, Bool, true, false, List, [], ◌∷◌, ◌++◌, length, length-append, take, drop, All, Result, Ok, Err, inr}
 use Rattle.std.specs.Prelude.{slice_index_or}
-use Rattle.std.proofs.lemmas.Bool.{cases_lt}
+use Rattle.std.proofs.lemmas.Bool.{false≢true}
 use Rattle.std.proofs.lemmas.List.{append-nil, take_all}
 use Rattle.std.proofs.lemmas.Nat.{and_le_l}
 use Rattle.std.specs.Prelude.{bit_and, zero, suc, ◌*◌}
@@ -15,6 +15,7 @@ use Rattle.pfr_flash.specs.Range.{AllWithin}
 use Rattle.pfr_flash.proofs.MovedLemmas.{Extends-trans, Extends-length}
 use Rattle.pfr_flash.proofs.PlayLemmas.{length-play}
 use Rattle.pfr_flash.proofs.StateLemmas.{upto-Extends}
+use Rattle.pfr_flash.specs.declared.names.Bank.TheVariants as bank
 use Rattle.pfr_engine.specs.Acceptance.{Acceptance}
 use Rattle.pfr_fuses.specs.Changes.{migration, migrated, AreRows}
 use Rattle.pfr_fuses.specs.FusesState.{FusesState}
@@ -22,14 +23,15 @@ use Rattle.pfr_fuses.specs.FusesOf.{fuses_of, fuses_with, floor_fuses, row_fuses
 use Rattle.pfr_fuses.specs.Growth.{NeverGoesBack, KeepsProvision}
 use Rattle.pfr_fuses.specs.Provisioning.{judge_provision, provision_plan}
 use Rattle.pfr_fuses.specs.RootSlot.{IsSlot}
-use Rattle.pfr_fuses.specs.Slots.{IsProvisionedBy, slot_at}
+use Rattle.pfr_fuses.specs.Slots.{slot_at}
 use Rattle.pfr_fuses.specs.declared.fuse_fail.FuseFail.{FuseFail}
 use Rattle.pfr_fuses.specs.declared.profile.Profile.{Profile}
 use Rattle.pfr_fuses.specs.declared.profile.Profile.TheVariants.{One, Two}
 use Rattle.pfr_fuses.specs.declared.root_slot.RootSlot.{RootSlot}
 use Rattle.pfr_fuses.proofs.BlankLemmas.{judged-ok}
-use Rattle.pfr_fuses.proofs.GrowthLemmas.{at_each, KeepsProvision-plan, NeverGoesBack-programs, NeverGoesBack-trans}
+use Rattle.pfr_fuses.proofs.GrowthLemmas.{at_each, KeepsProvision-plan, KeepsProvision-none, KeepsProvision-trans, NeverGoesBack-programs, NeverGoesBack-trans}
 use Rattle.pfr_fuses.proofs.MigrationLemmas.{Holds, migration-part, first_holds, Grows-holds}
+use Rattle.pfr_fuses.proofs.ProvisionLemmas.{KeepsProvision-slot}
 use Rattle.pfr_fuses.proofs.RootSlotLemmas.{length-slot}
 use Rattle.pfr_fuses.proofs.StandsLemmas.{fuses_of-ok, fuses_of-stands}
 use Rattle.pfr_script.specs.declared.arm.Arm.{Arm}
@@ -40,7 +42,11 @@ use Rattle.pfr_script.specs.declared.item.Item.TheVariants as item
 use Rattle.pfr_calm.specs.Story.{Past, Story}
 use Rattle.pfr_calm.specs.World.{World, story_of}
 use Rattle.pfr_calm.specs.Plans.{migration_in, migration_by}
-use Rattle.pfr_calm.specs.Turn.{Turn}
+use Rattle.pfr_calm.specs.Goes.{Ran}
+use Rattle.pfr_calm.specs.Course.{Steps}
+use Rattle.pfr_calm.specs.Standing.{standing_of, is_off}
+use Rattle.pfr_calm.specs.Promises.{AreOff}
+use Rattle.pfr_calm.specs.Turn.{ignored, provision_course, where_off, Follows, next_item, Turn}
 use Rattle.pfr_calm.specs.Run.{Did, Reached, armed}
 use Rattle.pfr_calm.proofs.NoteLaws.{Turn-moved}
 use Rattle.pfr_calm.proofs.FuseLaws.{profile_kept, rows_kept}
@@ -68,25 +74,37 @@ in_within : (nv : List ℕ) (read : Result FusesState FuseFail) → fuses_of nv 
 in_within nv (Ok fuses) f = by_within fuses.profile fuses (rows_kept nv fuses f)
 in_within nv (Err cause) f = tt
 
-provision_keeps : (root : RootSlot) (old new : FlashState) (m n : ℕ) (r : Result ℕ FuseFail) → judge_provision (now old) root m n ≡ r → size_of old ≡ 32768 → new.start ≡ old.start
+provision_keeps : (root : RootSlot) (old new : FlashState) (m n : ℕ) (r : Result ℕ FuseFail) → judge_provision (now old) root m n ≡ r → size_of old ≡ 32768 → new.start ≡ old.start → IsSlot root
     → DoesPart (operations_in root r) old new → KeepsProvision old new
-provision_keeps root old new m n (Ok number) j size start did = record {
-  keeps = λ k slot low high by. absurd (let can = judged-ok (now old) root m n number j in can.unset.gates slot by.within by.gate);
-}
-provision_keeps root old new m n (Err cause) j size start did = KeepsProvision-plan 2048 0 [] old new size start did (omega arith) tt
+provision_keeps root old new m n (Ok number) j size start slot did =
+    let can = judged-ok (now old) root m n number j in KeepsProvision-slot old new root number size start slot can.unset can.slot did
+provision_keeps root old new m n (Err cause) j size start slot did = KeepsProvision-plan 2048 0 [] old new size start did (omega arith) tt
 
--- A slot that provisions the platform keeps doing so, with the same bytes, at each moment of a step.
-pub Turn-keeps_provision : (accepts : Acceptance) (e : Event) (old new : World) → size_of old.nv ≡ 32768 → Turn accepts e old new → KeepsProvision old.nv new.nv
-Turn-keeps_provision accepts event.Power old new size t =
+-- what a script provisions is a slot
+abbrev pub IsKnownSlot : Event → Type 0
+IsKnownSlot (event.Provision root) = IsSlot root
+IsKnownSlot e = Unit {0}
+
+ignored_keeps : (old mid new : World) → Ran ignored.first (next_item old) mid → Steps ignored.stretches mid new → KeepsProvision old.nv new.nv
+ignored_keeps old mid new first rest = KeepsProvision-none old.nv new.nv (ap (λ (s : Story). s.nv.ops) (rest.is ∙ first.is))
+
+-- A slot that provisions the platform at one moment of a step does so at each later one, with the same bytes.
+pub Turn-keeps_provision : (accepts : Acceptance) (e : Event) (old new : World) → size_of old.nv ≡ 32768 → (¬ AreOff old → IsKnownSlot e) → Turn accepts e old new → KeepsProvision old.nv new.nv
+Turn-keeps_provision accepts event.Power old new size slot t =
     let did = Turn-stored accepts event.Power old new t in
     KeepsProvision-plan 2048 30720 (migration_in (fuses_of (now old.nv))) old.nv new.nv size did.start (did_part (migration_in (fuses_of (now old.nv))) old new did) (omega arith)
     (in_within (now old.nv) (fuses_of (now old.nv)) refl)
-Turn-keeps_provision accepts event.Off old new size t =
+Turn-keeps_provision accepts event.Off old new size slot t =
     let did = Turn-stored accepts event.Off old new t in KeepsProvision-plan 2048 0 [] old.nv new.nv size did.start (did_part [] old new did) (omega arith) tt
-Turn-keeps_provision accepts (event.Provision root) old new size t =
-    let did = Turn-stored accepts (event.Provision root) old new t in
-    provision_keeps root old.nv new.nv (length old.bmc.start) (length old.pch.start) (judged_here root (story_of old)) refl size did.start
-    (did_part (operations_in root (judged_here root (story_of old))) old new did)
+Turn-keeps_provision accepts (event.Provision root) old new size slot t = by_off (is_off (standing_of bank.Bmc old.notes.list)) refl t
+  where
+    by_off : (b : Bool) → is_off (standing_of bank.Bmc old.notes.list) ≡ b → Follows (where_off b ignored (provision_course root)) (next_item old) new → KeepsProvision old.nv new.nv
+    by_off true off (mid, first, rest) = ignored_keeps old mid new first rest
+    by_off false on u =
+        let did = Turn-stored accepts (event.Provision root) old new t in
+        provision_keeps root old.nv new.nv (length old.bmc.start) (length old.pch.start) (judged_here root (story_of old)) refl size did.start
+        (slot (λ (off : AreOff old). false≢true (sym on ∙ off)))
+        (did_part (operations_in root (judged_here root (story_of old))) old new did)
 
 -- ---- fuses that are bytes
 abbrev pub AreBytes : List ℕ → Type 0
@@ -151,11 +169,6 @@ provision_grows root old new m n (Ok number) j size start slot did =
     (inr (omega arith))
 provision_grows root old new m n (Err cause) j size start slot did = nothing_grows old new size start did
 
--- what a script provisions is a slot
-abbrev pub IsKnownSlot : Event → Type 0
-IsKnownSlot (event.Provision root) = IsSlot root
-IsKnownSlot e = Unit {0}
-
 -- Fuses are never taken back in a step.
 pub Turn-grows : (accepts : Acceptance) (e : Event) (old new : World) → size_of old.nv ≡ 32768 → AreBytes (now old.nv) → IsKnownSlot e → Turn accepts e old new → NeverGoesBack old.nv new.nv
 Turn-grows accepts event.Power old new size bytes slot t =
@@ -197,48 +210,36 @@ Reached-store accepts tears (i ∷ items) old new (mid, d, r) =
 same_done : (old new : World) → (new.nv.start ≡ old.nv.start) × (new.nv.ops ≡ old.nv.ops) → DoesPart [] old.nv new.nv
 same_done old new e = record { added = []; is = e.1 ∙ sym (append-nil old.nv.ops); part = tt }
 
-armed_keeps : (arm : Arm) (tear : List ℕ) (w : World) → size_of w.nv ≡ 32768 → KeepsProvision w.nv (armed arm tear w).nv
-armed_keeps arm tear w size =
-    let a = armed_nv arm tear w in KeepsProvision-plan 2048 0 [] w.nv (armed arm tear w).nv size a.0 (same_done w (armed arm tear w) a) (omega arith) tt
-
-did_keeps : (accepts : Acceptance) (tears : List (List ℕ)) (i : Item) (old new : World) → size_of old.nv ≡ 32768 → Did accepts tears i old new → KeepsProvision old.nv new.nv
-did_keeps accepts tears (item.Event e) old new size t = Turn-keeps_provision accepts e old new size t
-did_keeps accepts tears (item.Arm arm) old new size e = subst (λ (w : World). KeepsProvision old.nv w.nv) (sym e) (armed_keeps arm (slice_index_or tears arm.tear []) old size)
+armed_keeps : (arm : Arm) (tear : List ℕ) (w : World) → KeepsProvision w.nv (armed arm tear w).nv
+armed_keeps arm tear w = KeepsProvision-none w.nv (armed arm tear w).nv (armed_nv arm tear w).1
 
 upto_all : (d : FlashState) → upto d (op_count_of d) ≡ now d
 upto_all d = ap (λ (ops : List Operation). play d.start ops) (take_all (op_count_of d) d.ops (omega arith))
-
-pub KeepsProvision-trans : (a b c : FlashState) → c.start ≡ b.start → Extends a.ops b.ops → Extends b.ops c.ops → KeepsProvision a b → KeepsProvision b c → KeepsProvision a c
-KeepsProvision-trans a b c start first more h k = record { keeps = λ n number low high by. by_place n number low high by (cases_lt n (op_count_of b)) }
-  where
-    by_place : (n number : ℕ) → op_count_of a ≤ n → n ≤ op_count_of c → IsProvisionedBy (now a) number → ((n < op_count_of b) ⊎ (op_count_of b ≤ n))
-        → IsProvisionedBy (upto c n) number × (slot_at (upto c n) number ≡ slot_at (now a) number)
-    by_place n number low high by (inl less) =
-        rw (upto-Extends b c n start more (omega (arith, less))) (h.keeps n number low (omega (arith, less)) by)
-    by_place n number low high by (inr more_than) =
-        let mid : IsProvisionedBy (now b) number × (slot_at (now b) number ≡ slot_at (now a) number) =
-        rw (upto_all b) at (h.keeps (op_count_of b) number (Extends-length a.ops b.ops first) (omega arith) by) in
-        let end = k.keeps n number more_than high mid.0 in
-        (end.0, end.1 ∙ mid.1)
-
-KeepsProvision-refl : (d : FlashState) → size_of d ≡ 32768 → KeepsProvision d d
-KeepsProvision-refl d size = KeepsProvision-plan 2048 0 [] d d size refl (record { added = []; is = sym (append-nil d.ops); part = tt }) (omega arith) tt
-
--- A slot that provisions the platform keeps doing so, with the same bytes, at each moment of a run.
-pub Reached-provision : (accepts : Acceptance) (tears : List (List ℕ)) (items : List Item) (old new : World) → size_of old.nv ≡ 32768 → Reached (Did accepts tears) items old new
-    → KeepsProvision old.nv new.nv
-Reached-provision accepts tears [] old new size r = subst (λ (w : World). KeepsProvision old.nv w.nv) (sym r) (KeepsProvision-refl old.nv size)
-Reached-provision accepts tears (i ∷ items) old new size (mid, d, r) =
-    let first = StoreMoved-did accepts tears i old mid d in
-    let rest = Reached-store accepts tears items mid new r in
-    KeepsProvision-trans old.nv mid.nv new.nv rest.start first.ops rest.ops (did_keeps accepts tears i old mid size d)
-    (Reached-provision accepts tears items mid new (ap (λ (xs : List ℕ). length xs) first.start ∙ size) r)
 
 -- what the scripts provision are slots
 abbrev pub AreKnownSlots : List Item → Type 0
 AreKnownSlots [] = Unit {0}
 AreKnownSlots (item.Event e ∷ items) = IsKnownSlot e × AreKnownSlots items
 AreKnownSlots (item.Arm arm ∷ items) = AreKnownSlots items
+
+KeepsProvision-refl : (d : FlashState) → KeepsProvision d d
+KeepsProvision-refl d = KeepsProvision-none d d refl
+
+-- A slot that provisions the platform at one moment of a run does so at each later one, with the same bytes.
+pub Reached-provision : (accepts : Acceptance) (tears : List (List ℕ)) (items : List Item) (old new : World) → size_of old.nv ≡ 32768 → AreKnownSlots items → Reached (Did accepts tears) items old new
+    → KeepsProvision old.nv new.nv
+Reached-provision accepts tears [] old new size slots r = subst (λ (w : World). KeepsProvision old.nv w.nv) (sym r) (KeepsProvision-refl old.nv)
+Reached-provision accepts tears (item.Event e ∷ items) old new size slots (mid, t, r) =
+    let first = StoreMoved-did accepts tears (item.Event e) old mid t in
+    let rest = Reached-store accepts tears items mid new r in
+    KeepsProvision-trans old.nv mid.nv new.nv rest.start rest.ops (Turn-keeps_provision accepts e old mid size (λ on. slots.0) t)
+    (Reached-provision accepts tears items mid new (ap (λ (xs : List ℕ). length xs) first.start ∙ size) slots.1 r)
+Reached-provision accepts tears (item.Arm arm ∷ items) old new size slots (mid, e, r) =
+    let first = StoreMoved-did accepts tears (item.Arm arm) old mid e in
+    let rest = Reached-store accepts tears items mid new r in
+    KeepsProvision-trans old.nv mid.nv new.nv rest.start rest.ops
+    (subst (λ (w : World). KeepsProvision old.nv w.nv) (sym e) (armed_keeps arm (slice_index_or tears arm.tear []) old))
+    (Reached-provision accepts tears items mid new (ap (λ (xs : List ℕ). length xs) first.start ∙ size) slots r)
 
 -- at each moment of a run the store holds bytes
 abbrev pub AlwaysBytes : FlashState → FlashState → Type 0

@@ -15,3 +15,4 @@ pub mod SpanLaws
 pub mod RunLaws
 pub mod GrowthLaws
 pub mod ProvisionLaws
+pub mod EventLaws

@@ -12,6 +12,7 @@ use Rattle.pfr_flash.specs.declared.names.Counts.{Counts}
 use Rattle.pfr_flash.specs.declared.names.Device.{Device}
 use Rattle.pfr_flash.specs.declared.names.Device.TheVariants as device
 use Rattle.pfr_engine.specs.Acceptance.{Acceptance}
+use Rattle.pfr_capsule.specs.declared.fail.CapsuleFail.{CapsuleFail}
 use Rattle.pfr_fuses.specs.Provisioning.{provision_plan}
 use Rattle.pfr_fuses.specs.declared.fuse_fail.FuseFail.{FuseFail}
 use Rattle.pfr_fuses.specs.declared.root_slot.RootSlot.{RootSlot}
@@ -24,7 +25,7 @@ use Rattle.pfr_report.specs.declared.note.What.TheVariants as what
 use Rattle.pfr_calm.specs.Story.{Story, Move, Says, Does, after, noted, operated, counts_of, all_do, IsCut}
 use Rattle.pfr_calm.specs.World.{World, story_of, state_at, NoneLost, LostAt}
 use Rattle.pfr_calm.specs.Goes.{Ran, Stopped}
-use Rattle.pfr_calm.specs.Plans.{concluded, authentication_at, migration_in, provisioned_in}
+use Rattle.pfr_calm.specs.Plans.{concluded, authentication_at, recovery_at, migration_in, provisioned_in}
 use Rattle.pfr_calm.specs.Course.{Stretch, LosesPower, goes_on_if, Steps, lost}
 use Rattle.pfr_calm.specs.Standing.{standing_of, standing_from, standing_after, is_off, Standing, Off}
 use Rattle.pfr_calm.specs.Turn.{bank_stretch, fuse_stretch, provision_stretch, power_stretches, off_course, ignored, provision_course, where_off, Follows, next_item, Turn}
@@ -72,15 +73,18 @@ abbrev pub AllQuiet : List Stretch → Type 0
 AllQuiet [] = Unit {0}
 AllQuiet (s ∷ ss) = IsQuiet s × AllQuiet ss
 
-concluded_quiet : (b : Bank) (a : Authentication) → AreQuiet (concluded b a)
-concluded_quiet b Unprovisioned = (λ at. tt, tt)
-concluded_quiet b SlotsSpent = (λ at. tt, tt)
-concluded_quiet b (BadLayout rule) = (λ at. tt, tt)
-concluded_quiet b (Untrusted cause) = (λ at. tt, (λ at. tt, tt))
-concluded_quiet b (Trusted svn) = (λ at. tt, tt)
+concluded_quiet : (b : Bank) (recovery : Option CapsuleFail) (a : Authentication) → AreQuiet (concluded b recovery a)
+concluded_quiet b recovery Unprovisioned = (λ at. tt, tt)
+concluded_quiet b recovery SlotsSpent = (λ at. tt, tt)
+concluded_quiet b recovery (BadLayout rule) = (λ at. tt, tt)
+concluded_quiet b recovery (Untrusted cause) = (λ at. tt, (λ at. tt, tt))
+concluded_quiet b recovery (Trusted svn) = (λ at. tt, tt)
 
 bank_quiet : (accepts : Acceptance) (b : Bank) → IsQuiet (bank_stretch accepts b)
-bank_quiet accepts b = record { plan = λ story. (λ at. tt, concluded_quiet b (authentication_at accepts b story)); fault = λ which. (λ at. tt, tt) }
+bank_quiet accepts b = record {
+  plan = λ story. (λ at. tt, concluded_quiet b (recovery_at accepts b story) (authentication_at accepts b story));
+  fault = λ which. (λ at. tt, tt);
+}
 
 fuses_quiet : IsQuiet fuse_stretch
 fuses_quiet = record {

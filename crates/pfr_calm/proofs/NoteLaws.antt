@@ -22,7 +22,7 @@ use Rattle.pfr_calm.specs.Story.{Past, Story, Move, after, counts_of, device_of,
 use Rattle.pfr_calm.specs.World.{World, story_of, state_at, AllMoved}
 use Rattle.pfr_calm.specs.Spans.{upto, count_at}
 use Rattle.pfr_calm.specs.Turn.{next_item, Turn}
-use Rattle.pfr_calm.specs.Promises.{added, IsDue, IsFaultLock, FaultsHaveCauses, ReleasesTrusted, LocksHaveCauses}
+use Rattle.pfr_calm.specs.Promises.{added, IsDue, IsFaultLock, FaultsHaveCauses, ReleasesTrusted, LocksHaveCauses, DistrustsWithCause}
 use Rattle.pfr_calm.proofs.Traces.{Begins, Precedes}
 use Rattle.pfr_calm.proofs.Facts.{Setting, Fact, LockFact, IsLater, IsLater-refl}
 use Rattle.pfr_calm.proofs.StretchLaws.{Between, MayProvision, works, refused}
@@ -57,6 +57,7 @@ lock_due s (why.Layout rule) which at n p = p
 lock_due s why.FlashFault which at n p = absurd (n tt)
 lock_due s why.StoreFault which at n p = absurd (n tt)
 lock_due s why.NotRestored which at n p = p
+lock_due s (why.NoGoodImage active recovery) which at n p = p
 
 -- ---- a step
 -- nothing is asked of the store
@@ -138,3 +139,14 @@ Turn-locks accepts e old new t which cause at n no_fault =
     past_state which new (count_at which at) ∙ bank_then which k.0 (story_of new) at k.1.0 k.2 in
     let nv : state_upto new.nv at.nv ≡ image_at device.Nv k.0 = store_then k.0 (story_of new) at k.1.0 k.2 in
     rw (mine, nv) (lock_due (plain accepts old new) cause which k.0 no_fault k.1.1)
+
+-- A bank's image is called untrusted only with the cause against it.
+pub Turn-distrusts : (accepts : Acceptance) (e : Event) (old new : World) → Turn accepts e old new → DistrustsWithCause accepts old new
+unfolding plain
+Turn-distrusts accepts e old new t which cause n =
+    let k = step_known accepts e old new t (what.Untrusted which cause) n in
+    let at = counts_of k.0 in
+    let mine : state_upto (state_at (device_of which) new) (count_at which at) ≡ image_at (device_of which) k.0 =
+    past_state which new (count_at which at) ∙ bank_then which k.0 (story_of new) at refl k.2 in
+    let nv : state_upto new.nv at.nv ≡ image_at device.Nv k.0 = store_then k.0 (story_of new) at refl k.2 in
+    (at, rw (mine, nv) k.1)

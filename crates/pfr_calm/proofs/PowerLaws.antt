@@ -1,5 +1,5 @@
 -- A power-on brings each bank up of which no call failed.
-use Rattle.std.proofs.Common.{◌≡◌, ◌≢◌, ◌∙◌, refl, sym, ap, subst, ℕ, ◌+◌, arith, true, List, [], ◌∷◌, ◌++◌, length, drop, append_assoc, Option, Some, None, ◌⊎◌, inl, inr}
+use Rattle.std.proofs.Common.{◌≡◌, ◌≢◌, ◌∙◌, refl, sym, ap, subst, ℕ, ◌+◌, true, List, [], ◌∷◌, ◌++◌, length, drop, append_assoc, Option, Some, None, inl, inr}
 use Rattle.std.proofs.lemmas.List.{append-nil}
 use Rattle.std.proofs.Math.Seq.{drop-append_seam}
 use Rattle.pfr_flash.specs.Operation.{Operation}
@@ -13,6 +13,7 @@ use Rattle.pfr_flash.specs.declared.names.Device.TheVariants as device
 use Rattle.pfr_engine.specs.Acceptance.{Acceptance}
 use Rattle.pfr_fuses.specs.Slots.{IsUnset, HasBlank}
 use Rattle.pfr_fuses.specs.FusesOf.{fuses_of}
+use Rattle.pfr_capsule.specs.declared.fail.CapsuleFail.{CapsuleFail}
 use Rattle.pfr_auth.specs.Trusted.{IsTrusted}
 use Rattle.pfr_auth.specs.declared.fail.ActiveFail.{ActiveFail}
 use Rattle.pfr_script.specs.declared.event.Event.{Event}
@@ -26,23 +27,23 @@ use Rattle.pfr_report.specs.declared.note.What.TheVariants as what
 use Rattle.pfr_calm.specs.Story.{Story, Move, Says, Does, after, noted, operated, counts_of, device_of, image_at, all_do}
 use Rattle.pfr_calm.specs.World.{World, story_of, state_at}
 use Rattle.pfr_calm.specs.Goes.{Ran}
-use Rattle.pfr_calm.specs.Plans.{concluded, authentication_at, brought_up, migration_in}
+use Rattle.pfr_calm.specs.Plans.{concluded, distrusted as untrusted_moves, authentication_at, recovery_at, lock_of, brought_up, migration_in}
 use Rattle.pfr_calm.specs.Course.{Crosses, Faults, Ends, Steps, lost}
-use Rattle.pfr_calm.specs.Turn.{fault_of, bank_or_store, bank_stretch, bank_stretches, power_stretches, unreadable, next_item, Turn}
+use Rattle.pfr_calm.specs.Turn.{fault_of, bank_or_store, StopsInCheck, bank_stretch, bank_stretches, power_stretches, unreadable, next_item, Turn}
 use Rattle.pfr_calm.specs.Promises.{added, counts_in, IsCalm, IsDue, IsAgainst, IsMisplaced, BringsUp, BringsUpCalm}
+use Rattle.pfr_calm.specs.Authentication.{HasGoodRecovery, HasBadRecovery}
 use Rattle.pfr_calm.specs.declared.authentication.Authentication.{Authentication}
 use Rattle.pfr_calm.specs.declared.authentication.Authentication.TheVariants.{Unprovisioned, SlotsSpent, BadLayout, Untrusted, Trusted}
-use Rattle.pfr_calm.proofs.Findings.{Found, unset, spent, misplaced, distrusted, trusted, found, not_unset, noted_append, noted_left, noted_right, same_lock, same_release, same_cause, misplaced_valid, misplaced_once, against_trusted, against_once, trusted_once, not_trusted}
-use Rattle.pfr_calm.proofs.Facts.{concluded_says, at_most_one}
+use Rattle.pfr_calm.proofs.Findings.{Found, unset, spent, misplaced, distrusted, trusted, found, RecoveryFound, recovery_found, good_bad, bad_once, not_unset, noted_append, noted_left, noted_right, same_lock, same_release, same_cause, misplaced_valid, misplaced_once, against_trusted, against_once, trusted_once, not_trusted}
 
 -- ---- what is noted of a bank that was found so
-abbrev pub found_notes : ℕ → Bank → Counts → Authentication → List Note
-found_notes item bank counts Unprovisioned = record { item = item; what = what.Locked bank why.Unprovisioned counts } ∷ []
-found_notes item bank counts SlotsSpent = record { item = item; what = what.Locked bank why.SlotsSpent counts } ∷ []
-found_notes item bank counts (BadLayout rule) = record { item = item; what = what.Locked bank (why.Layout rule) counts } ∷ []
-found_notes item bank counts (Untrusted cause) =
-    record { item = item; what = what.Untrusted bank cause } ∷ record { item = item; what = what.Locked bank why.NotRestored counts } ∷ []
-found_notes item bank counts (Trusted svn) = record { item = item; what = what.Released bank svn counts } ∷ []
+abbrev pub found_notes : ℕ → Bank → Counts → Option CapsuleFail → Authentication → List Note
+found_notes item bank counts recovery Unprovisioned = record { item = item; what = what.Locked bank why.Unprovisioned counts } ∷ []
+found_notes item bank counts recovery SlotsSpent = record { item = item; what = what.Locked bank why.SlotsSpent counts } ∷ []
+found_notes item bank counts recovery (BadLayout rule) = record { item = item; what = what.Locked bank (why.Layout rule) counts } ∷ []
+found_notes item bank counts recovery (Untrusted cause) =
+    record { item = item; what = what.Untrusted bank cause } ∷ record { item = item; what = what.Locked bank (lock_of cause recovery) counts } ∷ []
+found_notes item bank counts recovery (Trusted svn) = record { item = item; what = what.Released bank svn counts } ∷ []
 
 -- the bank that is released, locked or called untrusted
 abbrev decided : What → Option Bank
@@ -51,171 +52,206 @@ decided (what.Locked bank why counts) = Some bank
 decided (what.Untrusted bank why) = Some bank
 decided _ = None
 
-of_bank : (item : ℕ) (bank : Bank) (counts : Counts) (authentication : Authentication) (that : What) → IsNoted (found_notes item bank counts authentication) that → decided that ≡ Some bank
-of_bank item bank counts Unprovisioned that (inl e) = ap decided (sym e)
-of_bank item bank counts Unprovisioned that (inr n) = absurd n
-of_bank item bank counts SlotsSpent that (inl e) = ap decided (sym e)
-of_bank item bank counts SlotsSpent that (inr n) = absurd n
-of_bank item bank counts (BadLayout rule) that (inl e) = ap decided (sym e)
-of_bank item bank counts (BadLayout rule) that (inr n) = absurd n
-of_bank item bank counts (Untrusted why) that (inl e) = ap decided (sym e)
-of_bank item bank counts (Untrusted why) that (inr (inl e)) = ap decided (sym e)
-of_bank item bank counts (Untrusted why) that (inr (inr n)) = absurd n
-of_bank item bank counts (Trusted svn) that (inl e) = ap decided (sym e)
-of_bank item bank counts (Trusted svn) that (inr n) = absurd n
+of_bank : (item : ℕ) (bank : Bank) (counts : Counts) (recovery : Option CapsuleFail) (authentication : Authentication) (that : What)
+    → IsNoted (found_notes item bank counts recovery authentication) that → decided that ≡ Some bank
+of_bank item bank counts recovery Unprovisioned that (inl e) = ap decided (sym e)
+of_bank item bank counts recovery Unprovisioned that (inr n) = absurd n
+of_bank item bank counts recovery SlotsSpent that (inl e) = ap decided (sym e)
+of_bank item bank counts recovery SlotsSpent that (inr n) = absurd n
+of_bank item bank counts recovery (BadLayout rule) that (inl e) = ap decided (sym e)
+of_bank item bank counts recovery (BadLayout rule) that (inr n) = absurd n
+of_bank item bank counts recovery (Untrusted why) that (inl e) = ap decided (sym e)
+of_bank item bank counts recovery (Untrusted why) that (inr (inl e)) = ap decided (sym e)
+of_bank item bank counts recovery (Untrusted why) that (inr (inr n)) = absurd n
+of_bank item bank counts recovery (Trusted svn) that (inl e) = ap decided (sym e)
+of_bank item bank counts recovery (Trusted svn) that (inr n) = absurd n
 
 -- Notes have a bank's own notes, and no others that decide of it.
-record HasOwn (item : ℕ) (bank : Bank) (counts : Counts) (authentication : Authentication) (notes : List Note) : Type 0 where
-  pub only : (that : What) → decided that ≡ Some bank → IsNoted notes that → IsNoted (found_notes item bank counts authentication) that
-  pub all : (that : What) → IsNoted (found_notes item bank counts authentication) that → IsNoted notes that
+record HasOwn (item : ℕ) (bank : Bank) (counts : Counts) (recovery : Option CapsuleFail) (a : Authentication) (notes : List Note) : Type 0 where
+  pub only : (that : What) → decided that ≡ Some bank → IsNoted notes that → IsNoted (found_notes item bank counts recovery a) that
+  pub all : (that : What) → IsNoted (found_notes item bank counts recovery a) that → IsNoted notes that
   pub held : IsNoted notes (what.Held bank counts)
 
+-- ---- the lock of a bank that isn't trusted, by what is found of its recovery image
+module _ (bank : Bank) (image nv : List ℕ) (accepts : Acceptance) where
+  lock_due : (recovery : Option CapsuleFail) (cause : ActiveFail) → IsAgainst cause bank image nv accepts
+      → RecoveryFound (Untrusted cause) recovery bank image nv accepts → IsDue (lock_of cause recovery) bank image nv accepts
+  lock_due None cause a good = (not_trusted cause bank image nv accepts a, good)
+  lock_due (Some bad) cause a judged = (a, judged)
+
+  -- no other is due
+  lock_restored : (recovery : Option CapsuleFail) (cause : ActiveFail) → RecoveryFound (Untrusted cause) recovery bank image nv accepts
+      → HasGoodRecovery bank image nv accepts → lock_of cause recovery ≡ why.NotRestored
+  lock_restored None cause r good = refl
+  lock_restored (Some bad) cause r good = absurd (good_bad bad bank image nv accepts good r)
+
+  lock_named : (recovery : Option CapsuleFail) (cause active : ActiveFail) (bad : CapsuleFail)
+      → RecoveryFound (Untrusted cause) recovery bank image nv accepts
+      → IsAgainst cause bank image nv accepts → IsAgainst active bank image nv accepts → HasBadRecovery bad bank image nv accepts
+      → lock_of cause recovery ≡ why.NoGoodImage active bad
+  lock_named None cause active bad good a b judged = absurd (good_bad bad bank image nv accepts good judged)
+  lock_named (Some known) cause active bad r a b judged =
+      let one : cause ≡ active = against_once cause active bank image nv accepts a b in
+      let other : known ≡ bad = bad_once known bad bank image nv accepts r judged in
+      ap (λ (x : ActiveFail). why.NoGoodImage x known) one ∙ ap (λ (x : CapsuleFail). why.NoGoodImage active x) other
+
 -- ---- what was noted, by what was found
-due_unset : (item : ℕ) (bank : Bank) (image nv : List ℕ) (accepts : Acceptance) (counts : Counts) (notes : List Note) → IsUnset nv → HasBlank nv
-    → HasOwn item bank counts Unprovisioned notes → (cause : LockWhy) → IsDue cause bank image nv accepts → IsNoted notes (what.Locked bank cause counts)
-due_unset item bank image nv accepts counts notes u b own why.Unprovisioned h = own.all _ (inl refl)
-due_unset item bank image nv accepts counts notes u b own why.SlotsSpent h = absurd (h.1 b)
-due_unset item bank image nv accepts counts notes u b own (why.Layout rule) h = absurd (not_unset nv h.fuses h.provisioned u)
-due_unset item bank image nv accepts counts notes u b own why.FlashFault h = absurd h
-due_unset item bank image nv accepts counts notes u b own why.StoreFault h = absurd h
-due_unset item bank image nv accepts counts notes u b own why.NotRestored h = absurd (not_unset nv h.fuses h.provisioned u)
+module _ (item : ℕ) (bank : Bank) (image nv : List ℕ) (accepts : Acceptance) (counts : Counts) (recovery : Option CapsuleFail) (notes : List Note) where
+  abbrev Own : Authentication → Type 0
+  Own a = HasOwn item bank counts recovery a notes
 
-due_spent : (item : ℕ) (bank : Bank) (image nv : List ℕ) (accepts : Acceptance) (counts : Counts) (notes : List Note) → IsUnset nv → ¬ HasBlank nv
-    → HasOwn item bank counts SlotsSpent notes → (cause : LockWhy) → IsDue cause bank image nv accepts → IsNoted notes (what.Locked bank cause counts)
-due_spent item bank image nv accepts counts notes u b own why.Unprovisioned h = absurd (b h.1)
-due_spent item bank image nv accepts counts notes u b own why.SlotsSpent h = own.all _ (inl refl)
-due_spent item bank image nv accepts counts notes u b own (why.Layout rule) h = absurd (not_unset nv h.fuses h.provisioned u)
-due_spent item bank image nv accepts counts notes u b own why.FlashFault h = absurd h
-due_spent item bank image nv accepts counts notes u b own why.StoreFault h = absurd h
-due_spent item bank image nv accepts counts notes u b own why.NotRestored h = absurd (not_unset nv h.fuses h.provisioned u)
+  due_unset : IsUnset nv → HasBlank nv → Own Unprovisioned → (cause : LockWhy)
+      → IsDue cause bank image nv accepts → IsNoted notes (what.Locked bank cause counts)
+  due_unset u b own why.Unprovisioned h = own.all _ (inl refl)
+  due_unset u b own why.SlotsSpent h = absurd (h.1 b)
+  due_unset u b own (why.Layout rule) h = absurd (not_unset nv h.fuses h.provisioned u)
+  due_unset u b own why.FlashFault h = absurd h
+  due_unset u b own why.StoreFault h = absurd h
+  due_unset u b own why.NotRestored h = absurd (not_unset nv h.0.fuses h.0.provisioned u)
+  due_unset u b own (why.NoGoodImage active bad) h = absurd (not_unset nv h.0.fuses h.0.provisioned u)
 
-when_unset : (item : ℕ) (bank : Bank) (image nv : List ℕ) (accepts : Acceptance) (counts : Counts) (notes : List Note) → IsUnset nv → HasBlank nv
-    → HasOwn item bank counts Unprovisioned notes → BringsUp bank image nv accepts counts notes
-when_unset item bank image nv accepts counts notes u b own = record {
-  held = own.held;
-  released = λ svn at n. elim (own.only (what.Released bank svn at) refl n) [ inl e ↦ absurd cc | inr x ↦ absurd x ];
-  trusted = λ t. absurd (not_unset nv t.fuses t.provisioned u);
-  locked = λ cause at n. elim (own.only (what.Locked bank cause at) refl n) [
-    | inl e ↦ (let s = same_lock bank why.Unprovisioned cause counts at e in (s.1, subst (λ (w : LockWhy). IsDue w bank image nv accepts) s.0 (u, b)))
-    | inr x ↦ absurd x
-  ];
-  due = due_unset item bank image nv accepts counts notes u b own;
-  distrusted = λ cause n. elim (own.only (what.Untrusted bank cause) refl n) [ inl e ↦ absurd cc | inr x ↦ absurd x ];
-  named = λ cause a. absurd (not_unset nv a.fuses a.provisioned u);
-}
+  due_spent : IsUnset nv → ¬ HasBlank nv → Own SlotsSpent → (cause : LockWhy)
+      → IsDue cause bank image nv accepts → IsNoted notes (what.Locked bank cause counts)
+  due_spent u b own why.Unprovisioned h = absurd (b h.1)
+  due_spent u b own why.SlotsSpent h = own.all _ (inl refl)
+  due_spent u b own (why.Layout rule) h = absurd (not_unset nv h.fuses h.provisioned u)
+  due_spent u b own why.FlashFault h = absurd h
+  due_spent u b own why.StoreFault h = absurd h
+  due_spent u b own why.NotRestored h = absurd (not_unset nv h.0.fuses h.0.provisioned u)
+  due_spent u b own (why.NoGoodImage active bad) h = absurd (not_unset nv h.0.fuses h.0.provisioned u)
 
-when_spent : (item : ℕ) (bank : Bank) (image nv : List ℕ) (accepts : Acceptance) (counts : Counts) (notes : List Note) → IsUnset nv → ¬ HasBlank nv
-    → HasOwn item bank counts SlotsSpent notes → BringsUp bank image nv accepts counts notes
-when_spent item bank image nv accepts counts notes u b own = record {
-  held = own.held;
-  released = λ svn at n. elim (own.only (what.Released bank svn at) refl n) [ inl e ↦ absurd cc | inr x ↦ absurd x ];
-  trusted = λ t. absurd (not_unset nv t.fuses t.provisioned u);
-  locked = λ cause at n. elim (own.only (what.Locked bank cause at) refl n) [
-    | inl e ↦ (let s = same_lock bank why.SlotsSpent cause counts at e in (s.1, subst (λ (w : LockWhy). IsDue w bank image nv accepts) s.0 (u, b)))
-    | inr x ↦ absurd x
-  ];
-  due = due_spent item bank image nv accepts counts notes u b own;
-  distrusted = λ cause n. elim (own.only (what.Untrusted bank cause) refl n) [ inl e ↦ absurd cc | inr x ↦ absurd x ];
-  named = λ cause a. absurd (not_unset nv a.fuses a.provisioned u);
-}
+  when_unset : IsUnset nv → HasBlank nv → Own Unprovisioned → BringsUp bank image nv accepts counts notes
+  when_unset u b own = record {
+    held = own.held;
+    released = λ svn at n. elim (own.only (what.Released bank svn at) refl n) [ inl e ↦ absurd cc | inr x ↦ absurd x ];
+    trusted = λ t. absurd (not_unset nv t.fuses t.provisioned u);
+    locked = λ cause at n. elim (own.only (what.Locked bank cause at) refl n) [
+      | inl e ↦ (let s = same_lock bank why.Unprovisioned cause counts at e in (s.1, subst (λ (w : LockWhy). IsDue w bank image nv accepts) s.0 (u, b)))
+      | inr x ↦ absurd x
+    ];
+    due = due_unset u b own;
+    distrusted = λ cause n. elim (own.only (what.Untrusted bank cause) refl n) [ inl e ↦ absurd cc | inr x ↦ absurd x ];
+    named = λ cause a. absurd (not_unset nv a.fuses a.provisioned u);
+  }
 
-due_misplaced : (item : ℕ) (bank : Bank) (image nv : List ℕ) (accepts : Acceptance) (counts : Counts) (notes : List Note) (rule : LayoutRule) (m : IsMisplaced rule bank image nv)
-    → HasOwn item bank counts (BadLayout rule) notes → (cause : LockWhy) → IsDue cause bank image nv accepts → IsNoted notes (what.Locked bank cause counts)
-due_misplaced item bank image nv accepts counts notes rule m own why.Unprovisioned h = absurd (not_unset nv m.fuses m.provisioned h.0)
-due_misplaced item bank image nv accepts counts notes rule m own why.SlotsSpent h = absurd (not_unset nv m.fuses m.provisioned h.0)
-due_misplaced item bank image nv accepts counts notes rule m own why.FlashFault h = absurd h
-due_misplaced item bank image nv accepts counts notes rule m own why.StoreFault h = absurd h
-due_misplaced item bank image nv accepts counts notes rule m own (why.Layout other) h =
-    own.all _ (inl (ap (λ (x : LayoutRule). what.Locked bank (why.Layout x) counts) (misplaced_once rule other bank image nv m h)))
-due_misplaced item bank image nv accepts counts notes rule m own why.NotRestored h = absurd (misplaced_valid rule bank image nv h.fuses m h.provisioned h.layout)
+  when_spent : IsUnset nv → ¬ HasBlank nv → Own SlotsSpent → BringsUp bank image nv accepts counts notes
+  when_spent u b own = record {
+    held = own.held;
+    released = λ svn at n. elim (own.only (what.Released bank svn at) refl n) [ inl e ↦ absurd cc | inr x ↦ absurd x ];
+    trusted = λ t. absurd (not_unset nv t.fuses t.provisioned u);
+    locked = λ cause at n. elim (own.only (what.Locked bank cause at) refl n) [
+      | inl e ↦ (let s = same_lock bank why.SlotsSpent cause counts at e in (s.1, subst (λ (w : LockWhy). IsDue w bank image nv accepts) s.0 (u, b)))
+      | inr x ↦ absurd x
+    ];
+    due = due_spent u b own;
+    distrusted = λ cause n. elim (own.only (what.Untrusted bank cause) refl n) [ inl e ↦ absurd cc | inr x ↦ absurd x ];
+    named = λ cause a. absurd (not_unset nv a.fuses a.provisioned u);
+  }
 
-when_misplaced : (item : ℕ) (bank : Bank) (image nv : List ℕ) (accepts : Acceptance) (counts : Counts) (notes : List Note) (rule : LayoutRule) (m : IsMisplaced rule bank image nv)
-    → HasOwn item bank counts (BadLayout rule) notes → BringsUp bank image nv accepts counts notes
-when_misplaced item bank image nv accepts counts notes rule m own = record {
-  held = own.held;
-  released = λ svn at n. elim (own.only (what.Released bank svn at) refl n) [ inl e ↦ absurd cc | inr x ↦ absurd x ];
-  trusted = λ t. absurd (misplaced_valid rule bank image nv t.fuses m t.provisioned t.layout);
-  locked = λ cause at n. elim (own.only (what.Locked bank cause at) refl n) [
-    | inl e ↦ (let s = same_lock bank (why.Layout rule) cause counts at e in (s.1, subst (λ (w : LockWhy). IsDue w bank image nv accepts) s.0 m))
-    | inr x ↦ absurd x
-  ];
-  due = due_misplaced item bank image nv accepts counts notes rule m own;
-  distrusted = λ cause n. elim (own.only (what.Untrusted bank cause) refl n) [ inl e ↦ absurd cc | inr x ↦ absurd x ];
-  named = λ cause a. absurd (misplaced_valid rule bank image nv a.fuses m a.provisioned a.layout);
-}
+  due_misplaced : (rule : LayoutRule) (m : IsMisplaced rule bank image nv) → Own (BadLayout rule) → (cause : LockWhy)
+      → IsDue cause bank image nv accepts → IsNoted notes (what.Locked bank cause counts)
+  due_misplaced rule m own why.Unprovisioned h = absurd (not_unset nv m.fuses m.provisioned h.0)
+  due_misplaced rule m own why.SlotsSpent h = absurd (not_unset nv m.fuses m.provisioned h.0)
+  due_misplaced rule m own why.FlashFault h = absurd h
+  due_misplaced rule m own why.StoreFault h = absurd h
+  due_misplaced rule m own (why.Layout other) h =
+      own.all _ (inl (ap (λ (x : LayoutRule). what.Locked bank (why.Layout x) counts) (misplaced_once rule other bank image nv m h)))
+  due_misplaced rule m own why.NotRestored h = absurd (misplaced_valid rule bank image nv h.0.fuses m h.0.provisioned h.0.layout)
+  due_misplaced rule m own (why.NoGoodImage active bad) h = absurd (misplaced_valid rule bank image nv h.0.fuses m h.0.provisioned h.0.layout)
 
-due_distrusted : (item : ℕ) (bank : Bank) (image nv : List ℕ) (accepts : Acceptance) (counts : Counts) (notes : List Note) (cause : ActiveFail) (a : IsAgainst cause bank image nv accepts)
-    → HasOwn item bank counts (Untrusted cause) notes → (w : LockWhy) → IsDue w bank image nv accepts → IsNoted notes (what.Locked bank w counts)
-due_distrusted item bank image nv accepts counts notes cause a own why.Unprovisioned h = absurd (not_unset nv a.fuses a.provisioned h.0)
-due_distrusted item bank image nv accepts counts notes cause a own why.SlotsSpent h = absurd (not_unset nv a.fuses a.provisioned h.0)
-due_distrusted item bank image nv accepts counts notes cause a own why.FlashFault h = absurd h
-due_distrusted item bank image nv accepts counts notes cause a own why.StoreFault h = absurd h
-due_distrusted item bank image nv accepts counts notes cause a own (why.Layout rule) h = absurd (misplaced_valid rule bank image nv a.fuses h a.provisioned a.layout)
-due_distrusted item bank image nv accepts counts notes cause a own why.NotRestored h = own.all _ (inr (inl refl))
+  when_misplaced : (rule : LayoutRule) (m : IsMisplaced rule bank image nv) → Own (BadLayout rule) → BringsUp bank image nv accepts counts notes
+  when_misplaced rule m own = record {
+    held = own.held;
+    released = λ svn at n. elim (own.only (what.Released bank svn at) refl n) [ inl e ↦ absurd cc | inr x ↦ absurd x ];
+    trusted = λ t. absurd (misplaced_valid rule bank image nv t.fuses m t.provisioned t.layout);
+    locked = λ cause at n. elim (own.only (what.Locked bank cause at) refl n) [
+      | inl e ↦ (let s = same_lock bank (why.Layout rule) cause counts at e in (s.1, subst (λ (w : LockWhy). IsDue w bank image nv accepts) s.0 m))
+      | inr x ↦ absurd x
+    ];
+    due = due_misplaced rule m own;
+    distrusted = λ cause n. elim (own.only (what.Untrusted bank cause) refl n) [ inl e ↦ absurd cc | inr x ↦ absurd x ];
+    named = λ cause a. absurd (misplaced_valid rule bank image nv a.fuses m a.provisioned a.layout);
+  }
 
-when_distrusted : (item : ℕ) (bank : Bank) (image nv : List ℕ) (accepts : Acceptance) (counts : Counts) (notes : List Note) (cause : ActiveFail) (a : IsAgainst cause bank image nv accepts)
-    → HasOwn item bank counts (Untrusted cause) notes → BringsUp bank image nv accepts counts notes
-when_distrusted item bank image nv accepts counts notes cause a own = record {
-  held = own.held;
-  released = λ svn at n. elim (own.only (what.Released bank svn at) refl n) [ inl e ↦ absurd cc | inr x ↦ elim x [ inl e ↦ absurd cc | inr y ↦ absurd y ] ];
-  trusted = λ t. absurd (against_trusted cause bank image nv accepts a t);
-  locked = λ w at n. elim (own.only (what.Locked bank w at) refl n) [
-    | inl e ↦ absurd cc
-    | inr x ↦ elim x [
-      | inl e ↦ (let s = same_lock bank why.NotRestored w counts at e in
-          (s.1, subst (λ (v : LockWhy). IsDue v bank image nv accepts) s.0 (not_trusted cause bank image nv accepts a)))
-      | inr y ↦ absurd y
-    ]
-  ];
-  due = due_distrusted item bank image nv accepts counts notes cause a own;
-  distrusted = λ other n. elim (own.only (what.Untrusted bank other) refl n) [
-    | inl e ↦ subst (λ (x : ActiveFail). IsAgainst x bank image nv accepts) (same_cause bank cause other e) a
-    | inr x ↦ elim x [ inl e ↦ absurd cc | inr y ↦ absurd y ]
-  ];
-  named = λ other b. own.all _ (inl (ap (λ (x : ActiveFail). what.Untrusted bank x) (against_once cause other bank image nv accepts a b)));
-}
+  due_distrusted : (cause : ActiveFail) (a : IsAgainst cause bank image nv accepts)
+      → RecoveryFound (Untrusted cause) recovery bank image nv accepts → Own (Untrusted cause)
+      → (w : LockWhy) → IsDue w bank image nv accepts → IsNoted notes (what.Locked bank w counts)
+  due_distrusted cause a r own why.Unprovisioned h = absurd (not_unset nv a.fuses a.provisioned h.0)
+  due_distrusted cause a r own why.SlotsSpent h = absurd (not_unset nv a.fuses a.provisioned h.0)
+  due_distrusted cause a r own why.FlashFault h = absurd h
+  due_distrusted cause a r own why.StoreFault h = absurd h
+  due_distrusted cause a r own (why.Layout rule) h = absurd (misplaced_valid rule bank image nv a.fuses h a.provisioned a.layout)
+  due_distrusted cause a r own why.NotRestored h =
+      own.all _ (inr (inl (ap (λ (x : LockWhy). what.Locked bank x counts) (lock_restored bank image nv accepts recovery cause r h.1))))
+  due_distrusted cause a r own (why.NoGoodImage active bad) h =
+      own.all _ (inr (inl (ap (λ (x : LockWhy). what.Locked bank x counts) (lock_named bank image nv accepts recovery cause active bad r a h.0 h.1))))
 
-due_trusted : (bank : Bank) (image nv : List ℕ) (accepts : Acceptance) → IsTrusted image nv bank accepts → (w : LockWhy) → ¬ IsDue w bank image nv accepts
-due_trusted bank image nv accepts t why.Unprovisioned h = not_unset nv t.fuses t.provisioned h.0
-due_trusted bank image nv accepts t why.SlotsSpent h = not_unset nv t.fuses t.provisioned h.0
-due_trusted bank image nv accepts t why.FlashFault h = h
-due_trusted bank image nv accepts t why.StoreFault h = h
-due_trusted bank image nv accepts t (why.Layout rule) h = misplaced_valid rule bank image nv t.fuses h t.provisioned t.layout
-due_trusted bank image nv accepts t why.NotRestored h = h.distrusted t
+  when_distrusted : (cause : ActiveFail) (a : IsAgainst cause bank image nv accepts)
+      → RecoveryFound (Untrusted cause) recovery bank image nv accepts → Own (Untrusted cause)
+      → BringsUp bank image nv accepts counts notes
+  when_distrusted cause a r own = record {
+    held = own.held;
+    released = λ svn at n. elim (own.only (what.Released bank svn at) refl n) [ inl e ↦ absurd cc | inr x ↦ elim x [ inl e ↦ absurd cc | inr y ↦ absurd y ] ];
+    trusted = λ t. absurd (against_trusted cause bank image nv accepts a t);
+    locked = λ w at n. elim (own.only (what.Locked bank w at) refl n) [
+      | inl e ↦ absurd cc
+      | inr x ↦ elim x [
+        | inl e ↦ (let s = same_lock bank (lock_of cause recovery) w counts at e in
+            (s.1, subst (λ (v : LockWhy). IsDue v bank image nv accepts) s.0 (lock_due bank image nv accepts recovery cause a r)))
+        | inr y ↦ absurd y
+      ]
+    ];
+    due = due_distrusted cause a r own;
+    distrusted = λ other n. elim (own.only (what.Untrusted bank other) refl n) [
+      | inl e ↦ subst (λ (x : ActiveFail). IsAgainst x bank image nv accepts) (same_cause bank cause other e) a
+      | inr x ↦ elim x [ inl e ↦ absurd cc | inr y ↦ absurd y ]
+    ];
+    named = λ other b. own.all _ (inl (ap (λ (x : ActiveFail). what.Untrusted bank x) (against_once cause other bank image nv accepts a b)));
+  }
 
-when_trusted : (item : ℕ) (bank : Bank) (image nv : List ℕ) (accepts : Acceptance) (counts : Counts) (notes : List Note) (svn : ℕ) (t : IsTrusted image nv bank accepts) → t.manifest.svn ≡ svn
-    → HasOwn item bank counts (Trusted svn) notes → BringsUp bank image nv accepts counts notes
-when_trusted item bank image nv accepts counts notes svn t is own = record {
-  held = own.held;
-  released = λ other at n. elim (own.only (what.Released bank other at) refl n) [
-    | inl e ↦ (let s = same_release bank svn other counts at e in (s.1, (t, is ∙ s.0)))
-    | inr x ↦ absurd x
-  ];
-  trusted = λ u. own.all _ (inl (ap (λ (n : ℕ). what.Released bank n counts) (sym is ∙ trusted_once bank image nv accepts t u)));
-  locked = λ w at n. elim (own.only (what.Locked bank w at) refl n) [ inl e ↦ absurd cc | inr x ↦ absurd x ];
-  due = λ w h. absurd (due_trusted bank image nv accepts t w h);
-  distrusted = λ cause n. elim (own.only (what.Untrusted bank cause) refl n) [ inl e ↦ absurd cc | inr x ↦ absurd x ];
-  named = λ cause a. absurd (against_trusted cause bank image nv accepts a t);
-}
+  due_trusted : IsTrusted image nv bank accepts → (w : LockWhy) → ¬ IsDue w bank image nv accepts
+  due_trusted t why.Unprovisioned h = not_unset nv t.fuses t.provisioned h.0
+  due_trusted t why.SlotsSpent h = not_unset nv t.fuses t.provisioned h.0
+  due_trusted t why.FlashFault h = h
+  due_trusted t why.StoreFault h = h
+  due_trusted t (why.Layout rule) h = misplaced_valid rule bank image nv t.fuses h t.provisioned t.layout
+  due_trusted t why.NotRestored h = h.0.distrusted t
+  due_trusted t (why.NoGoodImage active bad) h = against_trusted active bank image nv accepts h.0 t
 
-brings_up : (item : ℕ) (bank : Bank) (image nv : List ℕ) (accepts : Acceptance) (counts : Counts) (notes : List Note) (authentication : Authentication)
-    → Found bank image nv accepts authentication → HasOwn item bank counts authentication notes → BringsUp bank image nv accepts counts notes
-brings_up item bank image nv accepts counts notes Unprovisioned (unset u b) own = when_unset item bank image nv accepts counts notes u b own
-brings_up item bank image nv accepts counts notes SlotsSpent (spent u b) own = when_spent item bank image nv accepts counts notes u b own
-brings_up item bank image nv accepts counts notes (BadLayout rule) (misplaced m) own = when_misplaced item bank image nv accepts counts notes rule m own
-brings_up item bank image nv accepts counts notes (Untrusted cause) (distrusted a) own = when_distrusted item bank image nv accepts counts notes cause a own
-brings_up item bank image nv accepts counts notes (Trusted svn) (trusted t is) own = when_trusted item bank image nv accepts counts notes svn t is own
+  when_trusted : (svn : ℕ) (t : IsTrusted image nv bank accepts) → t.manifest.svn ≡ svn → Own (Trusted svn)
+      → BringsUp bank image nv accepts counts notes
+  when_trusted svn t is own = record {
+    held = own.held;
+    released = λ other at n. elim (own.only (what.Released bank other at) refl n) [
+      | inl e ↦ (let s = same_release bank svn other counts at e in (s.1, (t, is ∙ s.0)))
+      | inr x ↦ absurd x
+    ];
+    trusted = λ u. own.all _ (inl (ap (λ (n : ℕ). what.Released bank n counts) (sym is ∙ trusted_once bank image nv accepts t u)));
+    locked = λ w at n. elim (own.only (what.Locked bank w at) refl n) [ inl e ↦ absurd cc | inr x ↦ absurd x ];
+    due = λ w h. absurd (due_trusted t w h);
+    distrusted = λ cause n. elim (own.only (what.Untrusted bank cause) refl n) [ inl e ↦ absurd cc | inr x ↦ absurd x ];
+    named = λ cause a. absurd (against_trusted cause bank image nv accepts a t);
+  }
+
+  brings_up : (a : Authentication) → Found bank image nv accepts a → RecoveryFound a recovery bank image nv accepts → Own a
+      → BringsUp bank image nv accepts counts notes
+  brings_up Unprovisioned (unset u b) r own = when_unset u b own
+  brings_up SlotsSpent (spent u b) r own = when_spent u b own
+  brings_up (BadLayout rule) (misplaced m) r own = when_misplaced rule m own
+  brings_up (Untrusted cause) (distrusted a) r own = when_distrusted cause a r own
+  brings_up (Trusted svn) (trusted t is) r own = when_trusted svn t is own
 
 -- ---- what a bank's part of a power-on adds
-conclusion_story : (b : Bank) (a : Authentication) (story : Story) → after (concluded b a) story ≡ record story { notes = story.notes ++ found_notes story.item b (counts_of story) a }
-conclusion_story b Unprovisioned story = refl
-conclusion_story b SlotsSpent story = refl
-conclusion_story b (BadLayout rule) story = refl
-conclusion_story b (Untrusted cause) story =
+conclusion_story : (b : Bank) (recovery : Option CapsuleFail) (a : Authentication) (story : Story)
+    → after (concluded b recovery a) story ≡ record story { notes = story.notes ++ found_notes story.item b (counts_of story) recovery a }
+conclusion_story b recovery Unprovisioned story = refl
+conclusion_story b recovery SlotsSpent story = refl
+conclusion_story b recovery (BadLayout rule) story = refl
+conclusion_story b recovery (Untrusted cause) story =
     let first : Note = record { item = story.item; what = what.Untrusted b cause } in
-    let second : Note = record { item = story.item; what = what.Locked b why.NotRestored (counts_of story) } in
+    let second : Note = record { item = story.item; what = what.Locked b (lock_of cause recovery) (counts_of story) } in
     ap (λ (notes : List Note). record story { notes = notes }) (append_assoc story.notes (first ∷ []) (second ∷ []))
-conclusion_story b (Trusted svn) story = refl
+conclusion_story b recovery (Trusted svn) story = refl
 
 -- these notes were added, which decide of no bank but this one, and nothing else changed
 pub record Bystands (b : Bank) (old new : Story) : Type 0 where
@@ -223,20 +259,31 @@ pub record Bystands (b : Bank) (old new : Story) : Type 0 where
   pub is : new ≡ record old { notes = old.notes ++ more }
   pub own : (that : What) (one : Bank) → decided that ≡ Some one → IsNoted more that → one ≡ b
 
+-- what is noted of a bank that is brought up in this story
+abbrev pub own_notes : Acceptance → Bank → Story → List Note
+own_notes accepts b story =
+    record { item = story.item; what = what.Held b (counts_of story) } ∷
+    found_notes story.item b (counts_of story) (recovery_at accepts b story) (authentication_at accepts b story)
+
 -- what was found of the bank was noted, and nothing else changed
 pub record BroughtUp (accepts : Acceptance) (b : Bank) (old new : Story) : Type 0 where
   pub found : Found b (image_at (device_of b) old) (image_at device.Nv old) accepts (authentication_at accepts b old)
-  pub is : new ≡ record old { notes = old.notes ++ (record { item = old.item; what = what.Held b (counts_of old) } ∷ found_notes old.item b (counts_of old) (authentication_at accepts b old)) }
+  pub recovery : RecoveryFound (authentication_at accepts b old) (recovery_at accepts b old) b
+      (image_at (device_of b) old) (image_at device.Nv old) accepts
+  pub is : new ≡ record old { notes = old.notes ++ own_notes accepts b old }
 
 brought_crossed : (accepts : Acceptance) (b : Bank) (old new : World) → Crosses (bank_stretch accepts b) old new → BroughtUp accepts b (story_of old) (story_of new)
 brought_crossed accepts b old new p =
     let story = story_of old in
     let a = authentication_at accepts b story in
+    let recovery = recovery_at accepts b story in
     let note : Note = record { item = story.item; what = what.Held b (counts_of story) } in
     record {
-      found = found b (image_at (device_of b) story) (image_at device.Nv story) accepts p.shown;
-      is = p.ran.is ∙ conclusion_story b a (noted (what.Held b) story)
-          ∙ ap (λ (notes : List Note). record story { notes = notes }) (append_assoc story.notes (note ∷ []) (found_notes story.item b (counts_of story) a));
+      found = found b (image_at (device_of b) story) (image_at device.Nv story) accepts p.shown.active;
+      recovery = recovery_found b (image_at (device_of b) story) (image_at device.Nv story) accepts a recovery refl p.shown.recovery;
+      is = p.ran.is ∙ conclusion_story b recovery a (noted (what.Held b) story)
+          ∙ ap (λ (notes : List Note). record story { notes = notes })
+          (append_assoc story.notes (note ∷ []) (found_notes story.item b (counts_of story) recovery a));
     }
 
 same_some : (one other : Bank) → Some one ≡ Some other → one ≡ other
@@ -244,25 +291,32 @@ same_some one other e = cc
 
 stands_crossed : (accepts : Acceptance) (b : Bank) (old new : Story) → BroughtUp accepts b old new → Bystands b old new
 stands_crossed accepts b old new p = record {
-  more = record { item = old.item; what = what.Held b (counts_of old) } ∷ found_notes old.item b (counts_of old) (authentication_at accepts b old);
+  more = own_notes accepts b old;
   is = p.is;
   own = λ that one d n. elim n [
     | inl e ↦ absurd (let never : None ≡ Some one = ap decided e ∙ d in cc)
-    | inr m ↦ same_some one b (sym d ∙ of_bank old.item b (counts_of old) (authentication_at accepts b old) that m)
+    | inr m ↦ same_some one b (sym d ∙ of_bank old.item b (counts_of old) (recovery_at accepts b old) (authentication_at accepts b old) that m)
   ];
 }
 
 -- a bank whose device, or the store, failed
-few_notes : (b : Bank) (trace : List Move) (old : Story) → ((trace ≡ []) ⊎ (trace ≡ Says (what.Held b) ∷ [])) → Bystands b old (after trace old)
-few_notes b trace old (inl e) = record {
-  more = [];
-  is = subst (λ (ms : List Move). after ms old ≡ record old { notes = old.notes ++ [] }) (sym e) (ap (λ (notes : List Note). record old { notes = notes }) (sym (append-nil old.notes)));
-  own = λ that one d n. absurd n;
-}
-few_notes b trace old (inr e) = record {
+held_stands : (b : Bank) (old : Story) → Bystands b old (noted (what.Held b) old)
+held_stands b old = record {
   more = record { item = old.item; what = what.Held b (counts_of old) } ∷ [];
-  is = subst (λ (ms : List Move). after ms old ≡ record old { notes = old.notes ++ record { item = old.item; what = what.Held b (counts_of old) } ∷ [] }) (sym e) refl;
+  is = refl;
   own = λ that one d n. elim n [ inl f ↦ absurd (let never : None ≡ Some one = ap decided f ∙ d in cc) | inr x ↦ absurd x ];
+}
+
+distrust_stands : (b : Bank) (a : Authentication) (old : Story) → Bystands b old (after (untrusted_moves b a) old)
+distrust_stands b (Untrusted cause) old = record {
+  more = record { item = old.item; what = what.Untrusted b cause } ∷ [];
+  is = refl;
+  own = λ that one d n. elim n [ inl e ↦ same_some one b (sym d ∙ ap decided (sym e)) | inr x ↦ absurd x ];
+}
+distrust_stands b _ old = record {
+  more = [];
+  is = ap (λ (notes : List Note). record old { notes = notes }) (sym (append-nil old.notes));
+  own = λ that one d n. absurd n;
 }
 
 stands_then : (b : Bank) (x y z : Story) → Bystands b x y → Bystands b y z → Bystands b x z
@@ -279,17 +333,17 @@ locked_stands b cause old = record {
   own = λ that one d n. elim n [ inl e ↦ same_some one b (sym d ∙ ap decided (sym e)) | inr x ↦ absurd x ];
 }
 
-few_made : (accepts : Acceptance) (b : Bank) (old new : World) (p : Faults (bank_stretch accepts b) old new) → (p.stopped.trace ≡ []) ⊎ (p.stopped.trace ≡ Says (what.Held b) ∷ [])
-few_made accepts b old new p =
-    let a = authentication_at accepts b (story_of old) in
-    let same = ap (λ (t : Story). length t.notes) p.stopped.is in
-    let h = p.early in
-    at_most_one p.which (what.Held b) (concluded b a) p.stopped.trace (story_of old) (concluded_says b a) p.stopped.cut (omega (arith, h, same))
+stopped_stands : (accepts : Acceptance) (b : Bank) (old at : Story) → StopsInCheck accepts b old at → Bystands b old at
+stopped_stands accepts b old at (inl is) = subst (λ (s : Story). Bystands b old s) (sym is) (held_stands b old)
+stopped_stands accepts b old at (inr is) =
+    let held = noted (what.Held b) old in
+    let a = authentication_at accepts b old in
+    subst (λ (s : Story). Bystands b old s) (sym is)
+    (stands_then b old held (after (untrusted_moves b a) held) (held_stands b old) (distrust_stands b a held))
 
 stands_faulted : (accepts : Acceptance) (b : Bank) (old new : World) → Faults (bank_stretch accepts b) old new → Bystands b (story_of old) (story_of new)
 stands_faulted accepts b old new p =
-    stands_then b (story_of old) (story_of p.at) (story_of new)
-    (subst (λ (s : Story). Bystands b (story_of old) s) (sym p.stopped.is) (few_notes b p.stopped.trace (story_of old) (few_made accepts b old new p)))
+    stands_then b (story_of old) (story_of p.at) (story_of new) (stopped_stands accepts b (story_of old) (story_of p.at) p.early)
     (subst (λ (s : Story). Bystands b (story_of p.at) s) (sym p.noted.is) (locked_stands b (fault_of p.which) (story_of p.at)))
 
 -- ---- notes that show a failed call
@@ -383,11 +437,12 @@ image_notes device.Nv story notes = refl
 abbrev LeavesAlone : Bank → List Note → Type 0
 LeavesAlone which notes = (that : What) → decided that ≡ Some which → ¬ IsNoted notes that
 
-middle_own : (which : Bank) (item : ℕ) (counts : Counts) (a : Authentication) (front back : List Note) → LeavesAlone which front → LeavesAlone which back
-    → HasOwn item which counts a (front ++ ((record { item = item; what = what.Held which counts } ∷ found_notes item which counts a) ++ back))
-middle_own which item counts a front back f g =
+middle_own : (which : Bank) (item : ℕ) (counts : Counts) (recovery : Option CapsuleFail) (a : Authentication) (front back : List Note)
+    → LeavesAlone which front → LeavesAlone which back
+    → HasOwn item which counts recovery a (front ++ ((record { item = item; what = what.Held which counts } ∷ found_notes item which counts recovery a) ++ back))
+middle_own which item counts recovery a front back f g =
     let held : Note = record { item = item; what = what.Held which counts } in
-    let mine = held ∷ found_notes item which counts a in
+    let mine = held ∷ found_notes item which counts recovery a in
     record {
       only = λ that d n. elim (noted_append front (mine ++ back) that n) [
         | inl m ↦ absurd (f that d m)
@@ -405,7 +460,8 @@ comes : (accepts : Acceptance) (which : Bank) (base front back : List Note) (x y
     → BringsUp which (image_at (device_of which) z) (image_at device.Nv z) accepts (counts_of z) (drop (length base) z.notes)
 comes accepts which base front back x y z p xs zs f g =
     let a = authentication_at accepts which x in
-    let mine = record { item = x.item; what = what.Held which (counts_of x) } ∷ found_notes x.item which (counts_of x) a in
+    let recovery = recovery_at accepts which x in
+    let mine = own_notes accepts which x in
     let is : z ≡ record x { notes = (x.notes ++ mine) ++ back } = zs ∙ ap (λ (s : Story). record s { notes = s.notes ++ back }) p.is in
     let image : image_at (device_of which) z ≡ image_at (device_of which) x = ap (λ (s : Story). image_at (device_of which) s) is ∙ image_notes (device_of which) x _ in
     let nv : image_at device.Nv z ≡ image_at device.Nv x = ap (λ (s : Story). image_at device.Nv s) is in
@@ -416,8 +472,8 @@ comes accepts which base front back x y z p xs zs f g =
     let dropped : drop (length base) z.notes ≡ front ++ (mine ++ back) =
     ap (λ (ns : List Note). drop (length base) ns) notes ∙ drop-append_seam base (front ++ (mine ++ back)) in
     rw (image, nv, counts, dropped)
-    (brings_up x.item which (image_at (device_of which) x) (image_at device.Nv x) accepts (counts_of x) (front ++ (mine ++ back)) a p.found
-    (middle_own which x.item (counts_of x) a front back f g))
+    (brings_up x.item which (image_at (device_of which) x) (image_at device.Nv x) accepts (counts_of x) recovery (front ++ (mine ++ back)) a p.found p.recovery
+    (middle_own which x.item (counts_of x) recovery a front back f g))
 
 ops_notes : (ops : List Operation) (story : Story) → (after (all_do device.Nv ops) story).notes ≡ story.notes
 ops_notes [] story = refl

@@ -30,6 +30,7 @@ use Rattle.pfr_script.specs.declared.event.Event.TheVariants as event
 use Rattle.pfr_report.specs.Texts.{IsNoted}
 use Rattle.pfr_report.specs.declared.note.LockWhy.TheVariants as why
 use Rattle.pfr_report.specs.declared.note.Note.{Note}
+use Rattle.pfr_report.specs.declared.note.ProvisionWhy.{ProvisionWhy}
 use Rattle.pfr_report.specs.declared.note.What.{What}
 use Rattle.pfr_report.specs.declared.note.What.TheVariants as what
 use Rattle.pfr_calm.specs.Story.{Past, Story, Move, Says, Does, after, moved_by, noted, operated, counts_of, all_do, IsCut, IsTornMove}
@@ -85,37 +86,34 @@ provisioned_so nv root m n number size slot j =
     let same : with.number ≡ number = one_slot (now new) with.number number with.by by in
     (by, ap (λ (k : ℕ). provision_in (slot_at (now new) k)) (sym same) ∙ with.provision)
 
--- ---- notes that say nothing of a provision that was done
-abbrev IsOther : What → Type 0
-IsOther what.Provisioned = ⊥
-IsOther _ = Unit {0}
+-- ---- notes that all say something
+-- so does each note of these moves
+abbrev pub AllSay : (What → Type 0) → List Move → Type 0
+AllSay P [] = Unit {0}
+AllSay P (Says w ∷ moves) = ((at : Counts) → P (w at)) × AllSay P moves
+AllSay P (Does which op ∷ moves) = AllSay P moves
 
-abbrev AreOther : List Move → Type 0
-AreOther [] = Unit {0}
-AreOther (Says w ∷ moves) = ((at : Counts) → IsOther (w at)) × AreOther moves
-AreOther (Does which op ∷ moves) = AreOther moves
-
--- none of the notes that were added says that
-record AddsOther (old new : Story) : Type 0 where
+-- so do all notes that were added
+pub record AddsOnly (P : What → Type 0) (old new : Story) : Type 0 where
   pub more : List Note
   pub is : new.notes ≡ old.notes ++ more
-  pub none : ¬ IsNoted more what.Provisioned
+  pub all : (that : What) → IsNoted more that → P that
 
-other_none : (old new : Story) → new.notes ≡ old.notes → AddsOther old new
-other_none old new e = record { more = []; is = e ∙ sym (append-nil old.notes); none = λ n. n }
+only_none : (P : What → Type 0) (old new : Story) → new.notes ≡ old.notes → AddsOnly P old new
+only_none P old new e = record { more = []; is = e ∙ sym (append-nil old.notes); all = λ that n. absurd n }
 
-other_then : (a b c : Story) → AddsOther a b → AddsOther b c → AddsOther a c
-other_then a b c p q = record {
+pub only_then : (P : What → Type 0) (a b c : Story) → AddsOnly P a b → AddsOnly P b c → AddsOnly P a c
+only_then P a b c p q = record {
   more = p.more ++ q.more;
   is = q.is ∙ ap (λ (ns : List Note). ns ++ q.more) p.is ∙ append_assoc a.notes p.more q.more;
-  none = λ n. elim (noted_append p.more q.more what.Provisioned n) [ inl m ↦ p.none m | inr m ↦ q.none m ];
+  all = λ that n. elim (noted_append p.more q.more that n) [ inl m ↦ p.all that m | inr m ↦ q.all that m ];
 }
 
-other_says : (w : Counts → What) (story : Story) → IsOther (w (counts_of story)) → AddsOther story (noted w story)
-other_says w story o = record {
+only_says : (P : What → Type 0) (w : Counts → What) (story : Story) → P (w (counts_of story)) → AddsOnly P story (noted w story)
+only_says P w story o = record {
   more = record { item = story.item; what = w (counts_of story) } ∷ [];
   is = refl;
-  none = λ n. elim n [ inl e ↦ subst IsOther e o | inr x ↦ x ];
+  all = λ that n. elim n [ inl e ↦ subst P e o | inr x ↦ absurd x ];
 }
 
 notes_operated : (which : Device) (op : Operation) (story : Story) → (operated which op story).notes ≡ story.notes
@@ -123,26 +121,45 @@ notes_operated device.Bmc op story = refl
 notes_operated device.Pch op story = refl
 notes_operated device.Nv op story = refl
 
-other_after : (moves : List Move) (story : Story) → AreOther moves → AddsOther story (after moves story)
-other_after [] story o = other_none story story refl
-other_after (Says w ∷ moves) story o = other_then story (noted w story) (after moves (noted w story)) (other_says w story (o.0 (counts_of story))) (other_after moves (noted w story) o.1)
-other_after (Does which op ∷ moves) story o =
-    other_then story (operated which op story) (after moves (operated which op story)) (other_none story (operated which op story) (notes_operated which op story)) (other_after moves (operated which op story) o)
+pub only_after : (P : What → Type 0) (moves : List Move) (story : Story) → AllSay P moves → AddsOnly P story (after moves story)
+only_after P [] story o = only_none P story story refl
+only_after P (Says w ∷ moves) story o =
+    only_then P story (noted w story) (after moves (noted w story)) (only_says P w story (o.0 (counts_of story))) (only_after P moves (noted w story) o.1)
+only_after P (Does which op ∷ moves) story o =
+    only_then P story (operated which op story) (after moves (operated which op story)) (only_none P story (operated which op story) (notes_operated which op story))
+    (only_after P moves (operated which op story) o)
 
-other_front : (a b : List Move) → AreOther (a ++ b) → AreOther a
-other_front [] b o = tt
-other_front (Says w ∷ a) b o = (o.0, other_front a b o.1)
-other_front (Does which op ∷ a) b o = other_front a b o
+say_front : (P : What → Type 0) (a b : List Move) → AllSay P (a ++ b) → AllSay P a
+say_front P [] b o = tt
+say_front P (Says w ∷ a) b o = (o.0, say_front P a b o.1)
+say_front P (Does which op ∷ a) b o = say_front P a b o
 
-other_append : (a b : List Move) → AreOther a → AreOther b → AreOther (a ++ b)
-other_append [] b o p = p
-other_append (Says w ∷ a) b o p = (o.0, other_append a b o.1 p)
-other_append (Does which op ∷ a) b o p = other_append a b o p
+pub say_append : (P : What → Type 0) (a b : List Move) → AllSay P a → AllSay P b → AllSay P (a ++ b)
+say_append P [] b o p = p
+say_append P (Says w ∷ a) b o p = (o.0, say_append P a b o.1 p)
+say_append P (Does which op ∷ a) b o p = say_append P a b o p
 
-other_cut : (which : Device) (moves trace : List Move) (story : Story) → AreOther moves → IsCut which moves story trace → AreOther trace
-other_cut which moves trace story o cut =
-    subst AreOther (sym cut.is) (other_append cut.front cut.last (other_front cut.front cut.left (subst AreOther cut.plan o))
-    (elim cut.end [ inl e ↦ subst AreOther (sym e) tt | inr t ↦ subst AreOther (sym t.is) tt ]))
+pub say_cut : (P : What → Type 0) (which : Device) (moves trace : List Move) (story : Story) → AllSay P moves → IsCut which moves story trace → AllSay P trace
+say_cut P which moves trace story o cut =
+    subst (AllSay P) (sym cut.is) (say_append P cut.front cut.last (say_front P cut.front cut.left (subst (AllSay P) cut.plan o))
+    (elim cut.end [ inl e ↦ subst (AllSay P) (sym e) tt | inr t ↦ subst (AllSay P) (sym t.is) tt ]))
+
+pub say_done : (P : What → Type 0) (plan : List Operation) → AllSay P (all_do device.Nv plan)
+say_done P [] = tt
+say_done P (op ∷ plan) = say_done P plan
+
+-- nothing of a provision that was done
+abbrev IsOther : What → Type 0
+IsOther what.Provisioned = ⊥
+IsOther _ = Unit {0}
+
+abbrev AddsOther : Story → Story → Type 0
+AddsOther old new = AddsOnly IsOther old new
+
+-- of a provision that was refused, the cause that was judged
+abbrev IsBacked : Result ℕ FuseFail → What → Type 0
+IsBacked judged (what.ProvisionRefused why) = (cause : FuseFail) × (judged ≡ Err cause) × (why ≡ refusal_of cause)
+IsBacked judged _ = Unit {0}
 
 -- ---- operations with one note behind them, cut short
 abbrev IsEnd : Device → Story → List Move → List Move → Type 0
@@ -197,7 +214,7 @@ module _ (root : RootSlot) where
       → WentThrough (story_of old) (story_of at) ⊎ AddsOther (story_of old) (story_of at)
   stopped_by (Err cause) which fail old at j p =
       inr (subst (λ (s : Story). AddsOther (story_of old) s) (sym p.is)
-      (other_after p.trace (story_of old) (other_cut which (provisioned_in root (Err cause)) p.trace (story_of old) (λ c. tt, tt) p.cut)))
+      (only_after IsOther p.trace (story_of old) (say_cut IsOther which (provisioned_in root (Err cause)) p.trace (story_of old) (λ c. tt, tt) p.cut)))
   stopped_by (Ok number) which fail old at j p =
       let cut = p.cut in
       let same : story_of at ≡ after cut.last (after cut.front (story_of old)) = p.is ∙ ap (λ (ms : List Move). after ms (story_of old)) cut.is ∙ after-append cut.front cut.last (story_of old) in
@@ -207,22 +224,22 @@ module _ (root : RootSlot) where
           judged = j;
           store = ap (λ (s : Story). s.nv) p.is ∙ ap (λ (ms : List Move). (after ms (story_of old)).nv) (cut.is ∙ h) ∙ whole_nv number (story_of old);
         })
-        | inr h ↦ inr (other_none (story_of old) (story_of at) (ap (λ (s : Story). s.notes) same ∙ h))
+        | inr h ↦ inr (only_none IsOther (story_of old) (story_of at) (ap (λ (s : Story). s.notes) same ∙ h))
       ]
 
-  then_says : (moves : List Move) (old at new : World) → AreOther moves → Ran moves at new → (story_of new).nv ≡ (story_of at).nv
+  then_says : (moves : List Move) (old at new : World) → AllSay IsOther moves → Ran moves at new → (story_of new).nv ≡ (story_of at).nv
       → WentThrough (story_of old) (story_of at) ⊎ AddsOther (story_of old) (story_of at) → WentThrough (story_of old) (story_of new) ⊎ AddsOther (story_of old) (story_of new)
   then_says moves old at new o r e (inl t) = inl (record { number = t.number; judged = t.judged; store = e ∙ t.store })
   then_says moves old at new o r e (inr q) =
-      inr (other_then (story_of old) (story_of at) (story_of new) q (subst (λ (s : Story). AddsOther (story_of at) s) (sym r.is) (other_after moves (story_of at) o)))
+      inr (only_then IsOther (story_of old) (story_of at) (story_of new) q (subst (λ (s : Story). AddsOther (story_of at) s) (sym r.is) (only_after IsOther moves (story_of at) o)))
 
   crossed_by : (r : Result ℕ FuseFail) (old new : World) → judged_here root (story_of old) ≡ r → Ran (provisioned_in root r) old new
       → WentThrough (story_of old) (story_of new) ⊎ AddsOther (story_of old) (story_of new)
   crossed_by (Ok number) old new j p = inl (record { number = number; judged = j; store = ap (λ (s : Story). s.nv) p.is ∙ whole_nv number (story_of old) })
   crossed_by (Err cause) old new j p =
-      inr (subst (λ (s : Story). AddsOther (story_of old) s) (sym p.is) (other_after (provisioned_in root (Err cause)) (story_of old) (λ c. tt, tt)))
+      inr (subst (λ (s : Story). AddsOther (story_of old) s) (sym p.is) (only_after IsOther (provisioned_in root (Err cause)) (story_of old) (λ c. tt, tt)))
 
-  locks_other : AreOther (Says (what.Locked bank.Bmc why.StoreFault) ∷ Says (what.Locked bank.Pch why.StoreFault) ∷ [])
+  locks_other : AllSay IsOther (Says (what.Locked bank.Bmc why.StoreFault) ∷ Says (what.Locked bank.Pch why.StoreFault) ∷ [])
   locks_other = (λ c. tt, (λ c. tt, tt))
 
   through_or_other : (old new : World) → Steps (provision_stretch root ∷ []) old new → WentThrough (story_of old) (story_of new) ⊎ AddsOther (story_of old) (story_of new)
@@ -235,6 +252,35 @@ module _ (root : RootSlot) where
   through_or_other old new (inr (inr l)) =
       then_says (lost l.which) old l.at new (λ c. tt, tt) l.noted (ap (λ (s : Story). s.nv) l.noted.is)
       (stopped_by (judged_here root (story_of old)) l.which Loses old l.at refl l.stopped)
+
+  -- ---- a refusal that was noted was judged
+  plan_backed : (r : Result ℕ FuseFail) → AllSay (IsBacked r) (provisioned_in root r)
+  plan_backed (Ok number) = say_append (IsBacked (Ok number)) (all_do device.Nv (provision_plan number root)) (Says (λ _. what.Provisioned) ∷ [])
+      (say_done (IsBacked (Ok number)) (provision_plan number root)) (λ c. tt, tt)
+  plan_backed (Err cause) = (λ c. (cause, refl, refl), tt)
+
+  backed_stopped : (r : Result ℕ FuseFail) (which : Device) (fail : FlashFail) (old at : World) → Stopped (provisioned_in root r) which fail old at
+      → AddsOnly (IsBacked r) (story_of old) (story_of at)
+  backed_stopped r which fail old at p =
+      subst (λ (s : Story). AddsOnly (IsBacked r) (story_of old) s) (sym p.is)
+      (only_after (IsBacked r) p.trace (story_of old) (say_cut (IsBacked r) which (provisioned_in root r) p.trace (story_of old) (plan_backed r) p.cut))
+
+  backed_ran : (r : Result ℕ FuseFail) (moves : List Move) (old new : World) → AllSay (IsBacked r) moves → Ran moves old new → AddsOnly (IsBacked r) (story_of old) (story_of new)
+  backed_ran r moves old new o p = subst (λ (s : Story). AddsOnly (IsBacked r) (story_of old) s) (sym p.is) (only_after (IsBacked r) moves (story_of old) o)
+
+  backed : (old new : World) → Steps (provision_stretch root ∷ []) old new → AddsOnly (IsBacked (judged_here root (story_of old))) (story_of old) (story_of new)
+  backed old new (inl (mid, c, e)) =
+      let r = judged_here root (story_of old) in
+      subst (λ (s : Story). AddsOnly (IsBacked r) (story_of old) s) (sym e.is) (backed_ran r (provisioned_in root r) old mid (plan_backed r) c.ran)
+  backed old new (inr (inl (mid, f, e))) =
+      let r = judged_here root (story_of old) in
+      subst (λ (s : Story). AddsOnly (IsBacked r) (story_of old) s) (sym e.is)
+      (only_then (IsBacked r) (story_of old) (story_of f.at) (story_of mid) (backed_stopped r f.which Fault old f.at f.stopped)
+      (backed_ran r (Says (what.Locked bank.Bmc why.StoreFault) ∷ Says (what.Locked bank.Pch why.StoreFault) ∷ []) f.at mid (λ c. tt, (λ c. tt, tt)) f.noted))
+  backed old new (inr (inr l)) =
+      let r = judged_here root (story_of old) in
+      only_then (IsBacked r) (story_of old) (story_of l.at) (story_of new) (backed_stopped r l.which Loses old l.at l.stopped)
+      (backed_ran r (lost l.which) l.at new (λ c. tt, tt) l.noted)
 
   -- ---- what was noted
   module _ (accepts : Acceptance) (old new : World) (size : size_of old.nv ≡ 32768) (slot : IsSlot root) where
@@ -256,7 +302,14 @@ module _ (root : RootSlot) where
         → (number : ℕ) × (sizes_judged root old ≡ Ok number) × IsProvisionedBy (now new.nv) number × (provision_in (slot_at (now new.nv) number) ≡ root)
     done_by mid e (inl t) n = was_done mid e t
     done_by mid e (inr q) n =
-        absurd (q.none (subst (λ (ns : List Note). IsNoted ns what.Provisioned) (added_more q.more (q.is ∙ ap (λ (s : Story). s.notes ++ q.more) e)) n))
+        absurd (q.all what.Provisioned (subst (λ (ns : List Note). IsNoted ns what.Provisioned) (added_more q.more (q.is ∙ ap (λ (s : Story). s.notes ++ q.more) e)) n))
+
+    refused_by : (mid : World) → story_of mid ≡ story_of (next_item old) → AddsOnly (IsBacked (judged_here root (story_of mid))) (story_of mid) (story_of new) → (w : ProvisionWhy)
+        → IsNoted (added old new) (what.ProvisionRefused w) → (cause : FuseFail) × (sizes_judged root old ≡ Err cause) × (w ≡ refusal_of cause)
+    refused_by mid e q w n =
+        let back = q.all (what.ProvisionRefused w)
+        (subst (λ (ns : List Note). IsNoted ns (what.ProvisionRefused w)) (added_more q.more (q.is ∙ ap (λ (s : Story). s.notes ++ q.more) e)) n) in
+        (back.0, ap (λ (s : Story). judged_here root s) (sym e) ∙ back.1, back.2)
 
     -- a crossing notes what was judged
     crossing_notes : (r : Result ℕ FuseFail) (mid end : World) → story_of mid ≡ story_of (next_item old) → Ran (provisioned_in root r) mid end → story_of new ≡ story_of end
@@ -298,6 +351,7 @@ module _ (root : RootSlot) where
     tries mid e r = record {
       done = λ n. done_by mid e (through_or_other mid new r) n;
       all = λ number j calm. subst (λ (x : Result ℕ FuseFail). IsNoted (added old new) (outcome_of x)) j (judged_noted mid e r calm);
+      only = λ w n. refused_by mid e (backed mid new r) w n;
       refused = λ cause j calm. subst (λ (x : Result ℕ FuseFail). IsNoted (added old new) (outcome_of x)) j (judged_noted mid e r calm);
     }
 

@@ -246,7 +246,7 @@ module _ (accepts : Acceptance) (tears : List (List ℕ)) (items : List Item) (s
   run_safe : IsSafe accepts start end (story_of end)
   run_safe = safe_reached accepts start end tears items start end (IsLater-refl start) (IsLater-refl end) run (first_safe accepts start end start fresh)
 
-  -- In the spans in which a bank stands released it was trusted, and nothing that this reads was touched.
+  -- Throughout the spans in which a bank stands released it was trusted, and nothing that this reads was touched.
   pub Reached-spans : (which : Bank) → ReleasedSpans accepts which (story_of end)
   Reached-spans which = ReleasedSpans-kept accepts which (story_of end) (run_safe.kept which)
 

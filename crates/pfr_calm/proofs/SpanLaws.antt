@@ -13,14 +13,17 @@ use Rattle.pfr_fuses.specs.FusesState.{FusesState}
 use Rattle.pfr_fuses.specs.FusesOf.{fuses_of}
 use Rattle.pfr_fuses.specs.RootSlot.{layout_of}
 use Rattle.pfr_fuses.specs.declared.profile.Profile.TheVariants.{Two}
+use Rattle.pfr_auth.specs.Leaving.{LeavesImage, LeavesStore}
+use Rattle.pfr_auth.specs.Throughout.{between}
 use Rattle.pfr_auth.specs.Trusted.{IsTrusted}
+use Rattle.pfr_auth.proofs.LeavingLaw.{trusted_between}
 use Rattle.pfr_report.specs.declared.note.Note.{Note}
 use Rattle.pfr_report.specs.declared.note.What.{What}
 use Rattle.pfr_report.specs.declared.note.What.TheVariants as what
 use Rattle.pfr_calm.specs.Story.{Past, Story, Says, Does, counts_of, past_at, device_of, with_op, operated, noted, image_at}
 use Rattle.pfr_calm.specs.World.{World}
 use Rattle.pfr_calm.specs.Standing.{same_bank}
-use Rattle.pfr_calm.specs.Spans.{opens_after, closes, ended, opens_from, ended_from, upto, between, count_at, LeavesImage, LeavesStore, IsSpan, AllSpans, ReleasedSpans}
+use Rattle.pfr_calm.specs.Spans.{opens_after, closes, ended, opens_from, ended_from, upto, count_at, IsSpan, AllSpans, ReleasedSpans}
 use Rattle.pfr_calm.proofs.Traces.{Keeps}
 use Rattle.pfr_calm.proofs.Facts.{Setting, Fact, IsGood}
 
@@ -47,6 +50,23 @@ module _ (accepts : Acceptance) where
     pub image_left : All (LeavesImage (layout_of trusted.fuses.provision which) trusted.manifest) ops
     pub store_left : All (LeavesStore trusted.fuses which) store
 
+  -- what is so is a span: the trust lasts throughout
+  lasting : (which : Bank) (mine nv : Past) (begin end : Counts) → count_at which begin ≤ count_at which end → begin.nv ≤ end.nv
+      → count_at which end ≤ length mine.ops → end.nv ≤ length nv.ops
+      → Lasts which (upto mine (count_at which begin)) (upto nv begin.nv) (between (count_at which begin) (count_at which end) mine.ops) (between begin.nv end.nv nv.ops)
+      → IsSpan accepts which mine nv begin end
+  lasting which mine nv begin end forth forth_store done done_store is = record {
+    forth = forth;
+    forth_store = forth_store;
+    done = done;
+    done_store = done_store;
+    trusted = is.trusted;
+    image = is.image_left;
+    store = is.store_left;
+    throughout = trusted_between accepts which mine.start nv.start mine.ops nv.ops (count_at which begin) (count_at which end) begin.nv end.nv
+        is.trusted is.image_left is.store_left;
+  }
+
   -- ---- what is done after a span leaves it
   module _ (which : Bank) (mine more nv later : Past) (begin end : Counts) where
     same_span : more.start ≡ mine.start → later.start ≡ nv.start
@@ -66,22 +86,12 @@ module _ (accepts : Acceptance) where
         ap (λ (xs : List ℕ). play xs (take (count_at which begin) more.ops)) s ∙ ap (λ (ops : List Operation). play mine.start ops) b in
         let v : upto later begin.nv ≡ upto nv begin.nv =
         ap (λ (xs : List ℕ). play xs (take begin.nv later.ops)) t ∙ ap (λ (ops : List Operation). play nv.start ops) c in
-        let x : between (count_at which begin) (count_at which end) more ≡ between (count_at which begin) (count_at which end) mine =
+        let x : between (count_at which begin) (count_at which end) more.ops ≡ between (count_at which begin) (count_at which end) mine.ops =
         ap (λ (ops : List Operation). drop (count_at which begin) ops) e in
-        let y : between begin.nv end.nv later ≡ between begin.nv end.nv nv = ap (λ (ops : List Operation). drop begin.nv ops) f in
-        let was : Lasts which (upto mine (count_at which begin)) (upto nv begin.nv) (between (count_at which begin) (count_at which end) mine) (between begin.nv end.nv nv) =
+        let y : between begin.nv end.nv later.ops ≡ between begin.nv end.nv nv.ops = ap (λ (ops : List Operation). drop begin.nv ops) f in
+        let was : Lasts which (upto mine (count_at which begin)) (upto nv begin.nv) (between (count_at which begin) (count_at which end) mine.ops) (between begin.nv end.nv nv.ops) =
         record { trusted = p.trusted; image_left = p.image; store_left = p.store } in
-        let is : Lasts which (upto more (count_at which begin)) (upto later begin.nv) (between (count_at which begin) (count_at which end) more) (between begin.nv end.nv later) =
-        rw (u, v, x, y) was in
-        record {
-          forth = p.forth;
-          forth_store = p.forth_store;
-          done = omega (arith, p.done, m);
-          done_store = omega (arith, p.done_store, n);
-          trusted = is.trusted;
-          image = is.image_left;
-          store = is.store_left;
-        }
+        lasting which more later begin end p.forth p.forth_store (omega (arith, p.done, m)) (omega (arith, p.done_store, n)) (rw (u, v, x, y) was)
 
   longer : (mine : Past) (op : Operation) → length mine.ops ≤ length (with_op mine op).ops
   longer mine op = omega (arith, length-append mine.ops (op ∷ []))
@@ -104,18 +114,8 @@ module _ (accepts : Acceptance) where
       let f : take here.nv nv.ops ≡ nv.ops = take_all here.nv nv.ops (omega (arith, n)) in
       let c : drop (count_at which here) mine.ops ≡ [] = drop_of_length-le mine.ops (omega (arith, m)) in
       let d : drop here.nv nv.ops ≡ [] = drop_of_length-le nv.ops (omega (arith, n)) in
-      let is : Lasts which (play mine.start (take (count_at which here) mine.ops)) (play nv.start (take here.nv nv.ops))
-      (drop (count_at which here) (take (count_at which here) mine.ops)) (drop here.nv (take here.nv nv.ops)) =
-      rw (e, f, c, d) (record { trusted = t; image_left = λ k d h. absurd (omega (arith, h)); store_left = λ k d h. absurd (omega (arith, h)) }) in
-      record {
-        forth = omega arith;
-        forth_store = omega arith;
-        done = omega (arith, m);
-        done_store = omega (arith, n);
-        trusted = is.trusted;
-        image = is.image_left;
-        store = is.store_left;
-      }
+      lasting which mine nv here here (omega arith) (omega arith) (omega (arith, m)) (omega (arith, n))
+      (rw (e, f, c, d) (record { trusted = t; image_left = λ k d h. absurd (omega (arith, h)); store_left = λ k d h. absurd (omega (arith, h)) }))
 
   -- ---- all spans
   spans_map : (which : Bank) (mine more nv later : Past) → ((b e : Counts) → IsSpan accepts which mine nv b e → IsSpan accepts which more later b e)

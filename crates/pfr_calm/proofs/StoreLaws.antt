@@ -22,7 +22,7 @@ use Rattle.pfr_report.specs.declared.note.What.TheVariants as what
 use Rattle.pfr_calm.specs.Story.{Past, Story, Move, Says, Does, after, moved_by, operated, image_at, all_do, IsTornMove}
 use Rattle.pfr_calm.specs.World.{World, story_of}
 use Rattle.pfr_calm.specs.Goes.{Ran, Stopped}
-use Rattle.pfr_calm.specs.Plans.{authentication_at, migration_in, provisioned_in, refusal_of}
+use Rattle.pfr_calm.specs.Plans.{authentication_at, recovery_at, migration_in, provisioned_in, refusal_of}
 use Rattle.pfr_calm.specs.Course.{Stretch, goes_on_if, Steps, lost}
 use Rattle.pfr_calm.specs.Standing.{standing_of, is_off}
 use Rattle.pfr_calm.specs.Turn.{bank_stretch, provision_stretch, bank_stretches, power_stretches, off_course, ignored, provision_course, where_off, Follows, next_item, Turn}
@@ -168,7 +168,10 @@ AllOnlySay [] = Unit {0}
 AllOnlySay (s ∷ ss) = OnlySays s × AllOnlySay ss
 
 bank_says : (accepts : Acceptance) (b : Bank) → OnlySays (bank_stretch accepts b)
-bank_says accepts b = record { plan = λ story. concluded_says b (authentication_at accepts b story); fault = λ which. tt }
+bank_says accepts b = record {
+  plan = λ story. concluded_says b (recovery_at accepts b story) (authentication_at accepts b story);
+  fault = λ which. tt;
+}
 
 same_on : (on : Bool) (steps : World → World → Type 0) (mid new : World) → (steps mid new → (story_of new).nv ≡ (story_of mid).nv) → goes_on_if on steps mid new → (story_of new).nv ≡ (story_of mid).nv
 same_on true steps mid new f r = f r

@@ -1,5 +1,5 @@
 -- What is known of the notes and operations of each stretch.
-use Rattle.std.proofs.Common.{◌≡◌, ◌∙◌, refl, sym, ap, subst, ℕ, ◌+◌, ◌<◌, ◌≤◌, arith, true, false, List, [], ◌∷◌, length, Result, Ok, Err, ◌⊎◌, inl, inr}
+use Rattle.std.proofs.Common.{◌≡◌, ◌∙◌, refl, ap, ℕ, ◌+◌, ◌<◌, ◌≤◌, arith, true, false, List, [], ◌∷◌, length, Result, Ok, Err, ◌⊎◌, inl, inr}
 use Rattle.std.proofs.lemmas.Bool.{cases_Bool}
 use Rattle.pfr_flash.specs.FlashState.{FlashState, Rose}
 use Rattle.pfr_flash.specs.Moved.{Moved, was_done}
@@ -15,15 +15,15 @@ use Rattle.pfr_fuses.specs.declared.root_slot.RootSlot.{RootSlot}
 use Rattle.pfr_report.specs.declared.note.LockWhy.TheVariants as why
 use Rattle.pfr_report.specs.declared.note.Note.{Note}
 use Rattle.pfr_report.specs.declared.note.What.TheVariants as what
-use Rattle.pfr_calm.specs.Story.{Story, Move, Says, after, noted, device_of, image_at, all_do, IsCut}
+use Rattle.pfr_calm.specs.Story.{Story, Says, noted, device_of, image_at, all_do}
 use Rattle.pfr_calm.specs.World.{World, story_of, state_at, AllMoved, LostAt}
-use Rattle.pfr_calm.specs.Plans.{authentication_at, concluded, brought_up, migration_in, migrated, provisioned_in, provisioned}
+use Rattle.pfr_calm.specs.Plans.{authentication_at, recovery_at, distrusted, brought_up, migration_in, migrated, provisioned_in, provisioned}
 use Rattle.pfr_calm.specs.Course.{Crosses, Faults, LosesPower, lost}
-use Rattle.pfr_calm.specs.Turn.{fault_of, is_store, bank_or_store, bank_stretch, fuse_stretch, provision_stretch, unreadable}
+use Rattle.pfr_calm.specs.Turn.{fault_of, is_store, bank_or_store, StopsInCheck, bank_stretch, fuse_stretch, provision_stretch, unreadable}
 use Rattle.pfr_calm.proofs.Sequence.{Moved-at}
 use Rattle.pfr_calm.proofs.Traces.{AllGood, AllGood-append, AllGood-cut, Traced, Traced-then, Traced-ran, Traced-stopped, image_noted}
-use Rattle.pfr_calm.proofs.Findings.{found}
-use Rattle.pfr_calm.proofs.Facts.{Setting, IsGood, good_torn, ops_good, conclusion_good, concluded_says, at_most_one, says_nv, IsLater, IsLater-trans}
+use Rattle.pfr_calm.proofs.Findings.{found, recovery_found}
+use Rattle.pfr_calm.proofs.Facts.{Setting, IsGood, good_torn, ops_good, conclusion_good, distrust_good, concluded_says, distrusted_says, says_nv, IsLater, IsLater-trans}
 
 -- ---- what calls do never lets faults or losses fall
 losses_moved : (old new : FlashState) → Moved old new → old.losses ≤ new.losses
@@ -81,60 +81,64 @@ unreadable_good s story r = (refl, ((refl, r), (refl, ((refl, r), tt))))
 
 -- ---- a bank is brought up
 module _ (s : Setting) (b : Bank) where
-  held_good : (story : Story) → AllGood (IsGood s) (Says (what.Held b) ∷ []) story
-  held_good story = (refl, tt)
-
-  few_good : (trace : List Move) (story : Story) → ((trace ≡ []) ⊎ (trace ≡ Says (what.Held b) ∷ [])) → AllGood (IsGood s) trace story
-  few_good trace story (inl e) = subst (λ (ms : List Move). AllGood (IsGood s) ms story) (sym e) tt
-  few_good trace story (inr e) = subst (λ (ms : List Move). AllGood (IsGood s) ms story) (sym e) (held_good story)
-
-  few_nv : (trace : List Move) (story : Story) → ((trace ≡ []) ⊎ (trace ≡ Says (what.Held b) ∷ [])) → (after trace story).nv ≡ story.nv
-  few_nv trace story (inl e) = rw e refl
-  few_nv trace story (inr e) = rw e refl
-
-  -- no more was made than one note, where a call failed
-  early : (which : Device) (old at : World) (trace : List Move) → IsCut which (brought_up s.accepts b (story_of old)) (story_of old) trace → story_of at ≡ after trace (story_of old)
-      → length at.notes.list ≤ length old.notes.list + 1 → (trace ≡ []) ⊎ (trace ≡ Says (what.Held b) ∷ [])
-  early which old at trace cut is h =
-      let a = authentication_at s.accepts b (story_of old) in
-      let same = ap (λ (t : Story). length t.notes) is in
-      at_most_one which (what.Held b) (concluded b a) trace (story_of old) (concluded_says b a) cut (omega (arith, h, same))
-
   pub record Brought (old new : World) : Type 0 where
     pub traced : Traced (IsGood s) old new
     pub store : (story_of new).nv ≡ (story_of old).nv
+
+  -- where a call failed, it was held, and its image may have been called untrusted
+  pub bank_stopped : (old at : World) → AllMoved old at → StopsInCheck s.accepts b (story_of old) (story_of at) → Brought old at
+  bank_stopped old at moved (inl is) = record {
+    traced = record { trace = Says (what.Held b) ∷ []; is = is; good = (refl, tt); moved = moved };
+    store = ap (λ (t : Story). t.nv) is;
+  }
+  bank_stopped old at moved (inr is) =
+      let story = story_of old in
+      let a = authentication_at s.accepts b story in
+      record {
+        traced = record {
+          trace = Says (what.Held b) ∷ distrusted b a;
+          is = is;
+          good = (
+            refl,
+            distrust_good s b (image_at (device_of b) story) (image_at device.Nv story) a (noted (what.Held b) story) refl
+                (image_noted (device_of b) (what.Held b) story) refl,
+          );
+          moved = moved;
+        };
+        store = ap (λ (t : Story). t.nv) is ∙ says_nv (distrusted b a) (noted (what.Held b) story) (distrusted_says b a);
+      }
 
   pub bank_crossed : (old new : World) → s.Fits (image_at device.Nv (story_of old)) → Crosses (bank_stretch s.accepts b) old new → Brought old new
   bank_crossed old new fits p =
       let story = story_of old in
       let a = authentication_at s.accepts b story in
-      let f = found b (image_at (device_of b) story) (image_at device.Nv story) s.accepts p.shown in
+      let recovery = recovery_at s.accepts b story in
+      let f = found b (image_at (device_of b) story) (image_at device.Nv story) s.accepts p.shown.active in
+      let r = recovery_found b (image_at (device_of b) story) (image_at device.Nv story) s.accepts a recovery refl p.shown.recovery in
       record {
         traced = Traced-ran (IsGood s) (brought_up s.accepts b story) old new p.ran (
           refl,
-          conclusion_good s b (image_at (device_of b) story) (image_at device.Nv story) a (noted (what.Held b) story) f fits
+          conclusion_good s b (image_at (device_of b) story) (image_at device.Nv story) recovery a (noted (what.Held b) story) f r fits
               (image_noted (device_of b) (what.Held b) story) refl,
         );
-        store = ap (λ (t : Story). t.nv) p.ran.is ∙ says_nv (brought_up s.accepts b story) story (concluded_says b a);
+        store = ap (λ (t : Story). t.nv) p.ran.is ∙ says_nv (brought_up s.accepts b story) story (concluded_says b recovery a);
       }
 
   pub bank_faulted : (old new : World) → Between s old new → Faults (bank_stretch s.accepts b) old new → Brought old new
   bank_faulted old new within p =
-      let few = early p.which old p.at p.stopped.trace p.stopped.cut p.stopped.is p.early in
-      let first = Traced-stopped (IsGood s) (brought_up s.accepts b (story_of old)) p.which Fault old p.at p.stopped (few_good p.stopped.trace (story_of old) few) in
+      let first = bank_stopped old p.at p.stopped.moved p.early in
       let rose = rose_between s p.which old p.at (between_front s old p.at new p.noted.moved within) p.stopped.cause.0 in
       record {
-        traced = Traced-then (IsGood s) old p.at new first
+        traced = Traced-then (IsGood s) old p.at new first.traced
             (Traced-ran (IsGood s) (Says (what.Locked b (fault_of p.which)) ∷ []) p.at new p.noted (lock_good s b p.which (story_of p.at) p.called rose));
-        store = ap (λ (t : Story). t.nv) p.noted.is ∙ ap (λ (t : Story). t.nv) p.stopped.is ∙ few_nv p.stopped.trace (story_of old) few;
+        store = ap (λ (t : Story). t.nv) p.noted.is ∙ first.store;
       }
 
   pub bank_lost : (old new : World) → Between s old new → LosesPower (bank_stretch s.accepts b) old new → Traced (IsGood s) old new
   bank_lost old new within p =
-      let few = early p.which old p.at p.stopped.trace p.stopped.cut p.stopped.is p.early in
-      let first = Traced-stopped (IsGood s) (brought_up s.accepts b (story_of old)) p.which Loses old p.at p.stopped (few_good p.stopped.trace (story_of old) few) in
+      let first = bank_stopped old p.at p.stopped.moved p.early in
       let fell = lost_between s p.which old p.at (between_front s old p.at new p.noted.moved within) p.stopped.cause in
-      Traced-then (IsGood s) old p.at new first (Traced-ran (IsGood s) (lost p.which) p.at new p.noted (lost_good s p.which (story_of p.at) fell))
+      Traced-then (IsGood s) old p.at new first.traced (Traced-ran (IsGood s) (lost p.which) p.at new p.noted (lost_good s p.which (story_of p.at) fell))
 
 -- ---- the fuses are migrated
 -- there is nothing to do, or it may be done

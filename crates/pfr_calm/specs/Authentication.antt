@@ -1,7 +1,8 @@
 -- What the contents of the devices say of a bank.
-use Rattle.std.specs.Prelude.{◌≡◌, ℕ, List, length, Result, Ok, Err}
+use Rattle.std.specs.Prelude.{◌≡◌, ℕ, List, length, Option, Some, None, Result, Ok, Err}
 use Rattle.pfr_flash.specs.Layout.{judge_layout}
 use Rattle.pfr_flash.specs.declared.names.Bank.{Bank}
+use Rattle.pfr_flash.specs.declared.layout.Layout.{Layout}
 use Rattle.pfr_flash.specs.declared.layout.LayoutRule.{LayoutRule}
 use Rattle.pfr_engine.specs.Acceptance.{Acceptance}
 use Rattle.pfr_fuses.specs.FusesState.{FusesState}
@@ -10,6 +11,10 @@ use Rattle.pfr_fuses.specs.RootSlot.{layout_of}
 use Rattle.pfr_fuses.specs.declared.fuse_fail.FuseFail.{FuseFail}
 use Rattle.pfr_fuses.specs.declared.fuse_fail.FuseFail.TheVariants as fuse
 use Rattle.pfr_manifest.specs.declared.manifest.Manifest.{Manifest}
+use Rattle.pfr_capsule.specs.CapsuleState.{CapsuleState}
+use Rattle.pfr_capsule.specs.Good.{IsGood}
+use Rattle.pfr_capsule.specs.Judge.{judge_capsule}
+use Rattle.pfr_capsule.specs.declared.fail.CapsuleFail.{CapsuleFail}
 use Rattle.pfr_auth.specs.Judge.{judge_active}
 use Rattle.pfr_auth.specs.Trusted.{IsTrusted}
 use Rattle.pfr_auth.specs.declared.fail.ActiveFail.{ActiveFail}
@@ -41,3 +46,42 @@ authentication_of bank image nv accepts = authentication_with bank image accepts
 abbrev pub IsBacked : Authentication → Bank → List ℕ → List ℕ → Acceptance → Type 0
 IsBacked (Trusted svn) bank image nv accepts = (t : IsTrusted image nv bank accepts) × (t.manifest.svn ≡ svn)
 IsBacked authentication bank image nv accepts = Unit {0}
+
+-- ---- the image that a bank would be restored from
+
+-- the judgement of what stands in a bank's recovery area
+abbrev pub judge_recovery : Bank → List ℕ → FusesState → Acceptance → Result CapsuleState CapsuleFail
+judge_recovery bank image fuses accepts =
+    let layout : Layout = layout_of fuses.provision bank in
+    judge_capsule image layout.recovery_at layout.area_len bank layout fuses accepts
+
+-- a good capsule stands in the bank's recovery area
+pub record HasGoodRecovery (bank : Bank) (image nv : List ℕ) (accepts : Acceptance) : Type 0 where
+  pub fuses : FusesState
+  pub provisioned : fuses_of nv ≡ Ok fuses
+  pub good : IsGood image (layout_of fuses.provision bank).recovery_at (layout_of fuses.provision bank).area_len nv bank accepts
+
+-- this is the first cause against what stands there
+pub record HasBadRecovery (cause : CapsuleFail) (bank : Bank) (image nv : List ℕ) (accepts : Acceptance) : Type 0 where
+  pub fuses : FusesState
+  pub provisioned : fuses_of nv ≡ Ok fuses
+  pub judged : judge_recovery bank image fuses accepts ≡ Err cause
+
+-- why a judgement refuses, where it does
+abbrev pub refusal_in : Result CapsuleState CapsuleFail → Option CapsuleFail
+refusal_in (Ok capsule) = None
+refusal_in (Err cause) = Some cause
+
+-- the first cause against a bank's recovery image, by the provision and the fuses; a bank without any isn't looked at
+abbrev pub recovery_with : Bank → List ℕ → Acceptance → Result FusesState FuseFail → Option CapsuleFail
+recovery_with bank image accepts (Ok fuses) = refusal_in (judge_recovery bank image fuses accepts)
+recovery_with bank image accepts (Err cause) = None
+
+-- What the contents of a bank and of the store say against the bank's recovery image, where they do.
+unfoldable pub recovery_of : Bank → List ℕ → List ℕ → Acceptance → Option CapsuleFail
+recovery_of bank image nv accepts = recovery_with bank image accepts (fuses_of nv)
+
+-- the recovery image of a bank that isn't trusted is good where nothing is said against it
+abbrev pub IsRestorable : Authentication → Option CapsuleFail → Bank → List ℕ → List ℕ → Acceptance → Type 0
+IsRestorable (Untrusted why) None bank image nv accepts = HasGoodRecovery bank image nv accepts
+IsRestorable authentication recovery bank image nv accepts = Unit {0}

@@ -1,13 +1,13 @@
 -- How a whole step goes: stretch by stretch, each of which a failed device call may cut short.
-use Rattle.std.specs.Prelude.{◌≡◌, ◌+◌, ◌≤◌, Bool, true, false, List, [], ◌∷◌, length, ◌⊎◌, Option, Some, None}
+use Rattle.std.specs.Prelude.{◌≡◌, Bool, true, false, List, [], ◌∷◌, ◌⊎◌, Option, Some, None}
 use Rattle.pfr_flash.specs.declared.names.Bank.{Bank}
 use Rattle.pfr_flash.specs.declared.names.Device.TheVariants as device
 use Rattle.pfr_engine.specs.Acceptance.{Acceptance}
 use Rattle.pfr_flash.specs.declared.flash.FlashFail.TheVariants.{Fault, Lost as Loses}
 use Rattle.pfr_flash.specs.declared.names.Device.{Device}
 use Rattle.pfr_report.specs.declared.note.What.TheVariants.{Lost}
-use Rattle.pfr_calm.specs.Authentication.{IsBacked}
-use Rattle.pfr_calm.specs.Plans.{authentication_at}
+use Rattle.pfr_calm.specs.Authentication.{IsBacked, IsRestorable}
+use Rattle.pfr_calm.specs.Plans.{authentication_at, recovery_at}
 use Rattle.pfr_calm.specs.Story.{Story, Move, Says, Plan, image_at, device_of}
 use Rattle.pfr_calm.specs.World.{World, story_of}
 use Rattle.pfr_calm.specs.Goes.{Ran, Stopped}
@@ -17,22 +17,24 @@ pub record Check : Type 0 where
   pub bank : Bank
   pub accepts : Acceptance
 
--- what is found to be trusted in these contents is
+-- what a check finds to be trusted in these contents is, and so is a recovery image good that it says nothing against
+pub record IsShown (check : Check) (story : Story) : Type 0 where
+  pub active : IsBacked (authentication_at check.accepts check.bank story) check.bank
+      (image_at (device_of check.bank) story) (image_at device.Nv story) check.accepts
+  pub recovery : IsRestorable (authentication_at check.accepts check.bank story) (recovery_at check.accepts check.bank story) check.bank
+      (image_at (device_of check.bank) story) (image_at device.Nv story) check.accepts
+
 abbrev pub Shown : Option Check → Story → Type 0
 Shown None story = Unit {0}
-Shown (Some check) story = IsBacked (authentication_at check.accepts check.bank story) check.bank
-    (image_at (device_of check.bank) story) (image_at device.Nv story) check.accepts
-
--- no more than Held was noted of a bank whose image is checked
-abbrev pub IsEarly : Option Check → World → World → Type 0
-IsEarly None old new = Unit {0}
-IsEarly (Some check) old new = length new.notes.list ≤ length old.notes.list + 1
+Shown (Some check) story = IsShown check story
 
 -- One stretch of a step.
-pub record Stretch : Type 0 where
+pub record Stretch : Type 1 where
   -- what is to be done, and the bank whose image is checked in it
   pub plan : Plan
   pub checks : Option Check
+  -- what was done from its beginning to where a call fails
+  pub stops : Story → Story → Type 0
   -- whether it calls this device
   pub calls : Device → Bool
   -- what is noted where a device answers Fault, in place of the rest, and whether the step goes on then
@@ -53,7 +55,7 @@ pub record Faults (stretch : Stretch) (old new : World) : Type 0 where
   pub called : stretch.calls which ≡ true
   pub at : World
   pub stopped : Stopped (stretch.plan (story_of old)) which Fault old at
-  pub early : IsEarly stretch.checks old at
+  pub early : stretch.stops (story_of old) (story_of at)
   pub noted : Ran (stretch.on_fault which) at new
 
 -- this device lost the power on the way, and this was noted
@@ -62,7 +64,7 @@ pub record LosesPower (stretch : Stretch) (old new : World) : Type 0 where
   pub called : stretch.calls which ≡ true
   pub at : World
   pub stopped : Stopped (stretch.plan (story_of old)) which Loses old at
-  pub early : IsEarly stretch.checks old at
+  pub early : stretch.stops (story_of old) (story_of at)
   pub noted : Ran (lost which) at new
 
 -- nothing more is done
@@ -93,7 +95,7 @@ CrossesOrFaults stretch old new = Crosses stretch old new ⊎ Faults stretch old
 pub record Halt (stretch : Stretch) (which : Device) (old new : World) : Type 0 where
   pub called : stretch.calls which ≡ true
   pub stopped : Stopped (stretch.plan (story_of old)) which Loses old new
-  pub early : IsEarly stretch.checks old new
+  pub early : stretch.stops (story_of old) (story_of new)
 
 abbrev pub Halts : List Stretch → Device → World → World → Type 0
 Halts [] which old new = ⊥

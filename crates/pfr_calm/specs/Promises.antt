@@ -24,9 +24,12 @@ use Rattle.pfr_report.specs.Texts.{IsNoted}
 use Rattle.pfr_report.specs.declared.note.LockWhy.{LockWhy}
 use Rattle.pfr_report.specs.declared.note.LockWhy.TheVariants as why
 use Rattle.pfr_report.specs.declared.note.Note.{Note}
+use Rattle.pfr_report.specs.declared.note.ProvisionWhy.{ProvisionWhy}
+use Rattle.pfr_report.specs.declared.note.What.{What}
 use Rattle.pfr_report.specs.declared.note.What.TheVariants.{Held, Released, Locked, Lost, Untrusted, Provisioned, ProvisionRefused, Ignored}
 use Rattle.pfr_calm.specs.Story.{counts_of, device_of}
-use Rattle.pfr_calm.specs.World.{World, story_of, state_at}
+use Rattle.pfr_calm.specs.World.{World, story_of, state_at, IsDark, IsOn, SameDevices}
+use Rattle.pfr_calm.specs.Authentication.{HasGoodRecovery, HasBadRecovery}
 use Rattle.pfr_calm.specs.Standing.{standing_of, is_off, Off}
 use Rattle.pfr_calm.specs.Plans.{refusal_of}
 use Rattle.pfr_calm.specs.Spans.{count_at}
@@ -65,6 +68,10 @@ pub record IsLast (device : Option Device) (at : Counts) (w : World) : Type 0 wh
 abbrev pub LostEnds : World → World → Type 0
 LostEnds old new = (device : Option Device) (at : Counts) → IsNoted (added old new) (Lost device at) → IsLast device at new
 
+-- No device has power once a loss of power is noted.
+abbrev pub LostIsDark : World → World → Type 0
+LostIsDark old new = (device : Option Device) (at : Counts) → IsNoted (added old new) (Lost device at) → IsDark new
+
 -- without a device it is noted exactly at `off`, where the banks aren't off
 abbrev pub IsSwitchedOff : Event → World → Type 0
 IsSwitchedOff event.Off old = ¬ AreOff old
@@ -96,6 +103,31 @@ pub record IsIgnored (old new : World) : Type 0 where
 abbrev pub StaysQuiet : Event → World → World → Type 0
 StaysQuiet e old new = AreOff old → ¬ IsPower e → IsIgnored old new
 
+-- and no device is called
+abbrev pub CallsNone : Event → World → World → Type 0
+CallsNone e old new = AreOff old → ¬ IsPower e → SameDevices old new
+
+-- The devices have power where the banks aren't off.
+abbrev pub HasPower : World → Type 0
+HasPower w = ¬ AreOff w → IsOn w
+
+-- ---- what is noted at which event
+
+abbrev pub IsProvision : Event → Type 0
+IsProvision (event.Provision what) = Unit {0}
+IsProvision e = ⊥
+
+-- An event is noted to be ignored only where the banks are off, and isn't a power-on; what a provision comes to is noted only at
+-- a provision of banks that aren't off.
+abbrev pub BelongsTo : Event → World → What → Type 0
+BelongsTo e old Ignored = AreOff old × ¬ IsPower e
+BelongsTo e old Provisioned = ¬ AreOff old × IsProvision e
+BelongsTo e old (ProvisionRefused why) = ¬ AreOff old × IsProvision e
+BelongsTo e old what = Unit {0}
+
+abbrev pub NotesBelong : Event → World → World → Type 0
+NotesBelong e old new = (that : What) → IsNoted (added old new) that → BelongsTo e old that
+
 -- ---- a bank that is brought up
 
 -- an image that is trusted, and has this security version number
@@ -120,12 +152,20 @@ pub record IsNotTrusted (which : Bank) (image nv : List ℕ) (accepts : Acceptan
   pub layout : IsValidLayout (layout_of fuses.provision which) (length image)
   pub distrusted : ¬ IsTrusted image nv which accepts
 
+-- the check of the active image, by a valid layout, names this cause
+pub record IsAgainst (cause : ActiveFail) (which : Bank) (image nv : List ℕ) (accepts : Acceptance) : Type 0 where
+  pub fuses : FusesState
+  pub provisioned : fuses_of nv ≡ Ok fuses
+  pub layout : IsValidLayout (layout_of fuses.provision which) (length image)
+  pub judged : judge_active image which fuses accepts ≡ Err cause
+
 -- when the contents call for a lock, and for which
 abbrev pub IsDue : LockWhy → Bank → List ℕ → List ℕ → Acceptance → Type 0
 IsDue why.Unprovisioned which image nv accepts = IsUnset nv × HasBlank nv
 IsDue why.SlotsSpent which image nv accepts = IsUnset nv × ¬ HasBlank nv
 IsDue (why.Layout rule) which image nv accepts = IsMisplaced rule which image nv
-IsDue why.NotRestored which image nv accepts = IsNotTrusted which image nv accepts
+IsDue why.NotRestored which image nv accepts = IsNotTrusted which image nv accepts × HasGoodRecovery which image nv accepts
+IsDue (why.NoGoodImage active recovery) which image nv accepts = IsAgainst active which image nv accepts × HasBadRecovery recovery which image nv accepts
 IsDue why.FlashFault which image nv accepts = ⊥
 IsDue why.StoreFault which image nv accepts = ⊥
 
@@ -140,12 +180,10 @@ abbrev pub LocksHaveCauses : Acceptance → World → World → Type 0
 LocksHaveCauses accepts old new = (which : Bank) (cause : LockWhy) (at : Counts) → IsNoted (added old new) (Locked which cause at) → ¬ IsFaultLock cause
     → IsDue cause which (upto (state_at (device_of which) new) (count_at which at)) (upto new.nv at.nv) accepts
 
--- the check of the active image, by a valid layout, names this cause
-pub record IsAgainst (cause : ActiveFail) (which : Bank) (image nv : List ℕ) (accepts : Acceptance) : Type 0 where
-  pub fuses : FusesState
-  pub provisioned : fuses_of nv ≡ Ok fuses
-  pub layout : IsValidLayout (layout_of fuses.provision which) (length image)
-  pub judged : judge_active image which fuses accepts ≡ Err cause
+-- An image is called untrusted only with the first cause against it, at a moment of the step; also where a call fails behind it.
+abbrev pub DistrustsWithCause : Acceptance → World → World → Type 0
+DistrustsWithCause accepts old new = (which : Bank) (cause : ActiveFail) → IsNoted (added old new) (Untrusted which cause)
+    → (at : Counts) × IsAgainst cause which (upto (state_at (device_of which) new) (count_at which at)) (upto new.nv at.nv) accepts
 
 -- no call of a device failed while this bank was in work
 pub record IsCalm (which : Bank) (notes : List Note) : Type 0 where
@@ -184,6 +222,8 @@ pub record TriesProvision (what : RootSlot) (old new : World) : Type 0 where
       × IsProvisionedBy (now new.nv) number × (provision_in (slot_at (now new.nv) number) ≡ what)
   pub all : (number : ℕ) → sizes_judged what old ≡ Ok number → IsCalm bank.Bmc (added old new) → IsNoted (added old new) Provisioned
   -- It is refused exactly by the first cause.
+  pub only : (why : ProvisionWhy) → IsNoted (added old new) (ProvisionRefused why)
+      → (cause : FuseFail) × (sizes_judged what old ≡ Err cause) × (why ≡ refusal_of cause)
   pub refused : (cause : FuseFail) → sizes_judged what old ≡ Err cause → IsCalm bank.Bmc (added old new) → IsNoted (added old new) (ProvisionRefused (refusal_of cause))
 
 abbrev pub ProvisionsSo : Event → World → World → Type 0

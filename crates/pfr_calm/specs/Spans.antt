@@ -1,18 +1,13 @@
 -- The spans in which a bank stands released.
-use Rattle.std.specs.Prelude.{ℕ, ◌+◌, ◌-◌, ◌≤◌, List, [], ◌∷◌, ◌++◌, length, take, drop, All, if◌then◌else◌, ◌⊎◌}
-use Rattle.pfr_flash.specs.Operation.{Operation, play}
-use Rattle.pfr_flash.specs.Range.{place_of, len_of}
-use Rattle.pfr_flash.specs.Names.{manifest_type}
-use Rattle.pfr_flash.specs.declared.layout.Layout.{Layout}
+use Rattle.std.specs.Prelude.{ℕ, ◌≤◌, List, [], ◌∷◌, ◌++◌, length, take, All, if◌then◌else◌}
+use Rattle.pfr_flash.specs.Operation.{play}
 use Rattle.pfr_flash.specs.declared.names.Bank.{Bank}
 use Rattle.pfr_flash.specs.declared.names.Bank.TheVariants as bank
 use Rattle.pfr_flash.specs.declared.names.Counts.{Counts}
 use Rattle.pfr_engine.specs.Acceptance.{Acceptance}
-use Rattle.pfr_fuses.specs.FuseMap.{floor_at, floor_width, row_at, row_width}
-use Rattle.pfr_fuses.specs.FusesState.{FusesState}
 use Rattle.pfr_fuses.specs.RootSlot.{layout_of}
-use Rattle.pfr_manifest.specs.Access.{static_regions}
-use Rattle.pfr_manifest.specs.declared.manifest.Manifest.{Manifest}
+use Rattle.pfr_auth.specs.Leaving.{LeavesImage, LeavesStore}
+use Rattle.pfr_auth.specs.Throughout.{IsTrustedBy, between}
 use Rattle.pfr_auth.specs.Trusted.{IsTrusted}
 use Rattle.pfr_report.specs.declared.note.Note.{Note}
 use Rattle.pfr_report.specs.declared.note.What.{What}
@@ -56,40 +51,23 @@ spans_of which notes end = ended_from which [] notes ++ closes end (opens_from w
 abbrev pub upto : Past → ℕ → List ℕ
 upto past count = play past.start (take count past.ops)
 
--- the operations from one count to another
-abbrev pub between : ℕ → ℕ → Past → List Operation
-between begin end past = drop begin (take end past.ops)
-
 abbrev pub count_at : Bank → Counts → ℕ
 count_at bank.Bmc counts = counts.bmc
 count_at bank.Pch counts = counts.pch
 
--- the operation touches none of so many bytes from a place on
-abbrev pub Leaves : ℕ → ℕ → Operation → Type 0
-Leaves from len op = (place_of op + len_of op ≤ from) ⊎ (from + len ≤ place_of op)
-
--- It touches no byte of a bank that Trusted reads: the manifest area, and the regions that have a hash.
-pub record LeavesImage (layout : Layout) (manifest : Manifest) (op : Operation) : Type 0 where
-  pub area : Leaves layout.manifest_at layout.manifest_len op
-  pub static : All (λ region. Leaves region.start (region.end - region.start) op) (static_regions manifest)
-
--- It touches no byte of the store that Trusted reads for a bank: the slots, the profile gate, the bank's floor, and the
--- row of its manifests' keys.
-pub record LeavesStore (fuses : FusesState) (which : Bank) (op : Operation) : Type 0 where
-  pub slots : Leaves 0 0x800 op
-  pub gate : Leaves 0xA00 1 op
-  pub floor : Leaves (floor_at fuses.profile which) (floor_width fuses.profile) op
-  pub row : Leaves (row_at fuses.profile (manifest_type which)) (row_width fuses.profile) op
-
--- The bank was trusted where the span begins, and no operation in the span touches a byte that this reads.
+-- Where the span begins the bank is trusted, and no operation in the span touches a byte that this reads. So at each
+-- count in the span, of the bank and of the store, it is trusted, by the same manifest.
 pub record IsSpan (accepts : Acceptance) (which : Bank) (mine nv : Past) (begin end : Counts) : Type 0 where
   pub forth : count_at which begin ≤ count_at which end
   pub forth_store : begin.nv ≤ end.nv
   pub done : count_at which end ≤ length mine.ops
   pub done_store : end.nv ≤ length nv.ops
   pub trusted : IsTrusted (upto mine (count_at which begin)) (upto nv begin.nv) which accepts
-  pub image : All (LeavesImage (layout_of trusted.fuses.provision which) trusted.manifest) (between (count_at which begin) (count_at which end) mine)
-  pub store : All (LeavesStore trusted.fuses which) (between begin.nv end.nv nv)
+  pub image : All (LeavesImage (layout_of trusted.fuses.provision which) trusted.manifest)
+      (between (count_at which begin) (count_at which end) mine.ops)
+  pub store : All (LeavesStore trusted.fuses which) (between begin.nv end.nv nv.ops)
+  pub throughout : (b n : ℕ) → count_at which begin ≤ b → b ≤ count_at which end → begin.nv ≤ n → n ≤ end.nv
+      → IsTrustedBy trusted.manifest (upto mine b) (upto nv n) which accepts
 
 abbrev pub AllSpans : Acceptance → Bank → Past → Past → List (Counts × Counts) → Type 0
 AllSpans accepts which mine nv [] = Unit {0}

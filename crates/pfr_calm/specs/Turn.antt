@@ -1,5 +1,5 @@
 -- What a step does.
-use Rattle.std.specs.Prelude.{◌+◌, List, [], ◌∷◌, Bool, true, false, Some, None}
+use Rattle.std.specs.Prelude.{◌≡◌, ◌+◌, List, [], ◌∷◌, ◌⊎◌, Bool, true, false, Some, None}
 use Rattle.pfr_flash.specs.declared.names.Bank.{Bank}
 use Rattle.pfr_flash.specs.declared.names.Bank.TheVariants as bank
 use Rattle.pfr_flash.specs.declared.names.Device.{Device}
@@ -11,12 +11,12 @@ use Rattle.pfr_script.specs.declared.event.Event.TheVariants as event
 use Rattle.pfr_report.specs.declared.note.LockWhy.{LockWhy}
 use Rattle.pfr_report.specs.declared.note.LockWhy.TheVariants.{FlashFault, StoreFault}
 use Rattle.pfr_report.specs.declared.note.What.TheVariants.{Power, Held, Locked, Lost, Ignored}
-use Rattle.pfr_calm.specs.Story.{Story, Move, Says}
+use Rattle.pfr_calm.specs.Story.{Story, Move, Says, after}
 use Rattle.pfr_calm.specs.World.{World, story_of}
 use Rattle.pfr_calm.specs.Goes.{Ran}
 use Rattle.pfr_calm.specs.Course.{Stretch, Steps, After}
 use Rattle.pfr_calm.specs.Standing.{standing_of, is_off}
-use Rattle.pfr_calm.specs.Plans.{brought_up, migrated, provisioned}
+use Rattle.pfr_calm.specs.Plans.{authentication_at, distrusted, brought_up, migrated, provisioned}
 
 abbrev pub fault_of : Device → LockWhy
 fault_of device.Bmc = FlashFault
@@ -32,11 +32,22 @@ bank_or_store bank.Bmc device.Pch = false
 bank_or_store bank.Pch device.Bmc = false
 bank_or_store which device = true
 
+-- A bank is looked at twice: when it is held, and where its image isn't trusted, once this is noted.
+abbrev pub StopsInCheck : Acceptance → Bank → Story → Story → Type 0
+StopsInCheck accepts which begin at =
+    (at ≡ after (Says (Held which) ∷ []) begin)
+    ⊎ (at ≡ after (Says (Held which) ∷ distrusted which (authentication_at accepts which begin)) begin)
+
+-- nothing was noted
+abbrev pub StopsUnnoted : Story → Story → Type 0
+StopsUnnoted begin at = at.notes ≡ begin.notes
+
 -- a bank is brought up; at a fault of its device or of the store it is locked, and the step goes on with the other
 abbrev pub bank_stretch : Acceptance → Bank → Stretch
 bank_stretch accepts which = record {
   plan = brought_up accepts which;
   checks = Some (record { bank = which; accepts = accepts });
+  stops = StopsInCheck accepts which;
   calls = bank_or_store which;
   on_fault = λ device. Says (Locked which (fault_of device)) ∷ [];
   goes_on = true;
@@ -52,6 +63,7 @@ abbrev pub fuse_stretch : Stretch
 fuse_stretch = record {
   plan = migrated;
   checks = None;
+  stops = StopsUnnoted;
   calls = is_store;
   on_fault = λ device. unreadable;
   goes_on = false;
@@ -62,13 +74,14 @@ abbrev pub provision_stretch : RootSlot → Stretch
 provision_stretch what = record {
   plan = provisioned what;
   checks = None;
+  stops = StopsUnnoted;
   calls = is_store;
   on_fault = λ device. Says (Locked bank.Bmc StoreFault) ∷ Says (Locked bank.Pch StoreFault) ∷ [];
   goes_on = false;
 }
 
 -- what a step notes at first, without a device call, and the stretches that follow
-pub record Course : Type 0 where
+pub record Course : Type 1 where
   pub first : List Move
   pub stretches : List Stretch
 

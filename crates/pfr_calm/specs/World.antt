@@ -46,6 +46,12 @@ pub record IsDark (w : World) : Type 0 where
   pub pch : w.pch.powered ≡ false
   pub nv : w.nv.powered ≡ false
 
+-- no device was called
+pub record SameDevices (old new : World) : Type 0 where
+  pub bmc : new.bmc ≡ old.bmc
+  pub pch : new.pch ≡ old.pch
+  pub nv : new.nv ≡ old.nv
+
 -- no device lost its power
 pub record NoneLost (old new : World) : Type 0 where
   pub bmc : new.bmc.losses ≡ old.bmc.losses
