@@ -4,3 +4,5 @@ pub mod WakeLemmas
 pub mod ProvisionLemmas
 pub mod TurnLemmas
 pub mod StoreLemmas
+mod VerdictLaw
+pub mod RecoveryLemmas

@@ -17,6 +17,7 @@ use Rattle.pfr_fuses.specs.declared.fuse_fail.FuseFail.{FuseFail}
 use Rattle.pfr_fuses.specs.declared.fuse_fail.FuseFail.TheVariants as fuse
 use Rattle.pfr_fuses.specs.declared.root_slot.RootSlot.{RootSlot}
 use Rattle.pfr_report.specs.Texts.{HasText}
+use Rattle.pfr_report.specs.NotesState.{NotesState}
 use Rattle.pfr_report.specs.declared.note.LockWhy.TheVariants.{StoreFault}
 use Rattle.pfr_report.specs.declared.note.What.{What}
 use Rattle.pfr_report.specs.declared.note.What.TheVariants.{Provisioned, ProvisionRefused, Locked}
@@ -124,25 +125,25 @@ tried_short what which fail old new p =
 pub crossed : (what : RootSlot) (old new : World) → Ran (provisioned what (story_of old)) old new → Follows (provision_course what) old new
 crossed what old new p = (old, Ran-refl old, Steps-crossed (provision_stretch what) [] old new new (Crosses-ran (provision_stretch what) old new p tt) (Steps-none new))
 
-pub locked : (what : RootSlot) (which : Device) (fail : FlashFail) (old mid first new : World) → fail ≡ Fault → which ≡ device.Nv → Stopped (provisioned what (story_of old)) which fail old mid
+pub locked : (what : RootSlot) (which : Device) (fail : FlashFail) (old mid first new : World) → fail ≡ Fault → which ≡ device.Nv → Stopped (provisioned what (story_of old)) which fail old mid → mid.notes ≡ old.notes
     → Ran (Says (Locked bank.Bmc StoreFault) ∷ []) mid first → Ran (Says (Locked bank.Pch StoreFault) ∷ []) first new → Follows (provision_course what) old new
-locked what which fail old mid first new f d s p q = (
+locked what which fail old mid first new f d s n p q = (
   old,
   Ran-refl old,
   Steps-ended (provision_stretch what) [] old new refl
       (Faults-stopped (provision_stretch what) device.Nv old mid new refl
       (subst (λ (x : FlashFail). Stopped (provisioned what (story_of old)) device.Nv x old mid) f
-      (subst (λ (x : Device). Stopped (provisioned what (story_of old)) x fail old mid) d s)) tt
+      (subst (λ (x : Device). Stopped (provisioned what (story_of old)) x fail old mid) d s)) (ap (λ (x : NotesState). x.list) n)
       (Ran-append (Says (Locked bank.Bmc StoreFault) ∷ []) (Says (Locked bank.Pch StoreFault) ∷ []) mid first new p q)),
 )
 
-pub cut_off : (what : RootSlot) (which found : Device) (fail : FlashFail) (old mid new : World) → fail ≡ Lost → found ≡ which → found ≡ device.Nv → Stopped (provisioned what (story_of old)) found fail old mid
+pub cut_off : (what : RootSlot) (which found : Device) (fail : FlashFail) (old mid new : World) → fail ≡ Lost → found ≡ which → found ≡ device.Nv → Stopped (provisioned what (story_of old)) found fail old mid → mid.notes ≡ old.notes
     → Ran (lost which) mid new → Follows (provision_course what) old new
-cut_off what which found fail old mid new f e d s p = (
+cut_off what which found fail old mid new f e d s n p = (
   old,
   Ran-refl old,
   Halts-noted (provision_stretch what ∷ []) which old mid new
       (Halts-first (provision_stretch what) [] which old mid (ap is_store (sym e ∙ d))
       (subst (λ (x : FlashFail). Stopped (provisioned what (story_of old)) which x old mid) f
-      (subst (λ (x : Device). Stopped (provisioned what (story_of old)) x fail old mid) e s)) tt) p,
+      (subst (λ (x : Device). Stopped (provisioned what (story_of old)) x fail old mid) e s)) (ap (λ (x : NotesState). x.list) n)) p,
 )

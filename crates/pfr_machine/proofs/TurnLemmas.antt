@@ -1,5 +1,5 @@
 -- A whole step, from what was done at its event.
-use Rattle.std.proofs.Common.{◌≡◌, ◌∙◌, refl, sym, ap, subst, ◌≤◌, ◌*◌, List, [], length, arith, Result, Ok, Err, OnOk}
+use Rattle.std.proofs.Common.{◌≡◌, ◌∙◌, refl, sym, ap, subst, ◌≤◌, ◌*◌, ◌+◌, true, List, [], ◌∷◌, length, inl, inr, Option, arith, Result, Ok, Err, OnOk}
 use Rattle.std.specs.Prelude.{◌≢◌}
 use Rattle.pfr_flash.specs.FlashState.{FlashState}
 use Rattle.pfr_flash.specs.Moved.{Moved}
@@ -9,7 +9,7 @@ use Rattle.pfr_report.specs.declared.note.Note.{Note}
 use Rattle.pfr_script.specs.declared.event.Event.{Event}
 use Rattle.pfr_script.specs.declared.event.Event.TheVariants as event
 use Rattle.pfr_calm.specs.Story.{Story, Move, after}
-use Rattle.pfr_calm.specs.World.{World, IsOn, story_of}
+use Rattle.pfr_calm.specs.World.{World, IsOn, IsDark, SameDevices, story_of}
 use Rattle.pfr_calm.specs.Goes.{Ran}
 use Rattle.pfr_calm.specs.Standing.{Standing, standing_of, standing_by, is_off}
 use Rattle.pfr_calm.specs.Turn.{Course, course, where_off, next_item, Follows, Turn}
@@ -20,10 +20,16 @@ use Rattle.pfr_machine.specs.PlatformState.{PlatformState, AddsNotes}
 use Rattle.pfr_machine.specs.WorksInside.{AreLines, IsPlatform}
 use Rattle.pfr_machine.specs.declared.lines.Lines.{Lines}
 use Rattle.pfr_flash.specs.FlashState.{size_of}
-use Rattle.pfr_calm.specs.Promises.{AreOff, ProvisionsSo}
+use Rattle.pfr_flash.specs.declared.names.Counts.{Counts}
+use Rattle.pfr_flash.specs.declared.names.Device.{Device}
+use Rattle.pfr_report.specs.Texts.{IsNoted}
+use Rattle.pfr_report.specs.declared.note.What.TheVariants.{Lost, Ignored}
+use Rattle.pfr_calm.specs.Promises.{AreOff, IsPower, ProvisionsSo, StaysQuiet, LostEnds, LostIsDark, HasPower, added}
+use Rattle.pfr_fuses.specs.Growth.{KeepsProvision}
+use Rattle.pfr_calm.proofs.GrowthLaws.{Turn-keeps_provision}
 use Rattle.pfr_calm.proofs.RunLaws.{Turn-item}
 use Rattle.pfr_calm.proofs.ProvisionLaws.{Turn-provisions}
-use Rattle.pfr_machine.specs.Checks.{HasSlot}
+use Rattle.pfr_machine.specs.Checks.{HasSlot, IsTaken}
 
 -- a step that only notes something
 pub only_noted : (moves : List Move) (old new : World) → Ran moves old new → Follows (record { first = moves; stretches = [] }) old new
@@ -124,6 +130,52 @@ pub provisions_so : (accepts : Acceptance) (e : Event) (old new : World) → siz
 provisions_so accepts event.Power old new size slot t = tt
 provisions_so accepts event.Off old new size slot t = tt
 provisions_so accepts (event.Provision what) old new size slot t = λ on. Turn-provisions accepts (event.Provision what) old new size (slot on) t on
+
+-- ---- no device has power where banks went off
+-- an event that is taken by how the banks stand is taken by the lines
+pub taken_by_line : (e : Event) (lines : Lines) (w : World) → AreLines lines w → (AreOff w → IsPower e) → IsTaken e lines
+taken_by_line event.Power lines w h p = tt
+taken_by_line event.Off lines w h p = λ e. p (ap is_off (h.bmc ∙ ap standing_by e))
+taken_by_line (event.Provision what) lines w h p = λ e. p (ap is_off (h.bmc ∙ ap standing_by e))
+
+line_off : (how : Line) → is_off (standing_by how) ≡ true → how ≡ line.Off
+line_off line.Off e = refl
+line_off line.Locked e = cc
+line_off line.Running e = cc
+
+pub off_line : (lines : Lines) (w : World) → AreLines lines w → AreOff w → lines.bmc ≡ line.Off
+off_line lines w h e = line_off lines.bmc (sym (ap is_off h.bmc) ∙ e)
+
+pub lost_taken : (e : Event) (old new : World) (device : Option Device) (at : Counts) → StaysQuiet e old new → IsNoted (added old new) (Lost device at) → AreOff old → IsPower e
+lost_taken event.Power old new device at q n off = tt
+lost_taken event.Off old new device at q n off = never (added old new) (q off (λ p. p)).notes n
+  where
+    never : (notes : List Note) → notes ≡ record { item = old.item + 1; what = Ignored } ∷ [] → IsNoted notes (Lost device at) → ⊥
+    never notes e n = elim (subst (λ (ns : List Note). IsNoted ns (Lost device at)) e n) [ inl same ↦ absurd cc | inr x ↦ x ]
+lost_taken (event.Provision what) old new device at q n off = never (added old new) (q off (λ p. p)).notes n
+  where
+    never : (notes : List Note) → notes ≡ record { item = old.item + 1; what = Ignored } ∷ [] → IsNoted notes (Lost device at) → ⊥
+    never notes e n = elim (subst (λ (ns : List Note). IsNoted ns (Lost device at)) e n) [ inl same ↦ absurd cc | inr x ↦ x ]
+
+pub lost_is_dark : (e : Event) (old new : World) → StaysQuiet e old new → LostEnds old new → ((AreOff old → IsPower e) → AreOff new → IsDark new) → LostIsDark old new
+lost_is_dark e old new quiet ends dark device at n = dark (λ off. lost_taken e old new device at quiet n off) (ap is_off (ends device at n).bmc)
+
+pub keeps_so : (accepts : Acceptance) (e : Event) (old new : World) → size_of old.nv ≡ 32768 → (¬ AreOff old → HasSlot e) → Turn accepts e old new → KeepsProvision old.nv new.nv
+keeps_so accepts event.Power old new size slot t = Turn-keeps_provision accepts event.Power old new size (λ on. tt) t
+keeps_so accepts event.Off old new size slot t = Turn-keeps_provision accepts event.Off old new size (λ on. tt) t
+keeps_so accepts (event.Provision what) old new size slot t = Turn-keeps_provision accepts (event.Provision what) old new size slot t
+
+-- the devices have power where the lines aren't off
+pub on_by_line : (lines : Lines) (w : World) → AreLines lines w → HasPower w
+on_by_line lines w h n = h.powered (λ e. n (ap is_off (h.bmc ∙ ap standing_by e)))
+
+-- no device was called where none was since the item was begun
+pub untouched_begun : (old begun : World) → Begun old begun → (new : World) → SameDevices begun new → SameDevices old new
+untouched_begun old begun b new s = record {
+  bmc = s.bmc ∙ ap (λ (w : World). w.bmc) b.is;
+  pch = s.pch ∙ ap (λ (w : World). w.pch) b.is;
+  nv = s.nv ∙ ap (λ (w : World). w.nv) b.is;
+}
 
 -- banks are off where the line says so
 pub off_by_line : (lines : Lines) (w : World) → AreLines lines w → ¬ AreOff w → ¬ (lines.bmc ≡ line.Off)

@@ -1,5 +1,5 @@
 -- How a bank is brought up, part by part.
-use Rattle.std.proofs.Common.{◌≡◌, ◌∙◌, refl, sym, ap, subst, [], ◌∷◌, true, false, Bool, inl, inr, Result, Ok, Err, OnOk, IfErr}
+use Rattle.std.proofs.Common.{◌≡◌, ◌∙◌, refl, sym, ap, subst, ℕ, List, [], ◌∷◌, ◌++◌, true, false, Bool, inl, inr, Option, Some, None, Result, Ok, Err, OnOk, IfErr}
 use Rattle.std.specs.Prelude.{if◌then◌else◌}
 use Rattle.pfr_flash.specs.declared.flash.FlashFail.{FlashFail}
 use Rattle.pfr_flash.specs.declared.names.Bank.{Bank}
@@ -8,44 +8,168 @@ use Rattle.pfr_flash.specs.declared.flash.FlashFail.TheVariants.{Fault, Lost}
 use Rattle.pfr_flash.specs.declared.names.Device.{Device}
 use Rattle.pfr_flash.specs.declared.names.Device.TheVariants as device
 use Rattle.pfr_engine.specs.Acceptance.{Acceptance}
-use Rattle.pfr_report.specs.declared.note.What.TheVariants.{Power, Held, Locked}
-use Rattle.pfr_calm.specs.Story.{Story, Says, after}
+use Rattle.pfr_flash.specs.declared.names.Counts.{Counts}
+use Rattle.pfr_fuses.specs.FusesState.{FusesState}
+use Rattle.pfr_fuses.specs.declared.fuse_fail.FuseFail.{FuseFail}
+use Rattle.pfr_capsule.specs.declared.fail.CapsuleFail.{CapsuleFail}
+use Rattle.pfr_auth.specs.declared.fail.ActiveFail.{ActiveFail}
+use Rattle.pfr_report.specs.NotesState.{NotesState}
+use Rattle.pfr_report.specs.declared.note.What.{What}
+use Rattle.pfr_report.specs.declared.note.What.TheVariants.{Power, Held, Locked, Untrusted as NotTrusted}
+use Rattle.pfr_calm.specs.Authentication.{IsBacked, IsRestorable}
+use Rattle.pfr_calm.specs.Story.{Story, Move, Says, Does, after, noted, image_at}
 use Rattle.pfr_calm.specs.World.{World, story_of}
-use Rattle.pfr_calm.specs.Goes.{Ran, Stopped}
-use Rattle.pfr_calm.specs.Plans.{authentication_at, brought_up, concluded}
+use Rattle.pfr_calm.specs.Goes.{Ran, Stopped, Goes}
+use Rattle.pfr_calm.specs.Plans.{authentication_at, recovery_at, lock_of, brought_up, concluded, distrusted}
+use Rattle.pfr_calm.specs.declared.authentication.Authentication.TheVariants.{Untrusted}
+use Rattle.pfr_calm.specs.declared.stop.Stop.{Stop}
 use Rattle.pfr_calm.specs.Standing.{Standing, same_bank}
 use Rattle.pfr_calm.specs.declared.authentication.Authentication.{Authentication}
 use Rattle.pfr_report.specs.declared.note.LockWhy.{LockWhy}
-use Rattle.pfr_calm.specs.Course.{CrossesOrFaults, Halt, Halts, Steps, lost}
+use Rattle.pfr_calm.specs.Course.{CrossesOrFaults, Halt, Halts, Steps, IsShown, lost}
 use Rattle.pfr_calm.specs.Plans.{migrated}
 use Rattle.pfr_calm.specs.Story.{device_of}
-use Rattle.pfr_calm.specs.Turn.{bank_or_store, is_store, bank_stretch, bank_stretches, power_stretches, fuse_stretch, fault_of, unreadable, power_course, Follows}
+use Rattle.pfr_calm.specs.Turn.{StopsInCheck, bank_or_store, is_store, bank_stretch, bank_stretches, power_stretches, fuse_stretch, fault_of, unreadable, power_course, Follows}
 use Rattle.pfr_calm.proofs.Sequence.{Ran-append, Stopped-append, Stopped-more}
 use Rattle.pfr_calm.proofs.Courses.{Steps-none, Steps-next, Steps-crossed, Steps-ended, Crosses-ran, Faults-stopped, Halts-first, Halts-next, Halts-crossed, Halts-noted}
-use Rattle.pfr_machine.specs.PlatformState.{AddsNotes}
+use Rattle.pfr_machine.specs.Checks.{HasLayout, IsGoodUnless}
 
 abbrev pub store : Device
 store = device.Nv
 
--- what was noted changes nothing that a check finds
-noted_same : (accepts : Acceptance) (which : Bank) (story : Story) → authentication_at accepts which (after (Says (Held which) ∷ []) story) ≡ authentication_at accepts which story
-noted_same accepts bank.Bmc story = refl
-noted_same accepts bank.Pch story = refl
+-- ---- what was noted changes nothing that a check finds
+noted_same : (accepts : Acceptance) (which : Bank) (says : Counts → What) (story : Story) → authentication_at accepts which (noted says story) ≡ authentication_at accepts which story
+noted_same accepts bank.Bmc says story = refl
+noted_same accepts bank.Pch says story = refl
 
+recovery_same : (accepts : Acceptance) (which : Bank) (says : Counts → What) (story : Story) → recovery_at accepts which (noted says story) ≡ recovery_at accepts which story
+recovery_same accepts bank.Bmc says story = refl
+recovery_same accepts bank.Pch says story = refl
+
+-- the image of a bank, and what a check found of it
+abbrev pub Backed : Acceptance → Bank → Authentication → Story → Type 0
+Backed accepts which a story = IsBacked a which (image_at (device_of which) story) (image_at device.Nv story) accepts
+
+abbrev pub Restorable : Acceptance → Bank → Authentication → Story → Type 0
+Restorable accepts which a story = IsRestorable a (recovery_at accepts which story) which (image_at (device_of which) story) (image_at device.Nv story) accepts
+
+backed_same : (accepts : Acceptance) (which : Bank) (a : Authentication) (says : Counts → What) (story : Story) → Backed accepts which a (noted says story) → Backed accepts which a story
+backed_same accepts bank.Bmc a says story b = b
+backed_same accepts bank.Pch a says story b = b
+
+restorable_same : (accepts : Acceptance) (which : Bank) (a : Authentication) (says : Counts → What) (story : Story) → Restorable accepts which a (noted says story) → Restorable accepts which a story
+restorable_same accepts bank.Bmc a says story r = r
+restorable_same accepts bank.Pch a says story r = r
+
+placed_same : (which : Bank) (found : Result FusesState FuseFail) (says : Counts → What) (story : Story) → HasLayout which (image_at (device_of which) story) found
+    → HasLayout which (image_at (device_of which) (noted says story)) found
+placed_same bank.Bmc found says story h = h
+placed_same bank.Pch found says story h = h
+
+-- what is found where nothing is against a recovery image
+pub unless_restorable : (why : ActiveFail) (against : Option CapsuleFail) (which : Bank) (image nv : List ℕ) (accepts : Acceptance) → IsGoodUnless against which image nv accepts
+    → IsRestorable (Untrusted why) against which image nv accepts
+unless_restorable why None which image nv accepts g = g
+unless_restorable why (Some cause) which image nv accepts g = tt
+
+-- nothing was done where a plan of nothing stopped
+none_before : (front left : List Move) → [] ≡ front ++ left → (front ≡ []) × (left ≡ [])
+none_before [] left e = (refl, sym e)
+none_before (move ∷ front) left e = absurd (let never : [] ≡ move ∷ (front ++ left) = e in cc)
+
+pub stopped_still : (device : Device) (fail : FlashFail) (old new : World) → Stopped [] device fail old new → story_of new ≡ story_of old
+stopped_still device fail old new p =
+    let n = none_before p.cut.front p.cut.left p.cut.plan in
+    let last : p.cut.last ≡ [] = elim p.cut.end [ inl e ↦ e | inr t ↦ absurd (let next : [] ≡ Does device t.op ∷ t.rest = sym n.1 ∙ t.next in cc) ] in
+    let trace : p.trace ≡ [] = p.cut.is ∙ ap (λ (moves : List Move). moves ++ p.cut.last) n.0 ∙ last in
+    p.is ∙ ap (λ (moves : List Move). after moves (story_of old)) trace
+
+-- ---- a bank is held, and released or locked
 pub held_same : (accepts : Acceptance) (which : Bank) (old held : World) → Ran (Says (Held which) ∷ []) old held → authentication_at accepts which (story_of held) ≡ authentication_at accepts which (story_of old)
-held_same accepts which old held p = ap (λ (s : Story). authentication_at accepts which s) p.is ∙ noted_same accepts which (story_of old)
+held_same accepts which old held p = ap (λ (s : Story). authentication_at accepts which s) p.is ∙ noted_same accepts which (Held which) (story_of old)
 
-pub brought : (accepts : Acceptance) (which : Bank) (a : Authentication) (old held judged new : World) → Ran (Says (Held which) ∷ []) old held → Ran [] held judged
-    → a ≡ authentication_at accepts which (story_of held) → Ran (concluded which a) judged new → Ran (brought_up accepts which (story_of old)) old new
-brought accepts which a old held judged new p q e r =
-    subst (λ (x : Authentication). Ran (Says (Held which) ∷ concluded which x) old new) (e ∙ held_same accepts which old held p)
-    (Ran-append (Says (Held which) ∷ []) (concluded which a) old held new p (Ran-append [] (concluded which a) held judged new q r))
+module _ (accepts : Acceptance) (which : Bank) (a : Authentication) (old held judged : World) (p : Ran (Says (Held which) ∷ []) old held) (q : Ran [] held judged)
+    (e : a ≡ authentication_at accepts which (story_of held)) where
+  judged_is : story_of judged ≡ noted (Held which) (story_of old)
+  judged_is = q.is ∙ p.is
+
+  against_same : recovery_at accepts which (story_of judged) ≡ recovery_at accepts which (story_of old)
+  against_same = ap (λ (s : Story). recovery_at accepts which s) judged_is ∙ recovery_same accepts which (Held which) (story_of old)
+
+  found_same : a ≡ authentication_at accepts which (story_of old)
+  found_same = e ∙ held_same accepts which old held p
+
+  plan_is : Says (Held which) ∷ concluded which (recovery_at accepts which (story_of judged)) a ≡ brought_up accepts which (story_of old)
+  plan_is = rw (against_same, found_same) refl
+
+  pub brought : {T : Type 0} (new : World) (r : Result T Stop) → Goes (λ s. concluded which (recovery_at accepts which s) a) judged new r → Goes (brought_up accepts which) old new r
+  brought new (Ok x) g =
+      subst (λ (moves : List Move). Ran moves old new) plan_is
+      (Ran-append (Says (Held which) ∷ []) (concluded which (recovery_at accepts which (story_of judged)) a) old held new p (Ran-append [] (concluded which (recovery_at accepts which (story_of judged)) a) held judged new q g))
+  brought new (Err stop) g =
+      subst (λ (moves : List Move). Stopped moves stop.device stop.fail old new) plan_is
+      (Stopped-append (Says (Held which) ∷ []) (concluded which (recovery_at accepts which (story_of judged)) a) stop.device stop.fail old held new p
+      (Stopped-append [] (concluded which (recovery_at accepts which (story_of judged)) a) stop.device stop.fail held judged new q g))
+
+  pub brought_early : {T : Type 0} (new : World) (r : Result T Stop) → IfErr r (λ stop. story_of new ≡ after (distrusted which a) (story_of judged))
+      → IfErr r (λ stop. StopsInCheck accepts which (story_of old) (story_of new))
+  brought_early new (Ok x) h = tt
+  brought_early new (Err stop) h =
+      inr (h ∙ ap (λ (s : Story). after (distrusted which a) s) judged_is ∙ ap (λ (x : Authentication). after (Says (Held which) ∷ distrusted which x) (story_of old)) found_same)
+
+  pub shown : Backed accepts which a (story_of held) → Restorable accepts which a (story_of judged) → IsShown (record { bank = which; accepts = accepts }) (story_of old)
+  shown b r = record {
+    active = subst (λ (x : Authentication). Backed accepts which x (story_of old)) found_same
+        (backed_same accepts which a (Held which) (story_of old) (subst (λ (s : Story). Backed accepts which a s) p.is b));
+    recovery = subst (λ (x : Authentication). Restorable accepts which x (story_of old)) found_same
+        (restorable_same accepts which a (Held which) (story_of old) (subst (λ (s : Story). Restorable accepts which a s) judged_is r));
+  }
+
+  pub shown_if : {T : Type 0} (r : Result T Stop) → Backed accepts which a (story_of held) → OnOk r (Restorable accepts which a (story_of judged))
+      → OnOk r (IsShown (record { bank = which; accepts = accepts }) (story_of old))
+  shown_if (Ok x) b h = shown b h
+  shown_if (Err stop) b h = tt
 
 pub brought_short : (accepts : Acceptance) (which : Bank) (device : Device) (fail : FlashFail) (old held new : World) → Ran (Says (Held which) ∷ []) old held
     → Stopped [] device fail held new → Stopped (brought_up accepts which (story_of old)) device fail old new
 brought_short accepts which device fail old held new p q =
-    Stopped-append (Says (Held which) ∷ []) (concluded which (authentication_at accepts which (story_of old))) device fail old held new p
-    (Stopped-more [] (concluded which (authentication_at accepts which (story_of old))) device fail held new q)
+    let rest = concluded which (recovery_at accepts which (story_of old)) (authentication_at accepts which (story_of old)) in
+    Stopped-append (Says (Held which) ∷ []) rest device fail old held new p (Stopped-more [] rest device fail held new q)
+
+pub held_early : (accepts : Acceptance) (which : Bank) (device : Device) (fail : FlashFail) (old held new : World) → Ran (Says (Held which) ∷ []) old held
+    → Stopped [] device fail held new → StopsInCheck accepts which (story_of old) (story_of new)
+held_early accepts which device fail old held new p q = inl (stopped_still device fail held new q ∙ p.is)
+
+-- ---- a bank that isn't trusted
+module _ (accepts : Acceptance) (which : Bank) (why : ActiveFail) (old mid : World) (p : Ran (Says (λ at. NotTrusted which why) ∷ []) old mid) where
+  pub against_noted : recovery_at accepts which (story_of mid) ≡ recovery_at accepts which (story_of old)
+  against_noted = ap (λ (s : Story). recovery_at accepts which s) p.is ∙ recovery_same accepts which (λ at. NotTrusted which why) (story_of old)
+
+  pub placed_noted : (found : Result FusesState FuseFail) → HasLayout which (image_at (device_of which) (story_of old)) found → HasLayout which (image_at (device_of which) (story_of mid)) found
+  placed_noted found h = subst (λ (s : Story). HasLayout which (image_at (device_of which) s) found) (sym p.is) (placed_same which found (λ at. NotTrusted which why) (story_of old) h)
+
+  pub doubted : (against : Option CapsuleFail) (lock : LockWhy) (judged new : World) → Ran [] mid judged → against ≡ recovery_at accepts which (story_of mid) → lock ≡ lock_of why against
+      → Ran (Says (Locked which lock) ∷ []) judged new → Ran (concluded which (recovery_at accepts which (story_of old)) (Untrusted why)) old new
+  doubted against lock judged new q e f r =
+      subst (λ (x : LockWhy). Ran (Says (λ at. NotTrusted which why) ∷ Says (Locked which x) ∷ []) old new) (f ∙ ap (λ (x : Option CapsuleFail). lock_of why x) (e ∙ against_noted))
+      (Ran-append (Says (λ at. NotTrusted which why) ∷ []) (Says (Locked which lock) ∷ []) old mid new p (Ran-append [] (Says (Locked which lock) ∷ []) mid judged new q r))
+
+  pub doubted_short : (device : Device) (fail : FlashFail) (new : World) → Stopped [] device fail mid new
+      → Stopped (concluded which (recovery_at accepts which (story_of old)) (Untrusted why)) device fail old new
+  doubted_short device fail new q =
+      let rest : List Move = Says (Locked which (lock_of why (recovery_at accepts which (story_of old)))) ∷ [] in
+      Stopped-append (Says (λ at. NotTrusted which why) ∷ []) rest device fail old mid new p (Stopped-more [] rest device fail mid new q)
+
+  pub doubted_early : (device : Device) (fail : FlashFail) (new : World) → Stopped [] device fail mid new → story_of new ≡ after (distrusted which (Untrusted why)) (story_of old)
+  doubted_early device fail new q = stopped_still device fail mid new q ∙ p.is
+
+  pub doubted_good : (against : Option CapsuleFail) → against ≡ recovery_at accepts which (story_of mid)
+      → IsGoodUnless against which (image_at (device_of which) (story_of mid)) (image_at device.Nv (story_of mid)) accepts → Restorable accepts which (Untrusted why) (story_of old)
+  doubted_good against e g =
+      let r : Restorable accepts which (Untrusted why) (story_of mid) =
+      subst (λ (x : Option CapsuleFail). IsRestorable (Untrusted why) x which (image_at (device_of which) (story_of mid)) (image_at device.Nv (story_of mid)) accepts) e
+      (unless_restorable why against which (image_at (device_of which) (story_of mid)) (image_at device.Nv (story_of mid)) accepts g) in
+      restorable_same accepts which (Untrusted why) (λ at. NotTrusted which why) (story_of old) (subst (λ (s : Story). Restorable accepts which (Untrusted why) s) p.is r)
 
 pub this_bank : (which : Bank) (a b : Standing) → (if same_bank which which then a else b) ≡ a
 this_bank bank.Bmc a b = refl
@@ -65,13 +189,13 @@ pub calls : (which : Bank) (device : Device) → device ≡ device_of which → 
 calls which device e = rw e (calls_bank which)
 
 pub faulted : (accepts : Acceptance) (which : Bank) (device found_device : Device) (fail : FlashFail) (why : LockWhy) (old mid new : World) → fail ≡ Fault → found_device ≡ device
-    → Stopped (brought_up accepts which (story_of old)) found_device fail old mid → found_device ≡ device_of which → AddsNotes 1 old.notes mid.notes
+    → Stopped (brought_up accepts which (story_of old)) found_device fail old mid → found_device ≡ device_of which → StopsInCheck accepts which (story_of old) (story_of mid)
     → why ≡ fault_of device → Ran (Says (Locked which why) ∷ []) mid new → CrossesOrFaults (bank_stretch accepts which) old new
 faulted accepts which device found_device fail why old mid new f d s c n w r =
     inr (Faults-stopped (bank_stretch accepts which) device old mid new (calls which device (sym d ∙ c))
     (subst (λ (x : FlashFail). Stopped (brought_up accepts which (story_of old)) device x old mid) f
     (subst (λ (x : Device). Stopped (brought_up accepts which (story_of old)) x fail old mid) d s))
-    n.few (subst (λ (x : LockWhy). Ran (Says (Locked which x) ∷ []) mid new) w r))
+    n (subst (λ (x : LockWhy). Ran (Says (Locked which x) ∷ []) mid new) w r))
 
 -- ---- both banks, one after the other
 
@@ -92,19 +216,20 @@ module _ (accepts : Acceptance) (old mid new : World) where
   woken_halts device p q = Halts-crossed fuse_stretch (bank_stretches accepts) device old mid new (Crosses-ran fuse_stretch old mid p tt) q
 
   -- they could not be
-  pub unread : (device : Device) (fail : FlashFail) → fail ≡ Fault → device ≡ store → Stopped (migrated (story_of old)) device fail old mid → Ran unreadable mid new → Steps (power_stretches accepts) old new
-  unread device fail f d s r =
+  pub unread : (device : Device) (fail : FlashFail) → fail ≡ Fault → device ≡ store → Stopped (migrated (story_of old)) device fail old mid → mid.notes ≡ old.notes
+      → Ran unreadable mid new → Steps (power_stretches accepts) old new
+  unread device fail f d s n r =
       Steps-ended fuse_stretch (bank_stretches accepts) old new refl
       (Faults-stopped fuse_stretch store old mid new refl
       (subst (λ (x : FlashFail). Stopped (migrated (story_of old)) store x old mid) f
-      (subst (λ (x : Device). Stopped (migrated (story_of old)) x fail old mid) d s)) tt r)
+      (subst (λ (x : Device). Stopped (migrated (story_of old)) x fail old mid) d s)) (ap (λ (x : NotesState). x.list) n) r)
 
 pub unread_halts : (accepts : Acceptance) (old new : World) (device found_device : Device) (fail : FlashFail) → fail ≡ Lost → found_device ≡ device → found_device ≡ store
-    → Stopped (migrated (story_of old)) found_device fail old new → Halts (power_stretches accepts) device old new
-unread_halts accepts old new device found_device fail f e d s =
+    → Stopped (migrated (story_of old)) found_device fail old new → new.notes ≡ old.notes → Halts (power_stretches accepts) device old new
+unread_halts accepts old new device found_device fail f e d s n =
     Halts-first fuse_stretch (bank_stretches accepts) device old new (ap is_store (sym e ∙ d))
     (subst (λ (x : FlashFail). Stopped (migrated (story_of old)) device x old new) f
-    (subst (λ (x : Device). Stopped (migrated (story_of old)) x fail old new) e s)) tt
+    (subst (λ (x : Device). Stopped (migrated (story_of old)) x fail old new) e s)) (ap (λ (x : NotesState). x.list) n)
 
 -- ---- the fuses are read, and then migrated
 pub prepared : (old mid new : World) → Ran [] old mid → Ran (migrated (story_of mid)) mid new → Ran (migrated (story_of old)) old new

@@ -1,5 +1,6 @@
 -- What a part of a step finds.
-use Rattle.std.specs.Prelude.{◌≡◌, ◌≢◌, ℕ, List, [], Result, Ok, Err, false}
+use Rattle.std.specs.Prelude.{◌≡◌, ◌≢◌, ℕ, List, [], length, Option, Some, None, Result, Ok, Err, false}
+use Rattle.pfr_flash.specs.Layout.{IsValidLayout}
 use Rattle.pfr_flash.specs.declared.names.Bank.{Bank}
 use Rattle.pfr_flash.specs.declared.names.Bank.TheVariants.{Bmc, Pch}
 use Rattle.pfr_report.specs.declared.note.Note.{Note}
@@ -8,9 +9,16 @@ use Rattle.pfr_calm.specs.declared.line.Line.{Line}
 use Rattle.pfr_calm.specs.declared.line.Line.TheVariants as line
 use Rattle.pfr_machine.specs.declared.lines.Lines.{Lines}
 use Rattle.pfr_flash.specs.declared.flash.FlashFail.TheVariants.{Fault}
-use Rattle.pfr_report.specs.Words.{IsFound}
+use Rattle.pfr_report.specs.Words.{IsFound, AreFound}
+use Rattle.pfr_report.specs.declared.note.LockWhy.{LockWhy}
+use Rattle.pfr_report.specs.declared.note.LockWhy.TheVariants.{NoGoodImage}
 use Rattle.pfr_calm.specs.declared.authentication.Authentication.{Authentication}
 use Rattle.pfr_calm.specs.declared.authentication.Authentication.TheVariants.{Unprovisioned, SlotsSpent as NoSlot, Untrusted, Trusted}
+use Rattle.pfr_engine.specs.Acceptance.{Acceptance}
+use Rattle.pfr_capsule.specs.Answer as capsules
+use Rattle.pfr_capsule.specs.declared.fail.CapsuleFail.{CapsuleFail}
+use Rattle.pfr_calm.specs.Authentication.{HasGoodRecovery}
+use Rattle.pfr_fuses.specs.FusesState.{FusesState}
 use Rattle.pfr_fuses.specs.declared.fuse_fail.FuseFail.{FuseFail}
 use Rattle.pfr_fuses.specs.declared.fuse_fail.FuseFail.TheVariants.{SlotsSpent}
 use Rattle.pfr_calm.specs.declared.stop.Stop.{Stop}
@@ -18,7 +26,7 @@ use Rattle.pfr_calm.specs.World.{World, IsOn}
 use Rattle.pfr_calm.specs.Plans.{refusal_of}
 use Rattle.pfr_flash.specs.Operation.{Operation}
 use Rattle.pfr_fuses.specs.Provisioning.{provision_plan}
-use Rattle.pfr_fuses.specs.RootSlot.{IsSlot}
+use Rattle.pfr_fuses.specs.RootSlot.{IsSlot, layout_of}
 use Rattle.pfr_script.specs.declared.event.Event.{Event}
 use Rattle.pfr_script.specs.declared.event.Event.TheVariants as event
 use Rattle.pfr_fuses.specs.declared.root_slot.RootSlot.{RootSlot}
@@ -30,6 +38,31 @@ abbrev pub HasCause : Authentication → Type 0
 HasCause (Untrusted why) = IsFound why
 HasCause authentication = Unit {0}
 
+-- the store provisions the bank with a valid layout
+abbrev pub HasLayout : Bank → List ℕ → Result FusesState FuseFail → Type 0
+HasLayout bank image (Ok fuses) = IsValidLayout (layout_of fuses.provision bank) (length image)
+HasLayout bank image (Err cause) = ⊥
+
+-- it does where the bank's image was found untrusted
+abbrev pub IsPlaced : Authentication → Bank → List ℕ → Result FusesState FuseFail → Type 0
+IsPlaced (Untrusted why) bank image found = HasLayout bank image found
+IsPlaced authentication bank image found = Unit {0}
+
+-- what is against a recovery image is no failed device
+abbrev pub IsNoFailure : Option CapsuleFail → Type 0
+IsNoFailure None = Unit {0}
+IsNoFailure (Some cause) = capsules.IsFound cause
+
+-- a recovery image is good where nothing is against it
+abbrev pub IsGoodUnless : Option CapsuleFail → Bank → List ℕ → List ℕ → Acceptance → Type 0
+IsGoodUnless None bank image nv accepts = HasGoodRecovery bank image nv accepts
+IsGoodUnless (Some cause) bank image nv accepts = Unit {0}
+
+-- a lock's causes are no failed devices
+abbrev pub IsText : LockWhy → Type 0
+IsText (NoGoodImage active recovery) = AreFound active recovery
+IsText why = Unit {0}
+
 -- what every bank is found to be where there are no fuses
 abbrev pub without_fuses : FuseFail → Authentication
 without_fuses SlotsSpent = NoSlot
@@ -39,6 +72,11 @@ without_fuses cause = Unprovisioned
 abbrev pub HasSlot : Event → Type 0
 HasSlot (event.Provision what) = IsSlot what
 HasSlot other = Unit {0}
+
+-- the event is taken: it is a power-on, or the banks aren't off
+abbrev pub IsTaken : Event → Lines → Type 0
+IsTaken event.Power lines = Unit {0}
+IsTaken other lines = lines.bmc ≢ line.Off
 
 -- what a provision does in the store, and what is noted of it
 abbrev pub provision_ops : RootSlot → Result ℕ FuseFail → List Operation

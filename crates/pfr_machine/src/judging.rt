@@ -6,11 +6,12 @@ ghost use Rattle.pfr_flash.specs.Reading.{OnlyReads, FailsReading};
 ghost use Rattle.pfr_auth.specs.Judge.{judge_active};
 ghost use Rattle.pfr_fuses.specs.FusesOf.{fuses_of};
 ghost use Rattle.pfr_fuses.specs.RootSlot.{layout_of};
-ghost use Rattle.pfr_calm.specs.Authentication.{authentication_with, by_active, IsBacked};
-ghost use Rattle.pfr_machine.specs.Checks.{HasCause, without_fuses};
+ghost use Rattle.pfr_calm.specs.Authentication.{authentication_with, by_active, judge_recovery, recovery_with, refusal_in, IsBacked};
+ghost use Rattle.pfr_machine.specs.Checks.{HasCause, HasLayout, IsGoodUnless, IsNoFailure, IsPlaced, without_fuses};
 
-use pfr_auth::active;
+use pfr_auth::{Area, active, capsule_at};
 use pfr_calm::Authentication;
+use pfr_capsule::CapsuleFail;
 use pfr_chain::Engine;
 use pfr_flash::{Bank, Flash, FlashFail, Layout};
 use pfr_fuses::{FuseFail, Fuses, load};
@@ -66,6 +67,7 @@ fn judge_provisioned<F: Flash, E: Engine>(
     ensures found { IfOk result (λ found. found ≡ authentication_with bank (now (F.device flash.old)) (E.accepts engine.now) (Ok fuses.now)) }
     ensures cause { IfOk result HasCause }
     ensures backed { IfOk result (λ found. (nv : List ℕ) → fuses_of nv ≡ Ok fuses.now → IsBacked found bank (now (F.device flash.old)) nv (E.accepts engine.now)) }
+    ensures placed { IfOk result (λ found. IsPlaced found bank (now (F.device flash.old)) (Ok fuses.now)) }
     ensures reads { OnlyReads (F.device flash.old) (F.device flash.new) }
     ensures failed { IfErr result (λ fail. FailsReading fail (F.device flash.old) (F.device flash.new)) }
 {
@@ -101,11 +103,58 @@ pub fn judge_bank<F: Flash, E: Engine>(
     ensures found { IfOk result (λ a. a ≡ authentication_with bank (now (F.device flash.old)) (E.accepts engine.now) found.now) }
     ensures cause { IfOk result HasCause }
     ensures backed { IfOk result (λ a. (nv : List ℕ) → fuses_of nv ≡ found.now → IsBacked a bank (now (F.device flash.old)) nv (E.accepts engine.now)) }
+    ensures placed { IfOk result (λ a. IsPlaced a bank (now (F.device flash.old)) found.now) }
     ensures reads { OnlyReads (F.device flash.old) (F.device flash.new) }
     ensures failed { IfErr result (λ fail. FailsReading fail (F.device flash.old) (F.device flash.new)) }
 {
     match found {
         Ok(fuses) => judge_provisioned(flash, bank, fuses, engine),
         Err(why) => Ok(without_fuses(*why)),
+    }
+}
+
+// The image in the recovery area of a bank whose layout is valid: the first cause against it, if there is one.
+fn check_recovery<F: Flash, E: Engine>(
+    flash: &mut F,
+    bank: Bank,
+    fuses: &Fuses,
+    engine: &E,
+) -> Result<Option<CapsuleFail>, FlashFail>
+    requires size { IsBankSize (size_of (F.device flash.old)) }
+    requires valid { IsValidLayout (layout_of fuses.now.provision bank) (size_of (F.device flash.old)) }
+    ensures found { IfOk result (λ against. against ≡ refusal_in (judge_recovery bank (now (F.device flash.old)) fuses.now (E.accepts engine.now))) }
+    ensures cause { IfOk result IsNoFailure }
+    ensures good { IfOk result (λ against. (nv : List ℕ) → fuses_of nv ≡ Ok fuses.now → IsGoodUnless against bank (now (F.device flash.old)) nv (E.accepts engine.now)) }
+    ensures reads { OnlyReads (F.device flash.old) (F.device flash.new) }
+    ensures failed { IfErr result (λ fail. FailsReading fail (F.device flash.old) (F.device flash.new)) }
+{
+    let layout = fuses.provision().layout(bank);
+    match capsule_at(flash, Area::Recovery, bank, layout, fuses, engine) {
+        Ok(_) => Ok(None),
+        Err(why) => match why.failure() {
+            Some(fail) => Err(fail),
+            None => Ok(Some(why)),
+        },
+    }
+}
+
+/// The first cause against the image in a bank's recovery area, if there is one.
+pub fn judge_recovery<F: Flash, E: Engine>(
+    flash: &mut F,
+    bank: Bank,
+    found: &Result<Fuses, FuseFail>,
+    engine: &E,
+) -> Result<Option<CapsuleFail>, FlashFail>
+    requires size { IsBankSize (size_of (F.device flash.old)) }
+    requires placed { HasLayout bank (now (F.device flash.old)) found.now }
+    ensures found { IfOk result (λ against. against ≡ recovery_with bank (now (F.device flash.old)) (E.accepts engine.now) found.now) }
+    ensures cause { IfOk result IsNoFailure }
+    ensures good { IfOk result (λ against. (nv : List ℕ) → fuses_of nv ≡ found.now → IsGoodUnless against bank (now (F.device flash.old)) nv (E.accepts engine.now)) }
+    ensures reads { OnlyReads (F.device flash.old) (F.device flash.new) }
+    ensures failed { IfErr result (λ fail. FailsReading fail (F.device flash.old) (F.device flash.new)) }
+{
+    match found {
+        Ok(fuses) => check_recovery(flash, bank, fuses, engine),
+        Err(_) => unreachable!(),
     }
 }

@@ -7,8 +7,10 @@ mod platform;
 mod provisioning;
 mod reading;
 mod turning;
+mod verdicts;
 mod waking;
 mod works;
 
 pub use pfr_calm::Line;
 pub use platform::{Parts, Platform};
+pub use verdicts::verdict;

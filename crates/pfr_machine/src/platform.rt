@@ -6,9 +6,9 @@ ghost use Rattle.pfr_flash.specs.declared.names.Bank.{Bank};
 ghost use Rattle.pfr_report.specs.Texts.{AllText};
 ghost use Rattle.pfr_calm.specs.Standing.{standing_of, standing_by};
 ghost use Rattle.pfr_fuses.specs.Growth.{NeverGoesBack, KeepsProvision};
-ghost use Rattle.pfr_calm.specs.World.{AllMoved, state_at};
+ghost use Rattle.pfr_calm.specs.World.{AllMoved, IsDark, state_at};
 ghost use Rattle.pfr_calm.specs.Turn.{Turn, next_item};
-ghost use Rattle.pfr_calm.specs.Promises.{ReleasesTrusted, LocksHaveCauses, BringsUpCalm, ProvisionsSo, FaultsHaveCauses, LossesAreNoted, LostEnds, NotesOff, StaysQuiet, AreOff};
+ghost use Rattle.pfr_calm.specs.Promises.{ReleasesTrusted, LocksHaveCauses, BringsUpCalm, ProvisionsSo, FaultsHaveCauses, LossesAreNoted, LostEnds, LostIsDark, NotesOff, StaysQuiet, CallsNone, HasPower, DistrustsWithCause, NotesBelong, AreOff, IsPower};
 ghost use Rattle.pfr_machine.specs.Checks.{HasSlot};
 ghost use Rattle.pfr_calm.specs.Run.{armed, takes_arm, with_arm};
 
@@ -86,15 +86,20 @@ impl<F: Flash, E: Engine + Drop> Platform<F, E> {
         // A bank is released only where it is trusted, and each lock has its cause.
         ensures released { OnOk result (ReleasesTrusted (E.accepts self.old.engine) self.old.world self.new.world) }
         ensures locks { OnOk result (LocksHaveCauses (E.accepts self.old.engine) self.old.world self.new.world) }
+        ensures distrusts { OnOk result (DistrustsWithCause (E.accepts self.old.engine) self.old.world self.new.world) }
         ensures brings_up { OnOk result (BringsUpCalm event.now (E.accepts self.old.engine) self.old.world self.new.world) }
         ensures provisions { OnOk result (ProvisionsSo event.now self.old.world self.new.world) }
+        ensures belongs { OnOk result (NotesBelong event.now self.old.world self.new.world) }
 
         // A fault is noted only where it was counted, and a loss of power exactly where it was.
         ensures faults { OnOk result (FaultsHaveCauses self.old.world self.new.world) }
         ensures losses { OnOk result (LossesAreNoted self.old.world self.new.world) }
         ensures lost { OnOk result (LostEnds self.old.world self.new.world) }
+        ensures dark { OnOk result (LostIsDark self.old.world self.new.world) }
         ensures off { OnOk result (NotesOff event.now self.old.world self.new.world) }
         ensures quiet { OnOk result (StaysQuiet event.now self.old.world self.new.world) }
+        ensures untouched { OnOk result (CallsNone event.now self.old.world self.new.world) }
+        ensures on { OnOk result (HasPower self.new.world) }
         ensures moved { OnOk result (AllMoved (next_item self.old.world) self.new.world) }
 
         // Floors and cancellations never go back, and a provision stays, whatever was cut or torn.
@@ -116,6 +121,9 @@ impl<F: Flash, E: Engine + Drop> Platform<F, E> {
         ensures grows { OnOk result (StoreGrows self.old.world.nv self.new.world.nv) }
         ensures size { OnOk result (size_of self.old.world.nv ≡ 32768) }
         ensures spelled { OnOk result (¬ AreOff self.old.world → HasSlot event.now) }
+        ensures untouched { OnOk result (CallsNone event.now self.old.world self.new.world) }
+        ensures on { OnOk result (HasPower self.new.world) }
+        ensures dark { OnOk result ((AreOff self.old.world → IsPower event.now) → AreOff self.new.world → IsDark self.new.world) }
         ensures err { OnErr result (SameButRoom self.old self.new) }
     {
         self.works.begin()?;

@@ -6,7 +6,7 @@ ghost use Rattle.pfr_flash.specs.declared.names.Device.TheVariants.{Nv};
 ghost use Rattle.pfr_fuses.specs.Provisioning.{judge_provision};
 ghost use Rattle.pfr_fuses.specs.RootSlot.{IsSlot};
 ghost use Rattle.pfr_report.specs.Texts.{AllText, HasText};
-ghost use Rattle.pfr_calm.specs.World.{IsOn};
+ghost use Rattle.pfr_calm.specs.World.{IsOn, IsDark};
 ghost use Rattle.pfr_calm.specs.Goes.{Goes};
 ghost use Rattle.pfr_calm.specs.Plans.{provisioned, refusal_of};
 ghost use Rattle.pfr_calm.specs.Turn.{provision_course, Follows};
@@ -95,6 +95,7 @@ impl<F: Flash, E: Engine + Drop> Works<F, E> {
         requires some { lines.bmc ≢ Line.Off }
         ensures follows { Follows (provision_course what.now) self.old.world self.new.world }
         ensures lines { AreLines result self.new.world }
+        ensures dark { result.bmc ≡ Line.Off → IsDark self.new.world }
         ensures engine { self.new.engine ≡ self.old.engine }
         ensures notes { AddsNotes 64 self.old.world.notes self.new.world.notes }
         ensures texts { AllText self.old.world.notes.list → AllText self.new.world.notes.list }

@@ -8,14 +8,15 @@ ghost use Rattle.pfr_fuses.specs.FusesOf.{fuses_of};
 ghost use Rattle.pfr_calm.specs.Story.{device_of, image_at};
 ghost use Rattle.pfr_calm.specs.World.{story_of, state_at, IsOn};
 ghost use Rattle.pfr_calm.specs.Goes.{Goes};
-ghost use Rattle.pfr_calm.specs.Authentication.{authentication_with, IsBacked};
-ghost use Rattle.pfr_calm.specs.Plans.{authentication_at, migrated, migration_by, migration_in};
-ghost use Rattle.pfr_machine.specs.Checks.{HasCause, StaysOn};
+ghost use Rattle.pfr_calm.specs.Authentication.{authentication_with, recovery_with, IsBacked};
+ghost use Rattle.pfr_calm.specs.Plans.{authentication_at, recovery_at, migrated, migration_by, migration_in};
+ghost use Rattle.pfr_machine.specs.Checks.{HasCause, HasLayout, IsGoodUnless, IsNoFailure, IsPlaced, StaysOn};
 ghost use Rattle.pfr_machine.specs.PlatformState.{with_state, SameStore, StoreGrows};
 
-use crate::judging::{judge_bank, read_fuses};
+use crate::judging::{judge_bank, judge_recovery, read_fuses};
 use crate::works::Works;
 use pfr_calm::{Authentication, Stop};
+use pfr_capsule::CapsuleFail;
 use pfr_chain::Engine;
 use pfr_flash::{Bank, Device, Flash, FlashFail};
 use pfr_fuses::{FuseFail, Fuses};
@@ -41,12 +42,33 @@ impl<F: Flash, E: Engine + Drop> Works<F, E> {
         ensures found { IfOk result (λ a. a ≡ authentication_with bank (now (state_at (device_of bank) self.old.world)) (E.accepts self.old.engine) found.now) }
         ensures cause { IfOk result HasCause }
         ensures backed { IfOk result (λ a. (nv : List ℕ) → fuses_of nv ≡ found.now → IsBacked a bank (now (state_at (device_of bank) self.old.world)) nv (E.accepts self.old.engine)) }
+        ensures placed { IfOk result (λ a. IsPlaced a bank (now (state_at (device_of bank) self.old.world)) found.now) }
         ensures reads { OnlyReads (state_at (device_of bank) self.old.world) (state_at (device_of bank) self.new.world) }
         ensures failed { IfErr result (λ fail. FailsReading fail (state_at (device_of bank) self.old.world) (state_at (device_of bank) self.new.world)) }
     {
         match bank {
             Bank::Bmc => judge_bank(&mut self.bmc, bank, found, &self.engine),
             Bank::Pch => judge_bank(&mut self.pch, bank, found, &self.engine),
+        }
+    }
+
+    // Judges the image in the recovery area of a bank.
+    fn judge_recovery(
+        &mut self,
+        bank: Bank,
+        found: &Result<Fuses, FuseFail>,
+    ) -> Result<Option<CapsuleFail>, FlashFail>
+        requires placed { HasLayout bank (now (state_at (device_of bank) self.old.world)) found.now }
+        ensures same { self.new ≡ record self.old { world = with_state (device_of bank) (state_at (device_of bank) self.new.world) self.old.world } }
+        ensures found { IfOk result (λ r. r ≡ recovery_with bank (now (state_at (device_of bank) self.old.world)) (E.accepts self.old.engine) found.now) }
+        ensures cause { IfOk result IsNoFailure }
+        ensures good { IfOk result (λ r. (nv : List ℕ) → fuses_of nv ≡ found.now → IsGoodUnless r bank (now (state_at (device_of bank) self.old.world)) nv (E.accepts self.old.engine)) }
+        ensures reads { OnlyReads (state_at (device_of bank) self.old.world) (state_at (device_of bank) self.new.world) }
+        ensures failed { IfErr result (λ fail. FailsReading fail (state_at (device_of bank) self.old.world) (state_at (device_of bank) self.new.world)) }
+    {
+        match bank {
+            Bank::Bmc => judge_recovery(&mut self.bmc, bank, found, &self.engine),
+            Bank::Pch => judge_recovery(&mut self.pch, bank, found, &self.engine),
         }
     }
 
@@ -130,6 +152,7 @@ impl<F: Flash, E: Engine + Drop> Works<F, E> {
         ensures is { IfOk result (λ a. a ≡ authentication_at (E.accepts self.old.engine) bank (story_of self.old.world)) }
         ensures cause { IfOk result HasCause }
         ensures backed { IfOk result (λ a. IsBacked a bank (image_at (device_of bank) (story_of self.old.world)) (image_at Nv (story_of self.old.world)) (E.accepts self.old.engine)) }
+        ensures placed { IfOk result (λ a. IsPlaced a bank (image_at (device_of bank) (story_of self.old.world)) found.now) }
         ensures called { IfErr result (λ stop. stop.device ≡ device_of bank) }
         ensures engine { self.new.engine ≡ self.old.engine }
         ensures notes { self.new.world.notes ≡ self.old.world.notes }
@@ -139,6 +162,35 @@ impl<F: Flash, E: Engine + Drop> Works<F, E> {
     {
         match self.judge(bank, found) {
             Ok(authentication) => Ok(authentication),
+            Err(fail) => Err(Stop {
+                device: device_of(bank),
+                fail,
+            }),
+        }
+    }
+
+    /// What the contents say against the image in a bank's recovery area, if they do.
+    pub fn check_recovery(
+        &mut self,
+        bank: Bank,
+        found: &Result<Fuses, FuseFail>,
+    ) -> Result<Option<CapsuleFail>, Stop>
+        requires on { IsOn self.old.world }
+        requires found { found.now ≡ fuses_of (now self.old.world.nv) }
+        requires placed { HasLayout bank (image_at (device_of bank) (story_of self.old.world)) found.now }
+        ensures goes { Goes (λ story. []) self.old.world self.new.world result }
+        ensures is { IfOk result (λ r. r ≡ recovery_at (E.accepts self.old.engine) bank (story_of self.old.world)) }
+        ensures cause { IfOk result IsNoFailure }
+        ensures good { IfOk result (λ r. IsGoodUnless r bank (image_at (device_of bank) (story_of self.old.world)) (image_at Nv (story_of self.old.world)) (E.accepts self.old.engine)) }
+        ensures called { IfErr result (λ stop. stop.device ≡ device_of bank) }
+        ensures engine { self.new.engine ≡ self.old.engine }
+        ensures notes { self.new.world.notes ≡ self.old.world.notes }
+        ensures store { now self.new.world.nv ≡ now self.old.world.nv }
+        ensures on { StaysOn self.new.world result }
+        ensures nothing { SameStore self.old.world.nv self.new.world.nv }
+    {
+        match self.judge_recovery(bank, found) {
+            Ok(against) => Ok(against),
             Err(fail) => Err(Stop {
                 device: device_of(bank),
                 fail,

@@ -3,12 +3,13 @@ ghost use Rattle.std.specs.Prelude.{◌≡◌, ◌≢◌, ◌+◌, ◌*◌, ◌<
 ghost use Rattle.pfr_flash.specs.declared.names.Bank.TheVariants.{Bmc};
 ghost use Rattle.pfr_flash.specs.FlashState.{size_of};
 ghost use Rattle.pfr_report.specs.Texts.{AllText};
-ghost use Rattle.pfr_calm.specs.World.{story_of};
+ghost use Rattle.pfr_calm.specs.Promises.{IsPower};
+ghost use Rattle.pfr_calm.specs.World.{story_of, IsDark, SameDevices};
 ghost use Rattle.pfr_calm.specs.Standing.{standing_of, is_off};
 ghost use Rattle.pfr_calm.specs.Turn.{course, ignored, off_course, provision_course, where_off, next_item, Follows};
 ghost use Rattle.pfr_machine.specs.PlatformState.{AddsNotes, SameButRoom, SameStore, StoreGrows};
 ghost use Rattle.pfr_fuses.specs.RootSlot.{IsSlot};
-ghost use Rattle.pfr_machine.specs.Checks.{HasSlot};
+ghost use Rattle.pfr_machine.specs.Checks.{HasSlot, IsTaken};
 ghost use Rattle.pfr_machine.specs.WorksInside.{AreLines};
 
 use crate::lines::Lines;
@@ -42,6 +43,7 @@ impl<F: Flash, E: Engine + Drop> Works<F, E> {
         requires room { 64 ≤ self.old.world.notes.spare }
         requires lines { AreLines lines self.old.world }
         ensures follows { Follows ignored self.old.world self.new.world }
+        ensures untouched { SameDevices self.old.world self.new.world }
         ensures lines { AreLines result self.new.world }
         ensures engine { self.new.engine ≡ self.old.engine }
         ensures notes { AddsNotes 64 self.old.world.notes self.new.world.notes }
@@ -58,6 +60,8 @@ impl<F: Flash, E: Engine + Drop> Works<F, E> {
         requires lines { AreLines lines self.old.world }
         ensures follows { Follows (where_off (is_off (standing_of Bmc self.old.world.notes.list)) ignored off_course) self.old.world self.new.world }
         ensures lines { AreLines result self.new.world }
+        ensures dark { lines.bmc ≢ Line.Off → IsDark self.new.world }
+        ensures untouched { lines.bmc ≡ Line.Off → SameDevices self.old.world self.new.world }
         ensures engine { self.new.engine ≡ self.old.engine }
         ensures notes { AddsNotes 64 self.old.world.notes self.new.world.notes }
         ensures texts { AllText self.old.world.notes.list → AllText self.new.world.notes.list }
@@ -75,6 +79,8 @@ impl<F: Flash, E: Engine + Drop> Works<F, E> {
         requires lines { AreLines lines self.old.world }
         ensures follows { Follows (where_off (is_off (standing_of Bmc self.old.world.notes.list)) ignored (provision_course what.now)) self.old.world self.new.world }
         ensures lines { AreLines result self.new.world }
+        ensures dark { lines.bmc ≢ Line.Off → result.bmc ≡ Line.Off → IsDark self.new.world }
+        ensures untouched { lines.bmc ≡ Line.Off → SameDevices self.old.world self.new.world }
         ensures engine { self.new.engine ≡ self.old.engine }
         ensures notes { AddsNotes 64 self.old.world.notes self.new.world.notes }
         ensures texts { AllText self.old.world.notes.list → AllText self.new.world.notes.list }
@@ -93,6 +99,8 @@ impl<F: Flash, E: Engine + Drop> Works<F, E> {
         requires lines { AreLines lines self.old.world }
         ensures follows { Follows (course (E.accepts self.old.engine) event.now (story_of self.old.world)) self.old.world self.new.world }
         ensures lines { AreLines result self.new.world }
+        ensures dark { IsTaken event.now lines → result.bmc ≡ Line.Off → IsDark self.new.world }
+        ensures untouched { lines.bmc ≡ Line.Off → ¬ IsPower event.now → SameDevices self.old.world self.new.world }
         ensures engine { self.new.engine ≡ self.old.engine }
         ensures notes { AddsNotes 64 self.old.world.notes self.new.world.notes }
         ensures texts { AllText self.old.world.notes.list → AllText self.new.world.notes.list }

@@ -1,25 +1,31 @@
 // How banks are brought up.
-ghost use Rattle.std.specs.Prelude.{◌≡◌, ◌≢◌, ◌+◌, ◌≤◌, false, OnOk, IfOk, IfErr, if◌then◌else◌};
+ghost use Rattle.std.specs.Prelude.{◌≡◌, ◌≢◌, ◌+◌, ◌≤◌, [], ◌∷◌, false, OnOk, IfOk, IfErr, if◌then◌else◌};
 ghost use Rattle.pfr_flash.specs.declared.names.Bank.{Bank};
-ghost use Rattle.pfr_calm.specs.Standing.{standing_of, standing_by, same_bank};
+ghost use Rattle.pfr_calm.specs.Standing as standing;
+ghost use Rattle.pfr_calm.specs.Standing.{standing_of, same_bank};
 ghost use Rattle.pfr_flash.specs.FlashState.{now};
 ghost use Rattle.pfr_flash.specs.declared.names.Device.TheVariants.{Nv};
 ghost use Rattle.pfr_fuses.specs.FusesOf.{fuses_of};
 ghost use Rattle.pfr_report.specs.Texts.{AllText};
-ghost use Rattle.pfr_calm.specs.Story.{device_of, image_at};
-ghost use Rattle.pfr_calm.specs.World.{story_of, IsOn};
+ghost use Rattle.pfr_report.specs.Words.{IsFound};
+ghost use Rattle.pfr_report.specs.declared.note.What.TheVariants.{Released};
+ghost use Rattle.pfr_calm.specs.Story.{Says, after, device_of, image_at};
+ghost use Rattle.pfr_calm.specs.World.{story_of, IsOn, IsDark};
 ghost use Rattle.pfr_calm.specs.Goes.{Goes, Ran};
-ghost use Rattle.pfr_calm.specs.Course.{Steps, Halt, Halts, CrossesOrFaults};
-ghost use Rattle.pfr_calm.specs.Authentication.{IsBacked};
-ghost use Rattle.pfr_calm.specs.Plans.{authentication_at, brought_up, concluded};
-ghost use Rattle.pfr_calm.specs.Turn.{bank_stretch, bank_stretches, power_stretches, power_course, fault_of, Follows};
+ghost use Rattle.pfr_calm.specs.Course.{Steps, Halt, Halts, CrossesOrFaults, IsShown};
+ghost use Rattle.pfr_calm.specs.Authentication.{IsRestorable};
+ghost use Rattle.pfr_calm.specs.Plans.{authentication_at, recovery_at, lock_of, brought_up, concluded, distrusted};
+ghost use Rattle.pfr_calm.specs.declared.authentication.Authentication.TheVariants.{Untrusted};
+ghost use Rattle.pfr_calm.specs.Turn.{StopsInCheck, bank_stretch, bank_stretches, power_stretches, power_course, fault_of, Follows};
 ghost use Rattle.pfr_machine.specs.PlatformState.{AddsNotes, SameStore, StoreGrows};
 ghost use Rattle.pfr_machine.specs.WorksInside.{AreLines};
-ghost use Rattle.pfr_machine.specs.Checks.{HasCause, StaysOn, line_of, Stand, StandsSo, AreBrought};
+ghost use Rattle.pfr_machine.specs.Checks.{HasCause, HasLayout, IsPlaced, StaysOn, line_of, Stand, StandsSo, AreBrought};
 
 use crate::lines::Lines;
 use crate::works::Works;
+use pfr_auth::ActiveFail;
 use pfr_calm::{Authentication, Line, Stop};
+use pfr_capsule::CapsuleFail;
 use pfr_chain::Engine;
 use pfr_flash::{Bank, Device, Flash, FlashFail};
 use pfr_fuses::{FuseFail, Fuses};
@@ -35,59 +41,128 @@ fn fault_of(device: Device) -> LockWhy
     }
 }
 
+// What a bank is locked with whose active image isn't trusted, by what is against its recovery image.
+fn lock_of(why: ActiveFail, against: Option<CapsuleFail>) -> LockWhy
+    ensures { result ≡ lock_of why against }
+{
+    match against {
+        None => LockWhy::NotRestored,
+        Some(cause) => LockWhy::NoGoodImage(why, cause),
+    }
+}
+
 impl<F: Flash, E: Engine + Drop> Works<F, E> {
-    // Releases or locks the bank by what was found.
-    fn conclude(&mut self, bank: Bank, authentication: Authentication) -> Line
+    // Notes that the bank's image isn't trusted, and locks it by what its recovery area holds.
+    fn distrust(
+        &mut self,
+        bank: Bank,
+        why: ActiveFail,
+        found: &Result<Fuses, FuseFail>,
+    ) -> Result<Line, Stop>
         requires room { 2 ≤ self.old.world.notes.spare }
-        requires cause { HasCause authentication }
-        ensures ran { Ran (concluded bank authentication) self.old.world self.new.world }
-        ensures stands { (which : Bank) → standing_of which self.new.world.notes.list ≡ (if same_bank which bank then standing_by result else standing_of which self.old.world.notes.list) }
-        ensures line { result ≡ line_of authentication }
+        requires on { IsOn self.old.world }
+        requires found { found.now ≡ fuses_of (now self.old.world.nv) }
+        requires placed { HasLayout bank (image_at (device_of bank) (story_of self.old.world)) found.now }
+        requires cause { IsFound why }
+        ensures goes { Goes (λ story. concluded bank (recovery_at (E.accepts self.old.engine) bank story) (Untrusted why)) self.old.world self.new.world result }
+        ensures early { IfErr result (λ stop. story_of self.new.world ≡ after (distrusted bank (Untrusted why)) (story_of self.old.world)) }
+        ensures good { OnOk result (IsRestorable (Untrusted why) (recovery_at (E.accepts self.old.engine) bank (story_of self.old.world)) bank
+            (image_at (device_of bank) (story_of self.old.world)) (image_at Nv (story_of self.old.world)) (E.accepts self.old.engine)) }
+        ensures line { IfOk result (λ line. line ≡ Line.Locked) }
+        ensures stands { IfOk result (λ line. StandsSo bank line self.old.world.notes.list self.new.world.notes.list) }
+        ensures others { (other : Bank) → same_bank other bank ≡ false → standing_of other self.new.world.notes.list ≡ standing_of other self.old.world.notes.list }
+        ensures called { IfErr result (λ stop. stop.device ≡ device_of bank) }
         ensures engine { self.new.engine ≡ self.old.engine }
+        ensures store { now self.new.world.nv ≡ now self.old.world.nv }
         ensures notes { AddsNotes 2 self.old.world.notes self.new.world.notes }
+        ensures few { IfErr result (λ stop. AddsNotes 1 self.old.world.notes self.new.world.notes) }
+        ensures texts { AllText self.old.world.notes.list → AllText self.new.world.notes.list }
+        ensures on { StaysOn self.new.world result }
+        ensures nothing { SameStore self.old.world.nv self.new.world.nv }
+    {
+        self.note(What::Untrusted { bank, why });
+        let against = self.check_recovery(bank, found)?;
+        Ok(self.lock(bank, lock_of(why, against)))
+    }
+
+    // Releases the bank.
+    fn release(&mut self, bank: Bank, svn: u8) -> Line
+        requires room { 1 ≤ self.old.world.notes.spare }
+        ensures ran { Ran (Says (Released bank svn) ∷ []) self.old.world self.new.world }
+        ensures stands { (which : Bank) → standing_of which self.new.world.notes.list ≡ (if same_bank which bank then standing.Running else standing_of which self.old.world.notes.list) }
+        ensures line { result ≡ Line.Running }
+        ensures engine { self.new.engine ≡ self.old.engine }
+        ensures store { now self.new.world.nv ≡ now self.old.world.nv }
+        ensures notes { AddsNotes 1 self.old.world.notes self.new.world.notes }
         ensures texts { AllText self.old.world.notes.list → AllText self.new.world.notes.list }
         ensures on { IsOn self.old.world → IsOn self.new.world }
         ensures nothing { SameStore self.old.world.nv self.new.world.nv }
     {
+        let counts = self.counts();
+        self.note(What::Released { bank, svn, counts });
+        Line::Running
+    }
+
+    // Releases or locks the bank by what was found.
+    fn conclude(
+        &mut self,
+        bank: Bank,
+        authentication: Authentication,
+        found: &Result<Fuses, FuseFail>,
+    ) -> Result<Line, Stop>
+        requires room { 2 ≤ self.old.world.notes.spare }
+        requires on { IsOn self.old.world }
+        requires found { found.now ≡ fuses_of (now self.old.world.nv) }
+        requires placed { IsPlaced authentication bank (image_at (device_of bank) (story_of self.old.world)) found.now }
+        requires cause { HasCause authentication }
+        ensures goes { Goes (λ story. concluded bank (recovery_at (E.accepts self.old.engine) bank story) authentication) self.old.world self.new.world result }
+        ensures early { IfErr result (λ stop. story_of self.new.world ≡ after (distrusted bank authentication) (story_of self.old.world)) }
+        ensures good { OnOk result (IsRestorable authentication (recovery_at (E.accepts self.old.engine) bank (story_of self.old.world)) bank
+            (image_at (device_of bank) (story_of self.old.world)) (image_at Nv (story_of self.old.world)) (E.accepts self.old.engine)) }
+        ensures line { IfOk result (λ line. line ≡ line_of authentication) }
+        ensures stands { IfOk result (λ line. StandsSo bank line self.old.world.notes.list self.new.world.notes.list) }
+        ensures others { (other : Bank) → same_bank other bank ≡ false → standing_of other self.new.world.notes.list ≡ standing_of other self.old.world.notes.list }
+        ensures called { IfErr result (λ stop. stop.device ≡ device_of bank) }
+        ensures engine { self.new.engine ≡ self.old.engine }
+        ensures store { now self.new.world.nv ≡ now self.old.world.nv }
+        ensures notes { AddsNotes 2 self.old.world.notes self.new.world.notes }
+        ensures few { IfErr result (λ stop. AddsNotes 1 self.old.world.notes self.new.world.notes) }
+        ensures texts { AllText self.old.world.notes.list → AllText self.new.world.notes.list }
+        ensures on { StaysOn self.new.world result }
+        ensures nothing { SameStore self.old.world.nv self.new.world.nv }
+    {
         match authentication {
-            Authentication::Unprovisioned => self.lock(bank, LockWhy::Unprovisioned),
-            Authentication::SlotsSpent => self.lock(bank, LockWhy::SlotsSpent),
-            Authentication::BadLayout(rule) => self.lock(bank, LockWhy::Layout(rule)),
-            Authentication::Untrusted(why) => {
-                self.note(What::Untrusted { bank, why });
-                self.lock(bank, LockWhy::NotRestored)
-            }
-            Authentication::Trusted { svn } => {
-                let counts = self.counts();
-                self.note(What::Released { bank, svn, counts });
-                Line::Running
-            }
+            Authentication::Unprovisioned => Ok(self.lock(bank, LockWhy::Unprovisioned)),
+            Authentication::SlotsSpent => Ok(self.lock(bank, LockWhy::SlotsSpent)),
+            Authentication::BadLayout(rule) => Ok(self.lock(bank, LockWhy::Layout(rule))),
+            Authentication::Untrusted(why) => self.distrust(bank, why, found),
+            Authentication::Trusted { svn } => Ok(self.release(bank, svn)),
         }
     }
 
-    // Holds the bank, and releases or locks it by what its image and the fuses say.
+    // Holds the bank, and releases or locks it by what its images and the fuses say.
     fn work_on(&mut self, bank: Bank, found: &Result<Fuses, FuseFail>) -> Result<Line, Stop>
         requires room { 3 ≤ self.old.world.notes.spare }
         requires on { IsOn self.old.world }
         requires found { found.now ≡ fuses_of (now self.old.world.nv) }
         ensures goes { Goes (brought_up (E.accepts self.old.engine) bank) self.old.world self.new.world result }
+        ensures early { IfErr result (λ stop. StopsInCheck (E.accepts self.old.engine) bank (story_of self.old.world) (story_of self.new.world)) }
         ensures line { IfOk result (λ line. line ≡ line_of (authentication_at (E.accepts self.old.engine) bank (story_of self.old.world))) }
-        ensures backed { OnOk result (IsBacked (authentication_at (E.accepts self.old.engine) bank (story_of self.old.world)) bank
-            (image_at (device_of bank) (story_of self.old.world)) (image_at Nv (story_of self.old.world)) (E.accepts self.old.engine)) }
+        ensures shown { OnOk result (IsShown (record { bank = bank; accepts = E.accepts self.old.engine }) (story_of self.old.world)) }
         ensures stands { IfOk result (λ line. StandsSo bank line self.old.world.notes.list self.new.world.notes.list) }
         ensures others { (other : Bank) → same_bank other bank ≡ false → standing_of other self.new.world.notes.list ≡ standing_of other self.old.world.notes.list }
         ensures called { IfErr result (λ stop. stop.device ≡ device_of bank) }
         ensures engine { self.new.engine ≡ self.old.engine }
         ensures store { now self.new.world.nv ≡ now self.old.world.nv }
         ensures notes { AddsNotes 3 self.old.world.notes self.new.world.notes }
-        ensures held { IfErr result (λ stop. AddsNotes 1 self.old.world.notes self.new.world.notes) }
+        ensures few { IfErr result (λ stop. AddsNotes 2 self.old.world.notes self.new.world.notes) }
         ensures texts { AllText self.old.world.notes.list → AllText self.new.world.notes.list }
         ensures on { StaysOn self.new.world result }
         ensures nothing { SameStore self.old.world.nv self.new.world.nv }
     {
         self.hold(bank);
         let authentication = self.authenticate(bank, found)?;
-        Ok(self.conclude(bank, authentication))
+        self.conclude(bank, authentication, found)
     }
 
     /// Brings the bank up. Where a device fails the bank is locked; where one loses the power, that device is
@@ -180,6 +255,7 @@ impl<F: Flash, E: Engine + Drop> Works<F, E> {
         requires room { 64 ≤ self.old.world.notes.spare }
         ensures follows { Follows (power_course (E.accepts self.old.engine)) self.old.world self.new.world }
         ensures lines { AreLines result self.new.world }
+        ensures dark { result.bmc ≡ Line.Off → IsDark self.new.world }
         ensures engine { self.new.engine ≡ self.old.engine }
         ensures notes { AddsNotes 64 self.old.world.notes self.new.world.notes }
         ensures texts { AllText self.old.world.notes.list → AllText self.new.world.notes.list }

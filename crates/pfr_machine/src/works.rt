@@ -8,12 +8,12 @@ ghost use Rattle.pfr_report.specs.Texts.{AllText, HasText};
 ghost use Rattle.pfr_report.specs.declared.note.What.{What};
 ghost use Rattle.pfr_report.specs.declared.note.What.TheVariants.{Held, Locked, Lost};
 ghost use Rattle.pfr_calm.specs.Story.{Says, counts_of};
-ghost use Rattle.pfr_calm.specs.World.{story_of, IsOn};
+ghost use Rattle.pfr_calm.specs.World.{story_of, IsOn, IsDark, SameDevices};
 ghost use Rattle.pfr_calm.specs.Goes.{Ran};
 ghost use Rattle.pfr_calm.specs.Turn.{unreadable};
 ghost use Rattle.pfr_machine.specs.PlatformState.{AddsNotes, with_note, switched, SameStore};
 ghost use Rattle.pfr_flash.specs.FlashState.{now};
-ghost use Rattle.pfr_machine.specs.Checks.{both, Stand};
+ghost use Rattle.pfr_machine.specs.Checks.{both, IsText, Stand};
 
 use crate::lines::{LOCKED, Lines, OFF};
 use pfr_calm::Line;
@@ -93,6 +93,7 @@ impl<F: Flash, E: Engine + Drop> Works<F, E> {
         ensures notes { AddsNotes 1 self.old.world.notes self.new.world.notes }
         ensures texts { AllText self.old.world.notes.list → HasText what → AllText self.new.world.notes.list }
         ensures on { IsOn self.old.world → IsOn self.new.world }
+        ensures untouched { SameDevices self.old.world self.new.world }
         ensures nothing { SameStore self.old.world.nv self.new.world.nv }
     {
         self.push(what);
@@ -101,6 +102,7 @@ impl<F: Flash, E: Engine + Drop> Works<F, E> {
     /// Locks the bank.
     pub fn lock(&mut self, bank: Bank, why: LockWhy) -> Line
         requires room { 1 ≤ self.old.world.notes.spare }
+        requires text { IsText why }
         ensures ran { Ran (Says (Locked bank why) ∷ []) self.old.world self.new.world }
         ensures stands { (which : Bank) → standing_of which self.new.world.notes.list ≡ (if same_bank which bank then standing.Locked else standing_of which self.old.world.notes.list) }
         ensures line { result ≡ Line.Locked }
@@ -167,6 +169,7 @@ impl<F: Flash, E: Engine + Drop> Works<F, E> {
         requires room { 1 ≤ self.old.world.notes.spare }
         ensures ran { Ran (Says (Lost device) ∷ []) self.old.world self.new.world }
         ensures lines { result ≡ both Line.Off }
+        ensures dark { IsDark self.new.world }
         ensures stand { Stand result self.new.world.notes.list }
         ensures engine { self.new.engine ≡ self.old.engine }
         ensures notes { AddsNotes 1 self.old.world.notes self.new.world.notes }

@@ -1,8 +1,8 @@
-use Rattle.pfr_calm.proofs.NoteLaws.{Turn-releases, Turn-locks, Turn-faults, Turn-moved}
+use Rattle.pfr_calm.proofs.EventLaws.{Turn-belongs}
+use Rattle.pfr_calm.proofs.NoteLaws.{Turn-releases, Turn-locks, Turn-distrusts, Turn-faults, Turn-moved}
 use Rattle.pfr_calm.proofs.PowerLaws.{Turn-brings_up}
 use Rattle.pfr_calm.proofs.LossLaws.{Turn-losses, Turn-lost_ends, Turn-notes_off, Turn-stays_quiet}
-use Rattle.pfr_calm.proofs.GrowthLaws.{Turn-keeps_provision}
-use Rattle.pfr_machine.proofs.TurnLemmas.{by_turn, by_both, by_three, provisions_so}
+use Rattle.pfr_machine.proofs.TurnLemmas.{by_turn, by_both, by_three, provisions_so, keeps_so, lost_is_dark}
 use Rattle.pfr_machine.proofs.platform.Platform.step.Goals as goal
 
 pub returns-clause-released : goal.returns-clause-released
@@ -33,10 +33,20 @@ pub returns-clause-moved : goal.returns-clause-moved
 returns-clause-moved g c = by_turn c.work.result c.work.ensures.turn (λ t. Turn-moved _ c.args.event.now _ _ t)
 
 pub returns-clause-provision : goal.returns-clause-provision
-returns-clause-provision g c = by_both c.work.result c.work.ensures.turn c.work.ensures.size (λ t size. Turn-keeps_provision _ c.args.event.now _ _ size t)
+returns-clause-provision g c = by_three c.work.result c.work.ensures.turn c.work.ensures.size c.work.ensures.spelled (λ t size slot. keeps_so _ c.args.event.now _ _ size slot t)
 
 pub returns-clause-provisions : goal.returns-clause-provisions
 returns-clause-provisions g c = by_three c.work.result c.work.ensures.turn c.work.ensures.size c.work.ensures.spelled (λ t size slot. provisions_so _ c.args.event.now _ _ size slot t)
 
 pub returns-clause-grows : goal.returns-clause-grows
 returns-clause-grows g c = by_turn c.work.result c.work.ensures.grows (λ h. h.grows)
+
+pub returns-clause-dark : goal.returns-clause-dark
+returns-clause-dark g c = by_both c.work.result c.work.ensures.turn c.work.ensures.dark (λ t dark.
+    lost_is_dark c.args.event.now _ _ (Turn-stays_quiet _ c.args.event.now _ _ t) (Turn-lost_ends _ c.args.event.now _ _ t) dark)
+
+pub returns-clause-distrusts : goal.returns-clause-distrusts
+returns-clause-distrusts g c = by_turn c.work.result c.work.ensures.turn (λ t. Turn-distrusts _ c.args.event.now _ _ t)
+
+pub returns-clause-belongs : goal.returns-clause-belongs
+returns-clause-belongs g c = by_turn c.work.result c.work.ensures.turn (λ t. Turn-belongs _ c.args.event.now _ _ t)

@@ -10,4 +10,4 @@ returns-in-Err-Fault-clause-crosses g c =
     let f : c.in-Err-Fault.field-0.fail ≡ Fault = cc in
     let d : c.in-Err-Fault.field-0.device ≡ c.in-Err-Fault.device = cc in
     faulted _ c.args.bank c.in-Err-Fault.device c.in-Err-Fault.field-0.device c.in-Err-Fault.field-0.fail c.fault_of.result _ _ _ f d
-    c.in-Err-Fault.ensures.goes c.in-Err-Fault.ensures.called c.in-Err-Fault.ensures.held (rw d at c.fault_of.ensures) c.lock.ensures.ran
+    c.in-Err-Fault.ensures.goes c.in-Err-Fault.ensures.called c.in-Err-Fault.ensures.early (rw d at c.fault_of.ensures) c.lock.ensures.ran

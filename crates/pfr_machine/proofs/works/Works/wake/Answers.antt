@@ -13,4 +13,4 @@ pub returns-in-Err-Fault-clause-steps : goal.returns-in-Err-Fault-clause-steps
 returns-in-Err-Fault-clause-steps g c =
     let a = c.in-Err-Fault.is in
     let f : c.in-Err-Fault.field-0.fail ≡ Fault = cc in
-    unread _ _ _ _ c.in-Err-Fault.field-0.device c.in-Err-Fault.field-0.fail f c.in-Err-Fault.ensures.called c.in-Err-Fault.ensures.goes c.lock_unread.ensures.ran
+    unread _ _ _ _ c.in-Err-Fault.field-0.device c.in-Err-Fault.field-0.fail f c.in-Err-Fault.ensures.called c.in-Err-Fault.ensures.goes c.prepare.ensures.notes c.lock_unread.ensures.ran
