@@ -1,13 +1,12 @@
 -- What a bench promises, by the laws of whole runs.
 use Rattle.std.proofs.Common.{◌≡◌, sym, refl, subst, ℕ, List, take, Option, Some, None}
 use Rattle.std.specs.Prelude.{IfSome}
-use Rattle.pfr_flash.specs.FlashState.{FlashState, Rose}
+use Rattle.pfr_flash.specs.FlashState.{Rose}
 use Rattle.pfr_flash.specs.declared.names.Bank.{Bank}
 use Rattle.pfr_flash.specs.declared.names.Bank.TheVariants as bank
 use Rattle.pfr_flash.specs.declared.names.Counts.{Counts}
 use Rattle.pfr_engine.specs.Acceptance.{Acceptance}
 use Rattle.pfr_engine.specs.Accepting.{acceptance}
-use Rattle.pfr_fuses.specs.Growth.{KeepsProvision}
 use Rattle.pfr_script.specs.declared.item.Item.{Item}
 use Rattle.pfr_script.specs.declared.item.Item.TheVariants as item
 use Rattle.pfr_report.specs.Texts.{IsNoted}
@@ -20,7 +19,6 @@ use Rattle.pfr_calm.specs.Spans.{ReleasedSpans}
 use Rattle.pfr_calm.specs.Promises.{ReleasesTrusted, LocksHaveCauses, FaultsHaveCauses, added}
 use Rattle.pfr_calm.proofs.PowerLaws.{Turn-brings_up}
 use Rattle.pfr_calm.proofs.RunLaws.{IsFresh, Reached-spans, Reached-releases, Reached-causes, Reached-faults, Reached-with}
-use Rattle.pfr_calm.proofs.GrowthLaws.{Reached-provision}
 use Rattle.pfr.specs.Benches.{fresh_of, end_of, StandsAs, HasRun}
 use Rattle.pfr.specs.Promises.{HasReleasedSpans, ReleasesTrustedBanks, HasDueLocks, BringsBanksUp, BringsUpIn, KeepsFuses, StaysProvisioned}
 use Rattle.pfr.specs.declared.finished.Bench.{Bench}
@@ -86,8 +84,7 @@ has_grown : (bench : Bench) → HasRun bench → KeepsFuses bench
 has_grown bench has = has.grown
 
 has_provision : (bench : Bench) → HasRun bench → StaysProvisioned bench
-has_provision bench has = subst (λ (d : FlashState). KeepsProvision (fresh_of bench).nv d) (sym has.run.left.nv)
-    (Reached-provision (acceptance bench.engine) bench.script.tears (take has.count bench.script.items) (fresh_of bench) has.run.end has.sizes.nv has.run.reached)
+has_provision bench has = has.kept
 
 did_brings : (accepts : Acceptance) (tears : List (List ℕ)) (i : Item) (old new : World) → Did accepts tears i old new → BringsUpIn accepts i old new
 did_brings accepts tears (item.Event e) old new t = Turn-brings_up accepts e old new t

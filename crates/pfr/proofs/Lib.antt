@@ -6,3 +6,5 @@ pub mod RunLemmas
 pub mod WordLemmas
 pub mod BenchLemmas
 pub mod TopLemmas
+pub mod CommandLemmas
+pub mod CheckLemmas

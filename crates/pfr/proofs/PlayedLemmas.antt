@@ -22,11 +22,11 @@ use Rattle.pfr_report.specs.Texts.{AllText}
 use Rattle.pfr_calm.specs.World.{World, state_at}
 use Rattle.pfr_calm.specs.Turn.{next_item}
 use Rattle.pfr_calm.specs.Run.{Did, Reached, CanRun, with_arm, with_arm_at}
-use Rattle.pfr_machine.specs.PlatformState.{PlatformState, StoreGrows}
+use Rattle.pfr_machine.specs.PlatformState.{PlatformState}
 use Rattle.pfr.specs.Benches.{made_as, bank_room}
 use Rattle.pfr.specs.Judging.{image_fits}
 use Rattle.pfr.specs.Loading.{HasSizes}
-use Rattle.pfr.specs.Played.{fresh, Plays, IsPlayedFrom, PlayedFrom, PlayedOf, IsRunOf}
+use Rattle.pfr.specs.Played.{fresh, Plays, IsPlayedFrom, PlayedFrom, PlayedOf, IsRunOf, StoreLasts}
 use Rattle.pfr.specs.declared.finished.Bench.{Bench}
 use Rattle.pfr.specs.declared.load.Loaded.{Loaded}
 use Rattle.pfr.specs.declared.playing.Played.{Played}
@@ -36,9 +36,9 @@ use Rattle.pfr_calm.proofs.NoteLaws.{Turn-moved}
 
 -- the platform is taken apart
 pub played_parts : (start : PlatformState (List Row)) (script : ScriptState) (items : List Item) (bench : Bench) (w : World) → Plays script items start w
-    → StoreGrows start.world.nv w.nv → bench.bmc.device ≡ w.bmc → bench.pch.device ≡ w.pch → bench.nv.device ≡ w.nv → bench.notes ≡ w.notes → AllText w.notes.list
+    → StoreLasts start.world.nv w.nv → bench.bmc.device ≡ w.bmc → bench.pch.device ≡ w.pch → bench.nv.device ≡ w.nv → bench.notes ≡ w.notes → AllText w.notes.list
     → bench.engine ≡ start.engine → bench.script ≡ script → IsPlayedFrom start script items bench
-played_parts start script items bench w plays grown bmc pch nv notes texts engine same = record {
+played_parts start script items bench w plays lasts bmc pch nv notes texts engine same = record {
   plays = record {
     end = plays.end;
     reached = plays.reached;
@@ -49,7 +49,7 @@ played_parts start script items bench w plays grown bmc pch nv notes texts engin
       notes = ap (λ (n : NotesState). n.list) notes ∙ plays.left.notes;
     };
   };
-  grown = subst (λ (d : FlashState). StoreGrows start.world.nv d) (sym nv) grown;
+  lasts = subst (λ (d : FlashState). StoreLasts start.world.nv d) (sym nv) lasts;
   texts = subst (λ (n : NotesState). AllText n.list) (sym notes) texts;
   judged_by = engine;
   scripted = same;
@@ -159,7 +159,8 @@ run_of wear loaded bench start items sizes is played =
         reached = rw (made_alike bench.bmc.device _ _ bmc bmc_room, made_alike bench.pch.device _ _ pch pch_room, made_alike bench.nv.device _ _ nv nv_room) reached;
         left = left;
       };
-      grown = rw (made_alike bench.nv.device _ _ nv nv_room) (rw (ap (λ (s : PlatformState (List Row)). s.world.nv) is) at played.grown).grows;
+      grown = rw (made_alike bench.nv.device _ _ nv nv_room) (rw (ap (λ (s : PlatformState (List Row)). s.world.nv) is) at played.lasts).grows.grows;
+      kept = rw (made_alike bench.nv.device _ _ nv nv_room) (rw (ap (λ (s : PlatformState (List Row)). s.world.nv) is) at played.lasts).keeps;
       sizes = record {
         bmc = rw bmc (bank_size (length loaded.bmc.items) sizes.bmc);
         pch = rw pch (bank_size (length loaded.pch.items) sizes.pch);

@@ -6,15 +6,15 @@ use Rattle.std.proofs.lemmas.Slice.Eq.{bytes_eq-Decides}
 use Rattle.pfr_shelf.specs.Causes.{Rose}
 use Rattle.pfr_shelf.specs.Files.{Files, put_file}
 use Rattle.pfr_shelf.specs.Pieces.{AppendsPart, Writes}
-use Rattle.pfr_report.specs.Texts.{report}
 use Rattle.pfr.specs.Lines.{error_line}
-use Rattle.pfr.specs.Request.{RunRequest}
-use Rattle.pfr.specs.Runs.{Outside, RunAnswers, RunOutput, StoresNothing, outside}
+use Rattle.pfr.specs.Checks.{CheckAnswers}
+use Rattle.pfr.specs.Request.{RunRequest, CheckRequest}
+use Rattle.pfr.specs.Runs.{Outside, RunAnswers, outside}
 use Rattle.pfr.specs.Storing.{KeepsOthers, StopsStoring, with_bmc, with_pch, with_images}
-use Rattle.pfr.specs.Top.{Output}
+use Rattle.pfr.specs.Top.{Got, Output, StoresNothing}
 use Rattle.pfr.specs.declared.finished.Bench.{Bench}
 use Rattle.pfr.specs.declared.words.Command.{Command}
-use Rattle.pfr.specs.declared.words.Command.TheVariants.{Run}
+use Rattle.pfr.specs.declared.words.Command.TheVariants.{Run, Check}
 use Rattle.pfr.specs.declared.status.Role.{Role}
 use Rattle.pfr.specs.declared.status.Role.TheVariants as role
 use Rattle.pfr.specs.declared.status.Status.{Status}
@@ -64,7 +64,7 @@ others_kept told before after request None NoMemory a t = elim a [
   | inr late ↦ absurd late
 ]
 
-run_stays : (told : Bool) (before after : Outside) (request : RunRequest) (option : Option Bench) (status : Status) → RunAnswers told before after request option status → StoresNothing status → told ≡ true
+run_stays : (told : Bool) (before after : Outside) (request : RunRequest) (option : Option Bench) (status : Status) → RunAnswers told before after request option status → StoresNothing (Some (Run request)) status → told ≡ true
     → after.files ≡ before.files
 run_stays told before after request option Done a n t = absurd n
 run_stays told before after request option Usage a n t = absurd a
@@ -78,9 +78,11 @@ run_stays told before after request option NoMemory a n t = absurd n
 
 pub files_stay : (told : Bool) (before after : Outside) (asks : Option Command) (option : Option Bench) (status : Status)
     → (asks ≡ None → (option ≡ None) × (told ≡ true → after.files ≡ before.files))
-    → ((request : RunRequest) → asks ≡ Some (Run request) → RunAnswers told before after request option status) → StoresNothing status → told ≡ true → after.files ≡ before.files
-files_stay told before after None option status unused run n t = (unused refl).1 t
-files_stay told before after (Some (Run request)) option status unused run n t = run_stays told before after request option status (run request refl) n t
+    → ((request : RunRequest) → asks ≡ Some (Run request) → RunAnswers told before after request option status)
+    → ((request : CheckRequest) → asks ≡ Some (Check request) → CheckAnswers told before after request option status) → StoresNothing asks status → told ≡ true → after.files ≡ before.files
+files_stay told before after None option status unused run check n t = (unused refl).1 t
+files_stay told before after (Some (Run request)) option status unused run check n t = run_stays told before after request option status (run request refl) n t
+files_stay told before after (Some (Check request)) option status unused run check n t = (check request refl).files t
 
 -- ---- output
 -- no part of nothing is something
@@ -104,14 +106,16 @@ line_after tells written faults first old new text line (Err e) said later w t =
     inr (let r = w.failed in omega arith, subst (λ (o : List ℕ). AppendsPart o (written new) line) (said t) (w.part t))
 
 -- what the sink got before the line, and the line
-pub output_and_line : {S K T E : Type 0} (tells : Bool) (files : S → Files) (shelf_faults : S → ℕ) (written : K → List ℕ) (faults : K → ℕ) (s0 s1 : S) (o0 o1 o2 : K) (option : Option Bench) (status : Status) (r : Result T E) → faults o0 ≤ faults o1 → Writes tells written faults o1 o2 (error_line status) r → RunOutput tells (outside files shelf_faults written faults s0 o0) (outside files shelf_faults written faults s1 o1) option status → Output tells (outside files shelf_faults written faults s0 o0) (outside files shelf_faults written faults s1 o2) option status
-output_and_line tells files shelf_faults written faults s0 s1 o0 o1 o2 None Done r later w o = absurd o.1
-output_and_line tells files shelf_faults written faults s0 s1 o0 o1 o2 (Some bench) Done r later w o = λ t. line_of_nothing tells written faults o1 o2 r w t ∙ (o.2 t ∙ ap (λ m. written o0 ++ m) o.1)
-output_and_line tells files shelf_faults written faults s0 s1 o0 o1 o2 None WriteFault r later w o = absurd o
-output_and_line tells files shelf_faults written faults s0 s1 o0 o1 o2 (Some bench) WriteFault r later w o = λ t. subst (λ (n : List ℕ). AppendsPart (written o0) n (report bench.notes.list)) (sym (line_of_nothing tells written faults o1 o2 r w t)) (o t)
-output_and_line tells files shelf_faults written faults s0 s1 o0 o1 o2 option Usage r later w o = (o.0, o.1, line_after tells written faults o0 o1 o2 o.0 (error_line Usage) r o.2 later w)
-output_and_line tells files shelf_faults written faults s0 s1 o0 o1 o2 option (BadInput file place why) r later w o = (o.0, o.1, line_after tells written faults o0 o1 o2 o.0 (error_line (BadInput file place why)) r o.2 later w)
-output_and_line tells files shelf_faults written faults s0 s1 o0 o1 o2 option (TooLong file) r later w o = (o.0, o.1, line_after tells written faults o0 o1 o2 o.0 (error_line (TooLong file)) r o.2 later w)
-output_and_line tells files shelf_faults written faults s0 s1 o0 o1 o2 option (ReadFault file) r later w o = (o.0, o.1, line_after tells written faults o0 o1 o2 o.0 (error_line (ReadFault file)) r o.2 later w)
-output_and_line tells files shelf_faults written faults s0 s1 o0 o1 o2 option (StoreFault file) r later w o = (o.0, o.1, line_after tells written faults o0 o1 o2 o.0 (error_line (StoreFault file)) r o.2 later w)
-output_and_line tells files shelf_faults written faults s0 s1 o0 o1 o2 option NoMemory r later w o = (o.0, o.1, line_after tells written faults o0 o1 o2 o.0 (error_line NoMemory) r o.2 later w)
+pub output_and_line : {S K T E : Type 0} (tells told : Bool) (files : S → Files) (shelf_faults : S → ℕ) (written : K → List ℕ) (faults : K → ℕ) (s0 s1 : S) (o0 o1 o2 : K) (asks : Option Command) (option : Option Bench) (status : Status) (r : Result T E)
+    → faults o0 ≤ faults o1 → Writes told written faults o1 o2 (error_line status) r
+    → Got tells told (outside files shelf_faults written faults s0 o0) (outside files shelf_faults written faults s1 o1) asks option status
+    → Output tells told (outside files shelf_faults written faults s0 o0) (outside files shelf_faults written faults s1 o2) asks option status
+output_and_line tells told files shelf_faults written faults s0 s1 o0 o1 o2 asks option Done r later w o = (o.0, o.1, λ t. line_of_nothing told written faults o1 o2 r w t ∙ o.2 t)
+output_and_line tells told files shelf_faults written faults s0 s1 o0 o1 o2 asks option WriteFault r later w o =
+    (o.0, o.1, λ t. subst (λ (n : List ℕ). AppendsPart (written o0) n o.0) (sym (line_of_nothing told written faults o1 o2 r w t)) (o.2 t))
+output_and_line tells told files shelf_faults written faults s0 s1 o0 o1 o2 asks option Usage r later w o = (o.0, o.1, line_after told written faults o0 o1 o2 o.0 (error_line Usage) r o.2 later w)
+output_and_line tells told files shelf_faults written faults s0 s1 o0 o1 o2 asks option (BadInput file place why) r later w o = (o.0, o.1, line_after told written faults o0 o1 o2 o.0 (error_line (BadInput file place why)) r o.2 later w)
+output_and_line tells told files shelf_faults written faults s0 s1 o0 o1 o2 asks option (TooLong file) r later w o = (o.0, o.1, line_after told written faults o0 o1 o2 o.0 (error_line (TooLong file)) r o.2 later w)
+output_and_line tells told files shelf_faults written faults s0 s1 o0 o1 o2 asks option (ReadFault file) r later w o = (o.0, o.1, line_after told written faults o0 o1 o2 o.0 (error_line (ReadFault file)) r o.2 later w)
+output_and_line tells told files shelf_faults written faults s0 s1 o0 o1 o2 asks option (StoreFault file) r later w o = (o.0, o.1, line_after told written faults o0 o1 o2 o.0 (error_line (StoreFault file)) r o.2 later w)
+output_and_line tells told files shelf_faults written faults s0 s1 o0 o1 o2 asks option NoMemory r later w o = (o.0, o.1, line_after told written faults o0 o1 o2 o.0 (error_line NoMemory) r o.2 later w)

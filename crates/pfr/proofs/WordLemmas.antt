@@ -1,12 +1,12 @@
 -- The numbers that words spell.
-use Rattle.std.proofs.Common.{◌≡◌, ℕ, ◌<◌, ◌==◌, true, false, not, nat_le, List, [], ◌∷◌, length, Option, Some, None, Result, Ok, Err, refl, arith, rules, if◌then◌else◌}
+use Rattle.std.proofs.Common.{◌≡◌, ℕ, ◌<◌, ◌≤◌, ◌==◌, true, false, not, nat_le, List, [], ◌∷◌, length, Option, Some, None, Result, Ok, Err, refl, arith, rules, if◌then◌else◌}
 use Rattle.std.specs.Char.{is_ascii_digit}
 use Rattle.std.specs.List.{list_all}
 use Rattle.std.specs.Str.Parse.{digits_value, ParsesUnsigned}
 use Rattle.std.proofs.lemmas.Bool.{and_parts}
 use Rattle.std.proofs.lemmas.Bool.Decides.{nat_tests}
 use Rattle.std.proofs.lemmas.Str.Parse.{IsNumeralModel, numerals_by_value, parse_digits}
-use Rattle.pfr.specs.Commands.{is_numeral, wear_of}
+use Rattle.pfr.specs.Commands.{is_numeral, run_request, wear_of}
 
 numerals : IsNumeralModel (λ ds. list_all is_ascii_digit ds ≡ true) (digits_value 10)
 numerals = numerals_by_value (λ ds. list_all is_ascii_digit ds ≡ true) (search rules)
@@ -32,3 +32,14 @@ parsed {E} word (Err e) numeral h =
     let p = parse_digits numerals {E = E} 32 word (Err e) h (digits_of word numeral) in
     let wide : nat_le (digits_value 10 word) 16 ≡ false = grind (arith, nat_tests, some_digit word numeral) in
     rw (numeral, wide) refl
+
+-- words of a run are five or six
+pub run_none : (words : List (List ℕ)) → ¬ ((5 ≤ length words) × (length words ≤ 6)) → run_request words ≡ None
+run_none [] n = refl
+run_none (a ∷ []) n = refl
+run_none (a ∷ b ∷ []) n = refl
+run_none (a ∷ b ∷ c ∷ []) n = refl
+run_none (a ∷ b ∷ c ∷ d ∷ []) n = refl
+run_none (a ∷ b ∷ c ∷ d ∷ e ∷ []) n = absurd (n (omega arith, omega arith))
+run_none (a ∷ b ∷ c ∷ d ∷ e ∷ f ∷ []) n = absurd (n (omega arith, omega arith))
+run_none (a ∷ b ∷ c ∷ d ∷ e ∷ f ∷ g ∷ rest) n = refl

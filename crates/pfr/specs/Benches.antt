@@ -2,7 +2,7 @@
 use Rattle.std.specs.Prelude.{◌≡◌, ℕ, ◌*◌, ◌/◌, List, [], Some, length, take}
 use Rattle.pfr_flash.specs.FlashState.{FlashState}
 use Rattle.pfr_flash.specs.MemFlash.{new_device}
-use Rattle.pfr_fuses.specs.Growth.{NeverGoesBack}
+use Rattle.pfr_fuses.specs.Growth.{NeverGoesBack, KeepsProvision}
 use Rattle.pfr_engine.specs.Accepting.{acceptance}
 use Rattle.pfr_script.specs.declared.item.Item.{Item}
 use Rattle.pfr_report.specs.Texts.{AllText}
@@ -56,6 +56,7 @@ pub record HasRun (bench : Bench) : Type 0 where
   pub count : ℕ
   pub run : IsRun (take count bench.script.items) bench
   pub grown : NeverGoesBack (fresh_of bench).nv bench.nv.device
+  pub kept : KeepsProvision (fresh_of bench).nv bench.nv.device
   pub sizes : HasSizes (fresh_of bench)
   pub texts : AllText bench.notes.list
 

@@ -4,14 +4,10 @@ use Rattle.std.specs.Char.{is_ascii_digit}
 use Rattle.std.specs.List.{list_all}
 use Rattle.std.specs.Str.{bytes_eq}
 use Rattle.std.specs.Str.Parse.{digits_value}
-use Rattle.pfr.specs.Request.{RunRequest}
+use Rattle.pfr_args.specs.Plain.{is_plain}
+use Rattle.pfr.specs.Request.{RunRequest, CheckRequest}
 use Rattle.pfr.specs.declared.words.Command.{Command}
-use Rattle.pfr.specs.declared.words.Command.TheVariants.{Run}
-
--- a word that may stand in a command: it is not empty, and does not begin with a dash
-abbrev pub is_plain : List ℕ → Bool
-is_plain [] = false
-is_plain (first ∷ rest) = not (first == 45)
+use Rattle.pfr.specs.declared.words.Command.TheVariants.{Run, Check}
 
 -- decimal digits, the first of which is no zero
 abbrev pub is_numeral : List ℕ → Bool
@@ -34,11 +30,22 @@ run_request (bmc ∷ pch ∷ nv ∷ engine ∷ script ∷ rest) =
     option_map (λ wear. record { bmc = bmc; pch = pch; nv = nv; engine = engine; script = script; wear = wear }) (wear_in rest)
 run_request _ = None
 
--- the command of such words: its name, and then its own words
+-- the files of a check
+abbrev pub check_request : List (List ℕ) → Option CheckRequest
+check_request (bmc ∷ pch ∷ nv ∷ engine ∷ []) = Some (record { bmc = bmc; pch = pch; nv = nv; engine = engine })
+check_request _ = None
+
+-- the command of such a name and such words behind it
+abbrev pub command_named : List ℕ → List (List ℕ) → Option Command
+command_named name rest =
+    if bytes_eq name (codes "run") then option_map (λ request. Run request) (run_request rest)
+    else if bytes_eq name (codes "check") then option_map (λ request. Check request) (check_request rest)
+    else None
+
 abbrev pub shape_of : List (List ℕ) → Option Command
 shape_of [] = None
-shape_of (name ∷ rest) = if bytes_eq name (codes "run") then option_map (λ request. Run request) (run_request rest) else None
+shape_of (name ∷ rest) = command_named name rest
 
--- the command that the words are, if they are one
+-- The command that the words are, if they are one: none is empty or begins with a dash, the first is its name, and then come its own.
 abbrev pub command_of : List (List ℕ) → Option Command
 command_of words = if list_all is_plain words then shape_of words else None

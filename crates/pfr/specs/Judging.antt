@@ -10,7 +10,7 @@ use Rattle.pfr_script.specs.Reading.{judge_script}
 use Rattle.pfr_script.specs.ScriptState.{ScriptState}
 use Rattle.pfr_script.specs.declared.script_fail.ScriptFail.{ScriptFail}
 use Rattle.pfr_script.specs.declared.script_fail.ScriptFail.TheVariants as script
-use Rattle.pfr.specs.Request.{RunRequest}
+use Rattle.pfr.specs.Request.{RunRequest, CheckRequest}
 use Rattle.pfr.specs.declared.status.Role.{Role}
 use Rattle.pfr.specs.declared.status.Role.TheVariants as role
 use Rattle.pfr.specs.declared.status.Why.{Why}
@@ -84,6 +84,12 @@ abbrev pub run_rows : RunRequest → Files → List (Role × Finding)
 run_rows request files =
     image_row role.Bmc request.bmc files ∷ image_row role.Pch request.pch files ∷ image_row role.Nv request.nv files
     ∷ engine_row request.engine files ∷ script_row request.script files ∷ []
+
+-- the files of a check, in order: those of a run but for the script
+abbrev pub check_rows : CheckRequest → Files → List (Role × Finding)
+check_rows request files =
+    image_row role.Bmc request.bmc files ∷ image_row role.Pch request.pch files ∷ image_row role.Nv request.nv files
+    ∷ engine_row request.engine files ∷ []
 
 -- what stands after a file
 abbrev pub after_file : Finding → Finding → Finding

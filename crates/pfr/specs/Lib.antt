@@ -8,4 +8,6 @@ pub mod Promises
 pub mod Played
 pub mod Storing
 pub mod Runs
+pub mod Checks
+pub mod ChecksInside
 pub mod Top

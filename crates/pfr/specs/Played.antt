@@ -1,5 +1,6 @@
 -- What was done of a script.
 use Rattle.std.specs.Prelude.{◌≡◌, ℕ, ◌≤◌, List, [], length, take}
+use Rattle.pfr_flash.specs.FlashState.{FlashState}
 use Rattle.pfr_flash.specs.MemFlash.{new_device}
 use Rattle.pfr_engine.specs.Accepting.{acceptance}
 use Rattle.pfr_engine.specs.declared.row.Row.{Row}
@@ -12,7 +13,7 @@ use Rattle.pfr_calm.specs.World.{World, state_at}
 use Rattle.pfr_calm.specs.Run.{Did, Reached, takes_arm}
 use Rattle.pfr_machine.specs.PlatformState as platform
 use Rattle.pfr_machine.specs.PlatformState.{PlatformState, StoreGrows}
-use Rattle.pfr_fuses.specs.Growth.{NeverGoesBack}
+use Rattle.pfr_fuses.specs.Growth.{NeverGoesBack, KeepsProvision}
 use Rattle.pfr.specs.Benches.{fresh_of, end_of, StandsAs, IsRun, HasRooms, bank_room}
 use Rattle.pfr.specs.declared.finished.Bench.{Bench}
 use Rattle.pfr.specs.declared.load.Loaded.{Loaded}
@@ -40,9 +41,14 @@ pub record Plays (script : ScriptState) (items : List Item) (old : PlatformState
   pub reached : Reached (Did (acceptance old.engine) script.tears) items old.world end
   pub left : StandsAs end new
 
+-- fuses were cleared in the store, and never taken back, and a slot that provisions the platform stayed
+pub record StoreLasts (old new : FlashState) : Type 0 where
+  pub grows : StoreGrows old new
+  pub keeps : KeepsProvision old new
+
 pub record IsPlayedFrom (start : PlatformState (List Row)) (script : ScriptState) (items : List Item) (bench : Bench) : Type 0 where
   pub plays : Plays script items start (end_of bench)
-  pub grown : StoreGrows start.world.nv bench.nv.device
+  pub lasts : StoreLasts start.world.nv bench.nv.device
   pub texts : AllText bench.notes.list
   pub judged_by : bench.engine ≡ start.engine
   pub scripted : bench.script ≡ script
@@ -55,6 +61,7 @@ PlayedFrom start script (Part bench) = (count : ℕ) × IsPlayedFrom start scrip
 pub record IsRunOf (wear : ℕ) (loaded : Loaded) (bench : Bench) (items : List Item) : Type 0 where
   pub run : IsRun items bench
   pub grown : NeverGoesBack (fresh_of bench).nv bench.nv.device
+  pub kept : KeepsProvision (fresh_of bench).nv bench.nv.device
   pub sizes : platform.HasSizes (fresh_of bench)
   pub texts : AllText bench.notes.list
   pub rooms : HasRooms wear bench

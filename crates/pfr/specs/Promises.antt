@@ -13,7 +13,7 @@ use Rattle.pfr_calm.specs.Promises.{ReleasesTrusted, LocksHaveCauses, FaultsHave
 use Rattle.pfr.specs.Benches.{fresh_of, end_of, StandsAs, IsRun}
 use Rattle.pfr.specs.declared.finished.Bench.{Bench}
 
--- In each span in which a bank stands released it was trusted at the span's begin, and no operation touched what this reads.
+-- In each span in which a bank stands released it was trusted at every count, and no operation touched what this reads.
 abbrev pub HasReleasedSpans : Bench → Type 0
 HasReleasedSpans bench = (which : Bank) → ReleasedSpans (acceptance bench.engine) which (story_of (end_of bench))
 
@@ -30,7 +30,7 @@ pub record HasDueLocks (bench : Bench) : Type 0 where
 abbrev pub KeepsFuses : Bench → Type 0
 KeepsFuses bench = NeverGoesBack (fresh_of bench).nv bench.nv.device
 
--- The platform stayed provisioned as it was.
+-- Once the platform was provisioned it stayed so, by the same slot with the same bytes.
 abbrev pub StaysProvisioned : Bench → Type 0
 StaysProvisioned bench = KeepsProvision (fresh_of bench).nv bench.nv.device
 

@@ -98,10 +98,3 @@ Delivers told before after request bench status = RefusesImages told before.file
 abbrev pub Reports : Bool → Outside → Outside → List ℕ → Status → Type 0
 Reports told before after text WriteFault = told ≡ true → AppendsPart before.output after.output text
 Reports told before after text _ = told ≡ true → after.output ≡ before.output ++ text
-
--- at such a status every file is as it was
-abbrev pub StoresNothing : Status → Type 0
-StoresNothing Done = ⊥
-StoresNothing (StoreFault file) = ⊥
-StoresNothing NoMemory = ⊥
-StoresNothing status = Unit {0}

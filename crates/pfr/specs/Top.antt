@@ -1,16 +1,21 @@
 -- What the top call promises.
-use Rattle.std.specs.Prelude.{◌≡◌, ◌⊎◌, ℕ, List, ◌++◌, Bool, true, Option, IsSomeAnd, map, String, Vec, string_bytes}
+use Rattle.std.specs.Prelude.{◌≡◌, ◌⊎◌, ℕ, List, ◌++◌, Bool, true, Option, Some, IsSomeAnd, map, String, Vec, string_bytes}
 use Rattle.std.specs.declared.alloc.Global.{Global}
 use Rattle.pfr_shelf.specs.Causes.{Rose}
+use Rattle.pfr_shelf.specs.Files.{Files}
 use Rattle.pfr_shelf.specs.Pieces.{AppendsPart}
 use Rattle.pfr_report.specs.Texts.{report}
+use Rattle.pfr.specs.Checks.{IsVerdictsText}
 use Rattle.pfr.specs.Commands.{command_of}
+use Rattle.pfr.specs.Judging.{Finding, run_rows, check_rows}
 use Rattle.pfr.specs.Lines.{error_line}
 use Rattle.pfr.specs.Runs.{Outside, Said}
 use Rattle.pfr.specs.declared.finished.Bench.{Bench}
 use Rattle.pfr.specs.declared.words.Command.{Command}
+use Rattle.pfr.specs.declared.words.Command.TheVariants.{Run, Check}
+use Rattle.pfr.specs.declared.status.Role.{Role}
 use Rattle.pfr.specs.declared.status.Status.{Status}
-use Rattle.pfr.specs.declared.status.Status.TheVariants.{Done, WriteFault, NoMemory}
+use Rattle.pfr.specs.declared.status.Status.TheVariants.{Done, WriteFault, StoreFault, NoMemory}
 
 -- the command that the words are
 abbrev pub asked : Vec (String Global) Global → Option Command
@@ -21,14 +26,39 @@ abbrev pub EndsWithLine : Bool → Outside → Outside → List ℕ → List ℕ
 EndsWithLine told before after text line = told ≡ true → (after.output ≡ before.output ++ (text ++ line))
     ⊎ (Rose before.sink_faults after.sink_faults × AppendsPart (before.output ++ text) after.output line)
 
--- what the sink got
-abbrev pub Output : Bool → Outside → Outside → Option Bench → Status → Type 0
-Output told before after option Done =
-    IsSomeAnd option (λ bench. told ≡ true → after.output ≡ before.output ++ report bench.notes.list)
-Output told before after option WriteFault =
-    IsSomeAnd option (λ bench. told ≡ true → AppendsPart before.output after.output (report bench.notes.list))
-Output told before after option status =
+-- what a command writes where it is done: a run the report of its notes, a check the verdicts of what its files hold
+abbrev pub IsTextOf : Bool → Files → Option Command → Option Bench → List ℕ → Type 0
+IsTextOf tells files (Some (Check request)) option text = IsVerdictsText tells files request text
+IsTextOf tells files asks option text = IsSomeAnd option (λ bench. text ≡ report bench.notes.list)
+
+-- what the sink got before the line of the status
+abbrev pub Got : Bool → Bool → Outside → Outside → Option Command → Option Bench → Status → Type 0
+Got tells told before after asks option Done =
+    (text : List ℕ) × IsTextOf tells before.files asks option text × (told ≡ true → after.output ≡ before.output ++ text)
+Got tells told before after asks option WriteFault =
+    (text : List ℕ) × IsTextOf tells before.files asks option text × (told ≡ true → AppendsPart before.output after.output text)
+Got tells told before after asks option status =
+    (text : List ℕ) × Said option status text × (told ≡ true → after.output ≡ before.output ++ text)
+
+-- what the sink got: at Done and WriteFault, which have no line, nothing more
+abbrev pub Output : Bool → Bool → Outside → Outside → Option Command → Option Bench → Status → Type 0
+Output tells told before after asks option Done = Got tells told before after asks option Done
+Output tells told before after asks option WriteFault = Got tells told before after asks option WriteFault
+Output tells told before after asks option status =
     (text : List ℕ) × Said option status text × EndsWithLine told before after text (error_line status)
+
+-- the files of a command, in order
+abbrev pub rows_of : Command → Files → List (Role × Finding)
+rows_of (Run request) files = run_rows request files
+rows_of (Check request) files = check_rows request files
+
+-- this command stores nothing, or nothing at such a status
+abbrev pub StoresNothing : Option Command → Status → Type 0
+StoresNothing (Some (Check request)) status = Unit {0}
+StoresNothing asks Done = ⊥
+StoresNothing asks (StoreFault file) = ⊥
+StoresNothing asks NoMemory = ⊥
+StoresNothing asks status = Unit {0}
 
 -- This status, or want of memory.
 abbrev pub IsOrNoMemory : Status → Status → Type 0

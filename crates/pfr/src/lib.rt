@@ -1,6 +1,7 @@
 //! The top call: what the program does with its words, its files and its output.
 #![tactic(auto)]
 
+mod check;
 mod finished;
 mod load;
 mod playing;

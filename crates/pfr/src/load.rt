@@ -1,15 +1,24 @@
 // The files of a command, each judged before the next is loaded.
 ghost use Rattle.std.specs.Prelude.{◌≡◌, ◌∷◌, [], ◌≤◌, ◌%◌, List, ℕ, length, true, Some, IfOk, IfErr, IsTrue};
 ghost use Rattle.pfr_shelf.specs.Causes.{Rose};
-ghost use Rattle.pfr.specs.Judging.{Judge, Loads, HoldsRows, HoldsScript, RefusesFor, engine_row, finding, image_fits, image_row, limit_of, run_rows, script_row};
-ghost use Rattle.pfr.specs.Loading.{IsLoaded, HasSizes};
+ghost use Rattle.pfr.specs.Judging.{Judge, Loads, HoldsRows, HoldsScript, RefusesFor, check_rows, engine_row, finding, image_fits, image_row, limit_of, run_rows, script_row};
+ghost use Rattle.pfr.specs.Loading.{AreLoaded, HaveSizes, IsLoaded, HasSizes};
 
 use crate::status::{Role, Status, Why};
-use crate::words::RunRequest;
+use crate::words::{CheckRequest, RunRequest};
 use pfr_chain::{EngineFail, ListEngine};
 use pfr_script::{Script, ScriptFail, parse};
 use pfr_shelf::{Shelf, ShelfFail};
 use std::alloc::Global;
+
+/// The images of a platform, and the engine that judges them.
+#[derive(Drop)]
+pub struct Images {
+    pub bmc: Vec<u8>,
+    pub pch: Vec<u8>,
+    pub nv: Vec<u8>,
+    pub engine: ListEngine,
+}
 
 /// What a run's files say.
 #[derive(Drop)]
@@ -106,6 +115,28 @@ fn load_script<S: Shelf>(alloc: Global, shelf: &mut S, name: &str) -> Result<Scr
     }
 }
 
+/// Loads the images of a platform and its engine in the order of the words. At an `Err` the status has its cause.
+pub fn load_images<S: Shelf>(
+    alloc: Global,
+    shelf: &mut S,
+    request: &CheckRequest<'_>,
+) -> Result<Images, Status>
+    ensures loads { Loads S.tells S.files S.faults shelf.old shelf.new (check_rows request.now) result }
+    ensures loaded { IfOk result (λ images. S.tells ≡ true → AreLoaded (S.files shelf.old) request.now images) }
+    ensures sizes { IfOk result HaveSizes }
+{
+    let bmc = load_image(alloc, shelf, Role::Bmc, request.bmc)?;
+    let pch = load_image(alloc, shelf, Role::Pch, request.pch)?;
+    let nv = load_image(alloc, shelf, Role::Nv, request.nv)?;
+    let engine = load_engine(alloc, shelf, request.engine)?;
+    Ok(Images {
+        bmc,
+        pch,
+        nv,
+        engine,
+    })
+}
+
 /// Loads the files of a run in the order of its words. At an `Err` the status has its cause.
 pub fn load_files<S: Shelf>(
     alloc: Global,
@@ -116,10 +147,13 @@ pub fn load_files<S: Shelf>(
     ensures loaded { IfOk result (λ loaded. S.tells ≡ true → IsLoaded (S.files shelf.old) request.now loaded) }
     ensures sizes { IfOk result HasSizes }
 {
-    let bmc = load_image(alloc, shelf, Role::Bmc, request.bmc)?;
-    let pch = load_image(alloc, shelf, Role::Pch, request.pch)?;
-    let nv = load_image(alloc, shelf, Role::Nv, request.nv)?;
-    let engine = load_engine(alloc, shelf, request.engine)?;
+    let names = request.images();
+    let Images {
+        bmc,
+        pch,
+        nv,
+        engine,
+    } = load_images(alloc, shelf, &names)?;
     let script = load_script(alloc, shelf, request.script)?;
     Ok(Loaded {
         bmc,

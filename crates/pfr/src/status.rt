@@ -39,7 +39,7 @@ pub enum Why {
 /// How a command ended.
 #[derive(Clone, Copy, Debug, PartialEq, Eq)]
 pub enum Status {
-    /// The command was done, and its whole report was written.
+    /// The command was done, and all that it writes was written.
     Done,
     /// The words are no command. No file was loaded.
     Usage,
@@ -49,9 +49,9 @@ pub enum Status {
     TooLong { file: Role },
     /// The file is not there, or could not be read.
     ReadFault { file: Role },
-    /// The output failed. A prefix of the report may have been written.
+    /// The output failed. A prefix of what the command writes may have been written.
     WriteFault,
-    /// An image could not be stored; the whole report was written.
+    /// An image could not be stored; the whole report of the run was written.
     StoreFault { file: Role },
     /// There was not enough memory.
     NoMemory,

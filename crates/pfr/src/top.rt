@@ -3,21 +3,34 @@ ghost use Rattle.std.specs.Prelude.{◌≡◌, ◌≤◌, true, Some, None, IfSo
 ghost use Rattle.pfr_report.specs.Texts.{AllText};
 ghost use Rattle.pfr_shelf.specs.Causes.{Rose};
 ghost use Rattle.pfr.specs.Benches.{HasRun};
-ghost use Rattle.pfr.specs.Judging.{Keeps, Breaks, run_rows, verdict};
+ghost use Rattle.pfr.specs.Checks.{CheckAnswers};
+ghost use Rattle.pfr.specs.Judging.{Keeps, Breaks, verdict};
 ghost use Rattle.pfr.specs.Promises.{HasReleasedSpans, ReleasesTrustedBanks, HasDueLocks, BringsBanksUp, KeepsFuses, StaysProvisioned};
-ghost use Rattle.pfr.specs.Request.{RunRequest};
-ghost use Rattle.pfr.specs.Runs.{RunAnswers, RunOutput, StoresNothing, outside};
+ghost use Rattle.pfr.specs.Request.{CheckRequest, RunRequest};
+ghost use Rattle.pfr.specs.Runs.{RunAnswers, outside};
 ghost use Rattle.pfr.specs.Storing.{KeepsOthers};
-ghost use Rattle.pfr.specs.Top.{IsOrNoMemory, Output, asked};
-ghost use Rattle.pfr.specs.declared.words.Command.TheVariants.{Run};
+ghost use Rattle.pfr.specs.Top.{Got, IsOrNoMemory, Output, StoresNothing, asked, rows_of};
+ghost use Rattle.pfr.specs.declared.words.Command.{Command};
+ghost use Rattle.pfr.specs.declared.words.Command.TheVariants.{Check, Run};
 ghost use Rattle.pfr.specs.declared.status.Status.{Status};
 
+use crate::check::check;
 use crate::finished::Finished;
 use crate::run::run;
 use crate::status::Status;
 use crate::words::{Command, read_words};
 use pfr_shelf::{Shelf, Sink};
 use std::alloc::Global;
+
+// A command that made no platform.
+fn without_bench(status: Status) -> Finished
+    ensures { result ≡ record { status = status; bench = None } }
+{
+    Finished {
+        status,
+        bench: None,
+    }
+}
 
 // Does the command, without the line of its status.
 fn serve<S: Shelf, K: Sink>(
@@ -27,39 +40,44 @@ fn serve<S: Shelf, K: Sink>(
     out: &mut K,
 ) -> Finished
     ensures usage { result.status ≡ Status.Usage → asked words.now ≡ None }
-    ensures no_command { asked words.now ≡ None → result.status ≡ Status.Usage }
+    ensures no_command { asked words.now ≡ None → IsOrNoMemory Status.Usage result.status }
     ensures unused { asked words.now ≡ None → (result.bench ≡ None) × (S.tells ≡ true → S.files shelf.new ≡ S.files shelf.old) }
     ensures bench { IfSome result.bench HasRun }
     ensures run { (request : RunRequest) → asked words.now ≡ Some (Run request) →
         RunAnswers S.tells (outside S.files S.faults K.written K.faults shelf.old out.old)
         (outside S.files S.faults K.written K.faults shelf.new out.new) request result.bench result.status }
-    ensures output { RunOutput K.tells (outside S.files S.faults K.written K.faults shelf.old out.old)
-        (outside S.files S.faults K.written K.faults shelf.new out.new) result.bench result.status }
+    ensures check { (request : CheckRequest) → asked words.now ≡ Some (Check request) →
+        CheckAnswers S.tells (outside S.files S.faults K.written K.faults shelf.old out.old)
+        (outside S.files S.faults K.written K.faults shelf.new out.new) request result.bench result.status }
+    ensures output { Got S.tells K.tells (outside S.files S.faults K.written K.faults shelf.old out.old)
+        (outside S.files S.faults K.written K.faults shelf.new out.new) (asked words.now) result.bench result.status }
     ensures shelf_later { S.faults shelf.old ≤ S.faults shelf.new }
     ensures sink_later { K.faults out.old ≤ K.faults out.new }
 {
-    match read_words(words) {
-        None => Finished {
-            status: Status::Usage,
-            bench: None,
-        },
-        Some(Command::Run(request)) => run(alloc, &request, shelf, out),
+    match read_words(alloc, words) {
+        Err(_) => without_bench(Status::NoMemory),
+        Ok(None) => without_bench(Status::Usage),
+        Ok(Some(Command::Run(request))) => run(alloc, &request, shelf, out),
+        Ok(Some(Command::Check(request))) => without_bench(check(alloc, &request, shelf, out)),
     }
 }
 
 /// Does what the words ask for, which are those of the command line without the program's name.
 ///
-/// The one command is `run <bmc> <pch> <nv> <engine> <script> [<wear>]`. It loads the five files in this order,
-/// each judged before the next is loaded, does the script's items in order on a platform of them, writes a line
-/// for each note, and then stores the images of the BMC, the PCH and the controller's store under their names.
-/// The wear is 1 to 16, and 8 where it is not given: so often each page of a bank can be rewritten.
+/// `run <bmc> <pch> <nv> <engine> <script> [<wear>]` loads the five files in this order, each judged before the
+/// next is loaded, does the script's items in order on a platform of them, writes a line for each note, and then
+/// stores the images of the BMC, the PCH and the controller's store under their names. The wear is 1 to 16, and 8
+/// where it is not given: so often each page of a bank can be rewritten.
+///
+/// `check <bmc> <pch> <nv> <engine>` loads the four files in the same way, and writes the verdict of the BMC's bank
+/// and then of the PCH's. It stores nothing.
 pub fn pfr<S: Shelf, K: Sink>(
     alloc: Global,
     words: &Vec<String>,
     shelf: &mut S,
     out: &mut K,
 ) -> Finished
-    // At every operation at which a bank stands released it is as it was when it was found to be trusted.
+    // At every operation at which a bank stands released it is trusted, and none touches a byte that this rests on.
     ensures spans { IfSome result.bench HasReleasedSpans }
     ensures releases { IfSome result.bench ReleasesTrustedBanks }
 
@@ -74,35 +92,38 @@ pub fn pfr<S: Shelf, K: Sink>(
     // No note's cause is a failed device.
     ensures texts { IfSome result.bench (λ bench. AllText bench.notes.list) }
 
-    // The words are no command: nothing is done.
+    // The words are no command: nothing is done. They are read with memory, so there may be none for that.
     ensures usage { result.status ≡ Status.Usage → asked words.now ≡ None }
-    ensures no_command { asked words.now ≡ None → result.status ≡ Status.Usage }
+    ensures no_command { asked words.now ≡ None → IsOrNoMemory Status.Usage result.status }
     ensures unused { asked words.now ≡ None → (result.bench ≡ None) × (S.tells ≡ true → S.files shelf.new ≡ S.files shelf.old) }
 
-    // Each other status of a run has its cause, its bench and its files.
+    // Each other status of a run has its cause, its bench and its files, and so has each of a check.
     ensures run { (request : RunRequest) → asked words.now ≡ Some (Run request) →
         RunAnswers S.tells (outside S.files S.faults K.written K.faults shelf.old out.old)
         (outside S.files S.faults K.written K.faults shelf.new out.new) request result.bench result.status }
+    ensures check { (request : CheckRequest) → asked words.now ≡ Some (Check request) →
+        CheckAnswers S.tells (outside S.files S.faults K.written K.faults shelf.old out.old)
+        (outside S.files S.faults K.written K.faults shelf.new out.new) request result.bench result.status }
 
-    // Every file but the images stays, whatever the status; the images too, where nothing is to be stored.
+    // Every file but the images of a run stays, whatever the status; these too, where nothing is to be stored.
     ensures others { (request : RunRequest) → asked words.now ≡ Some (Run request) → S.tells ≡ true →
         KeepsOthers request (S.files shelf.old) (S.files shelf.new) }
-    ensures stays { StoresNothing result.status → S.tells ≡ true → S.files shelf.new ≡ S.files shelf.old }
+    ensures stays { StoresNothing (asked words.now) result.status → S.tells ≡ true → S.files shelf.new ≡ S.files shelf.old }
 
     // The first file that breaks a rule is told, where no call of the shelf failed.
-    ensures breach { (request : RunRequest) (wanted : Status) → asked words.now ≡ Some (Run request) → S.tells ≡ true →
-        verdict (run_rows request (S.files shelf.old)) ≡ Breaks wanted →
+    ensures breach { (command : Command) (wanted : Status) → asked words.now ≡ Some command → S.tells ≡ true →
+        verdict (rows_of command (S.files shelf.old)) ≡ Breaks wanted →
         ¬ Rose (S.faults shelf.old) (S.faults shelf.new) → IsOrNoMemory wanted result.status }
 
-    // Where all files keep their rules and nothing failed, the run is done.
-    ensures complete { (request : RunRequest) → asked words.now ≡ Some (Run request) → S.tells ≡ true →
-        verdict (run_rows request (S.files shelf.old)) ≡ Keeps →
+    // Where all files keep their rules and nothing failed, the command is done.
+    ensures complete { (command : Command) → asked words.now ≡ Some command → S.tells ≡ true →
+        verdict (rows_of command (S.files shelf.old)) ≡ Keeps →
         ¬ Rose (S.faults shelf.old) (S.faults shelf.new) → ¬ Rose (K.faults out.old) (K.faults out.new) →
         IsOrNoMemory Status.Done result.status }
 
-    // What the sink got: at Done the report and nothing else.
-    ensures output { Output K.tells (outside S.files S.faults K.written K.faults shelf.old out.old)
-        (outside S.files S.faults K.written K.faults shelf.new out.new) result.bench result.status }
+    // What the sink got: at Done the report of a run, or the verdicts of a check by what its files hold, and nothing else.
+    ensures output { Output S.tells K.tells (outside S.files S.faults K.written K.faults shelf.old out.old)
+        (outside S.files S.faults K.written K.faults shelf.new out.new) (asked words.now) result.bench result.status }
 {
     let finished = serve(alloc, words, shelf, out);
     let _ = finished.status.tell(out);

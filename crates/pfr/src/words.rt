@@ -1,9 +1,15 @@
 // The words of the command line.
-ghost use Rattle.std.specs.Prelude.{◌≡◌, ◌≤◌, nat_le, Some, None, map, string_bytes, IfSome, if◌then◌else◌};
+ghost use Rattle.std.specs.Prelude.{◌≡◌, ◌≤◌, nat_le, true, Some, None, map, option_map, string_bytes, IfOk, IfSome, if◌then◌else◌};
 ghost use Rattle.std.specs.Char.{is_ascii_digit};
 ghost use Rattle.std.specs.List.{list_all};
-ghost use Rattle.pfr.specs.Commands.{command_of, is_numeral, is_plain, run_request, shape_of, wear_in, wear_of};
+ghost use Rattle.pfr_args.specs.Plain.{is_plain};
+ghost use Rattle.pfr.specs.Commands.{check_request, command_of, is_numeral, run_request, shape_of, wear_in, wear_of};
+ghost use Rattle.pfr.specs.Request.{images_of};
+ghost use Rattle.pfr.specs.declared.words.Command.TheVariants.{Run, Check};
 
+use pfr_args::read_args;
+use pfr_flash::NoMemory;
+use std::alloc::Global;
 use std::marker::Model;
 
 /// What `run` is asked for.
@@ -29,10 +35,42 @@ impl<'a> Model for RunRequest<'a> {
     ghost invariant = { λ w. w.wear ≤ 16 };
 }
 
+/// What `check` is asked for.
+#[derive(Drop)]
+pub struct CheckRequest<'a> {
+    pub bmc: &'a str,
+    pub pch: &'a str,
+    pub nv: &'a str,
+    pub engine: &'a str,
+}
+
+impl<'a> Model for CheckRequest<'a> {
+    ghost use Rattle.pfr.specs.Request.{CheckRequest};
+
+    ghost Value = { CheckRequest };
+
+    ghost view = { λ w. record { bmc = w.bmc.now; pch = w.pch.now; nv = w.nv.now; engine = w.engine.now } };
+}
+
+impl<'a> RunRequest<'a> {
+    /// The names of its images and of its engine, which a check of the same platform has too.
+    pub fn images(&self) -> CheckRequest<'a>
+        ensures { result ≡ images_of self.now }
+    {
+        CheckRequest {
+            bmc: self.bmc,
+            pch: self.pch,
+            nv: self.nv,
+            engine: self.engine,
+        }
+    }
+}
+
 /// What the words ask for.
 #[derive(Drop)]
 pub enum Command<'a> {
     Run(RunRequest<'a>),
+    Check(CheckRequest<'a>),
 }
 
 // Whether a word may stand in a command: it is not empty, and does not begin with a dash.
@@ -73,14 +111,14 @@ fn is_numeral(word: &[u8]) -> bool
 }
 
 // A wear of 1 to 16.
-fn wear_of(word: &String) -> Option<u32>
-    ensures exact { result ≡ wear_of (string_bytes word.now) }
+fn wear_of(word: &str) -> Option<u32>
+    ensures exact { result ≡ wear_of word.now }
     ensures most { IfSome result (λ wear. wear ≤ 16) }
 {
     if !is_numeral(word.as_bytes()) {
         return None;
     }
-    match word.as_str().parse() {
+    match word.parse() {
         Ok(wear) => within(wear),
         Err(_) => None,
     }
@@ -95,8 +133,8 @@ fn within(wear: u32) -> Option<u32>
 }
 
 // The wear behind the names, which need not be given.
-fn wear_in(words: &[String]) -> Option<u32>
-    ensures exact { result ≡ wear_in (map (λ word. string_bytes word) words.now) }
+fn wear_in(words: &[&str]) -> Option<u32>
+    ensures exact { result ≡ wear_in (map (λ word. word.now) words.now) }
     ensures most { IfSome result (λ wear. wear ≤ 16) }
 {
     match words {
@@ -106,45 +144,86 @@ fn wear_in(words: &[String]) -> Option<u32>
     }
 }
 
-// What `run` with such words is asked for.
-fn read_run<'a>(words: &'a [String]) -> Option<RunRequest<'a>>
-    ensures { result ≡ run_request (map (λ word. string_bytes word) words.entry.now) }
+// What `run` with these words is asked for.
+fn run_of<'a>(words: &[&'a str]) -> Option<Command<'a>>
+    ensures { result ≡ option_map (λ request. Run request) (run_request (map (λ word. word.now) words.now)) }
 {
     match words {
-        [bmc, pch, nv, engine, script, rest @ ..] => {
-            let wear = wear_in(rest)?;
-            Some(RunRequest {
-                bmc: bmc.as_str(),
-                pch: pch.as_str(),
-                nv: nv.as_str(),
-                engine: engine.as_str(),
-                script: script.as_str(),
+        [bmc, pch, nv, engine, script, rest @ ..] => match wear_in(rest) {
+            Some(wear) => Some(Command::Run(RunRequest {
+                bmc,
+                pch,
+                nv,
+                engine,
+                script,
                 wear,
-            })
-        }
-        _ => None,
-    }
-}
-
-// The command of words that are plain.
-fn read_plain<'a>(words: &'a [String]) -> Option<Command<'a>>
-    ensures { result ≡ shape_of (map (λ word. string_bytes word) words.entry.now) }
-{
-    match words {
-        [command, rest @ ..] if command.as_str() == "run" => match read_run(rest) {
-            Some(request) => Some(Command::Run(request)),
+            })),
             None => None,
         },
         _ => None,
     }
 }
 
+// What `check` with these words is asked for.
+fn check_of<'a>(words: &[&'a str]) -> Option<Command<'a>>
+    ensures { result ≡ option_map (λ request. Check request) (check_request (map (λ word. word.now) words.now)) }
+{
+    match words {
+        [bmc, pch, nv, engine] => Some(Command::Check(CheckRequest {
+            bmc,
+            pch,
+            nv,
+            engine,
+        })),
+        _ => None,
+    }
+}
+
+// The words behind `run`.
+fn read_run<'a>(alloc: Global, words: &'a [String]) -> Result<Option<Command<'a>>, NoMemory>
+    requires { list_all is_plain (map (λ word. string_bytes word) words.now) ≡ true }
+    ensures { IfOk result (λ command. command ≡
+        option_map (λ request. Run request) (run_request (map (λ word. string_bytes word) words.entry.now))) }
+{
+    match read_args(alloc, "run", 5, 6, words)? {
+        Some(args) => Ok(run_of(args.as_slice())),
+        None => Ok(None),
+    }
+}
+
+// The words behind `check`.
+fn read_check<'a>(alloc: Global, words: &'a [String]) -> Result<Option<Command<'a>>, NoMemory>
+    requires { list_all is_plain (map (λ word. string_bytes word) words.now) ≡ true }
+    ensures { IfOk result (λ command. command ≡
+        option_map (λ request. Check request) (check_request (map (λ word. string_bytes word) words.entry.now))) }
+{
+    match read_args(alloc, "check", 4, 4, words)? {
+        Some(args) => Ok(check_of(args.as_slice())),
+        None => Ok(None),
+    }
+}
+
+// The command of words that are plain.
+fn read_plain<'a>(alloc: Global, words: &'a [String]) -> Result<Option<Command<'a>>, NoMemory>
+    requires { list_all is_plain (map (λ word. string_bytes word) words.now) ≡ true }
+    ensures { IfOk result (λ command. command ≡ shape_of (map (λ word. string_bytes word) words.entry.now)) }
+{
+    match words {
+        [name, rest @ ..] if name.as_str() == "run" => read_run(alloc, rest),
+        [name, rest @ ..] if name.as_str() == "check" => read_check(alloc, rest),
+        _ => Ok(None),
+    }
+}
+
 /// The command that the words are, if they are one.
-pub fn read_words<'a>(words: &'a Vec<String>) -> Option<Command<'a>>
-    ensures { result ≡ command_of (map (λ word. string_bytes word) words.entry.now.items) }
+pub fn read_words<'a>(
+    alloc: Global,
+    words: &'a Vec<String>,
+) -> Result<Option<Command<'a>>, NoMemory>
+    ensures { IfOk result (λ command. command ≡ command_of (map (λ word. string_bytes word) words.entry.now.items)) }
 {
     if !are_plain(words.as_slice()) {
-        return None;
+        return Ok(None);
     }
-    read_plain(words.as_slice())
+    read_plain(alloc, words.as_slice())
 }

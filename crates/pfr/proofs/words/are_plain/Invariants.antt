@@ -1,6 +1,6 @@
 use Rattle.std.proofs.Common.{◌≡◌, drop, map, string_bytes}
 use Rattle.std.specs.List.{list_all}
-use Rattle.pfr.specs.Commands.{is_plain}
+use Rattle.pfr_args.specs.Plain.{is_plain}
 use Rattle.pfr.proofs.words.are_plain.Given as goal
 
 abbrev pub invariant-loop-word : goal.invariant-loop-word

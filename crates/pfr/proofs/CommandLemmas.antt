@@ -1,0 +1,98 @@
+-- What holds of each command.
+use Rattle.std.proofs.Common.{◌≡◌, ◌∙◌, refl, sym, inl, inr, ℕ, ◌≤◌, [], append-nil, Bool, true, Option, Some, None, arith}
+use Rattle.pfr_shelf.specs.Causes.{Rose}
+use Rattle.pfr.specs.Checks.{CheckAnswers, CheckOutput, ChecksFor}
+use Rattle.pfr.specs.Judging.{Finding, Keeps, Breaks, check_rows, run_rows, verdict}
+use Rattle.pfr.specs.Request.{RunRequest, CheckRequest}
+use Rattle.pfr.specs.Runs.{Outside, RunAnswers}
+use Rattle.pfr.specs.Top.{Got, IsOrNoMemory, rows_of}
+use Rattle.pfr.specs.declared.finished.Bench.{Bench}
+use Rattle.pfr.specs.declared.words.Command.{Command}
+use Rattle.pfr.specs.declared.words.Command.TheVariants.{Run, Check}
+use Rattle.pfr.specs.declared.status.Status.{Status}
+use Rattle.pfr.specs.declared.status.Status.TheVariants.{Done, Usage, BadInput, TooLong, ReadFault, WriteFault, StoreFault, NoMemory}
+
+-- ---- what the sink got
+pub check_got : (tells told : Bool) (before after : Outside) (request : CheckRequest) (status : Status) → ChecksFor tells before after request status → CheckOutput tells told before after request status → Got tells told before after (Some (Check request)) None status
+check_got tells told before after request Done c o = (o.0, o.1, o.2)
+check_got tells told before after request WriteFault c o = (o.0, o.1, o.2)
+check_got tells told before after request Usage c o = absurd c
+check_got tells told before after request (BadInput file place why) c o = ([], refl, λ t. o t ∙ sym (append-nil before.output))
+check_got tells told before after request (TooLong file) c o = ([], refl, λ t. o t ∙ sym (append-nil before.output))
+check_got tells told before after request (ReadFault file) c o = ([], refl, λ t. o t ∙ sym (append-nil before.output))
+check_got tells told before after request (StoreFault file) c o = absurd c
+check_got tells told before after request NoMemory c o = ([], inl refl, λ t. o t ∙ sym (append-nil before.output))
+
+-- ---- the first file that breaks a rule is told
+keeps_or_breaks : (f : Finding) (wanted : Status) → f ≡ Keeps → f ≡ Breaks wanted → ⊥
+keeps_or_breaks f wanted k b = cc
+
+breaks_one : (f : Finding) (status wanted : Status) → f ≡ Breaks status → f ≡ Breaks wanted → status ≡ wanted
+breaks_one f status wanted a b = cc
+
+run_breach : (told : Bool) (before after : Outside) (request : RunRequest) (wanted : Status) (option : Option Bench) (status : Status) → RunAnswers told before after request option status → told ≡ true
+    → verdict (run_rows request before.files) ≡ Breaks wanted → ¬ Rose before.shelf_faults after.shelf_faults → IsOrNoMemory wanted status
+run_breach told before after request wanted None Done a t v n = absurd a
+run_breach told before after request wanted (Some bench) Done a t v n = absurd (keeps_or_breaks _ wanted (a.0.sound t) v)
+run_breach told before after request wanted option Usage a t v n = absurd a
+run_breach told before after request wanted option (BadInput file place why) a t v n = inl (breaks_one _ _ wanted (a.cause t) v)
+run_breach told before after request wanted option (TooLong file) a t v n = inl (breaks_one _ _ wanted (a.cause t) v)
+run_breach told before after request wanted option (ReadFault file) a t v n = absurd (n a.cause.0)
+run_breach told before after request wanted None WriteFault a t v n = absurd a
+run_breach told before after request wanted (Some bench) WriteFault a t v n = absurd (keeps_or_breaks _ wanted (a.0.sound t) v)
+run_breach told before after request wanted None (StoreFault file) a t v n = absurd a
+run_breach told before after request wanted (Some bench) (StoreFault file) a t v n = absurd (keeps_or_breaks _ wanted (a.0.sound t) v)
+run_breach told before after request wanted option NoMemory a t v n = inr refl
+
+check_breach : (told : Bool) (before after : Outside) (request : CheckRequest) (wanted status : Status) → ChecksFor told before after request status → told ≡ true
+    → verdict (check_rows request before.files) ≡ Breaks wanted → ¬ Rose before.shelf_faults after.shelf_faults → IsOrNoMemory wanted status
+check_breach told before after request wanted Done c t v n = absurd (keeps_or_breaks _ wanted (c t) v)
+check_breach told before after request wanted Usage c t v n = absurd c
+check_breach told before after request wanted (BadInput file place why) c t v n = inl (breaks_one _ _ wanted (c t) v)
+check_breach told before after request wanted (TooLong file) c t v n = inl (breaks_one _ _ wanted (c t) v)
+check_breach told before after request wanted (ReadFault file) c t v n = absurd (n c.0)
+check_breach told before after request wanted WriteFault c t v n = absurd (keeps_or_breaks _ wanted (c.1 t) v)
+check_breach told before after request wanted (StoreFault file) c t v n = absurd c
+check_breach told before after request wanted NoMemory c t v n = inr refl
+
+pub breach : (told : Bool) (before after : Outside) (asks : Option Command) (option : Option Bench) (status : Status)
+    → ((request : RunRequest) → asks ≡ Some (Run request) → RunAnswers told before after request option status)
+    → ((request : CheckRequest) → asks ≡ Some (Check request) → CheckAnswers told before after request option status)
+    → (command : Command) (wanted : Status) → asks ≡ Some command → told ≡ true → verdict (rows_of command before.files) ≡ Breaks wanted → ¬ Rose before.shelf_faults after.shelf_faults → IsOrNoMemory wanted status
+breach told before after asks option status run check (Run request) wanted e t v n = run_breach told before after request wanted option status (run request e) t v n
+breach told before after asks option status run check (Check request) wanted e t v n = check_breach told before after request wanted status (check request e).cause t v n
+
+-- ---- where all files keep their rules and nothing failed, the command is done
+run_complete : (told : Bool) (before after : Outside) (request : RunRequest) (option : Option Bench) (status : Status) → RunAnswers told before after request option status → told ≡ true
+    → verdict (run_rows request before.files) ≡ Keeps → ¬ Rose before.shelf_faults after.shelf_faults → ¬ Rose before.sink_faults after.sink_faults → IsOrNoMemory Done status
+run_complete told before after request option Done a t v n m = inl refl
+run_complete told before after request option Usage a t v n m = absurd a
+run_complete told before after request option (BadInput file place why) a t v n m = absurd (keeps_or_breaks _ _ v (a.cause t))
+run_complete told before after request option (TooLong file) a t v n m = absurd (keeps_or_breaks _ _ v (a.cause t))
+run_complete told before after request option (ReadFault file) a t v n m = absurd (n a.cause.0)
+run_complete told before after request None WriteFault a t v n m = absurd a
+run_complete told before after request (Some bench) WriteFault a t v n m = absurd (m a.1)
+run_complete told before after request None (StoreFault file) a t v n m = absurd a
+run_complete told before after request (Some bench) (StoreFault file) a t v n m = absurd (n a.1)
+run_complete told before after request option NoMemory a t v n m = inr refl
+
+check_complete : (told : Bool) (before after : Outside) (request : CheckRequest) (status : Status) → ChecksFor told before after request status → told ≡ true
+    → verdict (check_rows request before.files) ≡ Keeps → ¬ Rose before.shelf_faults after.shelf_faults → ¬ Rose before.sink_faults after.sink_faults → IsOrNoMemory Done status
+check_complete told before after request Done c t v n m = inl refl
+check_complete told before after request Usage c t v n m = absurd c
+check_complete told before after request (BadInput file place why) c t v n m = absurd (keeps_or_breaks _ _ v (c t))
+check_complete told before after request (TooLong file) c t v n m = absurd (keeps_or_breaks _ _ v (c t))
+check_complete told before after request (ReadFault file) c t v n m = absurd (n c.0)
+check_complete told before after request WriteFault c t v n m = absurd (m c.0)
+check_complete told before after request (StoreFault file) c t v n m = absurd c
+check_complete told before after request NoMemory c t v n m = inr refl
+
+rose_later : (a b c : ℕ) → Rose a b → b ≤ c → Rose a c
+rose_later a b c r h = omega arith
+
+pub complete : (told : Bool) (before after : Outside) (last : ℕ) (asks : Option Command) (option : Option Bench) (status : Status) → after.sink_faults ≤ last
+    → ((request : RunRequest) → asks ≡ Some (Run request) → RunAnswers told before after request option status)
+    → ((request : CheckRequest) → asks ≡ Some (Check request) → CheckAnswers told before after request option status)
+    → (command : Command) → asks ≡ Some command → told ≡ true → verdict (rows_of command before.files) ≡ Keeps → ¬ Rose before.shelf_faults after.shelf_faults → ¬ Rose before.sink_faults last → IsOrNoMemory Done status
+complete told before after last asks option status later run check (Run request) e t v n m = run_complete told before after request option status (run request e) t v n (λ r. m (rose_later _ _ _ r later))
+complete told before after last asks option status later run check (Check request) e t v n m = check_complete told before after request status (check request e).cause t v n (λ r. m (rose_later _ _ _ r later))
