@@ -1,17 +1,13 @@
 -- The store of a platform that is provisioned in its first slot. Its fuses are those of profile 2.
-use Rattle.std.specs.Prelude.{ℕ, List, [], ◌∷◌, ◌++◌, replicate}
+use Rattle.std.specs.Prelude.{ℕ, List, [], ◌∷◌, ◌++◌}
 use Rattle.sha2.specs.Sha256.{sha256}
 use Rattle.pfr_engine.specs.declared.engine.Curve.{Curve}
 use Rattle.pfr_flash.specs.declared.layout.Layout.{Layout}
-use Rattle.pfr_tool.specs.Fields.{number_bytes}
+use Rattle.pfr_tool.specs.Fields.{number_bytes, blanks}
 use Rattle.pfr_tool.specs.Marks.{number_of_curve}
 use Rattle.pfr_tool.specs.declared.form.Form.{Form}
 use Rattle.pfr_tool.specs.declared.form.Form.TheVariants.{One, Two}
 use Rattle.pfr_tool.specs.declared.keys.PublicKey.{PublicKey}
-
--- so many bytes of 0xFF
-unfoldable pub blanks : ℕ → List ℕ
-blanks count = replicate count 255
 
 abbrev pub layout_bytes : Layout → List ℕ
 layout_bytes l = number_bytes l.manifest_at ++ number_bytes l.manifest_len ++ number_bytes l.recovery_at

@@ -1,5 +1,6 @@
 // What a bank's firmware is.
-ghost use Rattle.std.specs.Prelude.{◌*◌, ◌<◌, ◌^◌};
+ghost use Rattle.std.specs.Prelude.{◌≡◌, ◌*◌, ◌<◌, ◌^◌};
+ghost use Rattle.pfr_tool.specs.Pages.{use_of};
 
 use crate::keys::KeyDescription;
 use crate::region::{PageUse, RegionDescription};
@@ -30,9 +31,10 @@ impl BankDescription {
     /// What a capsule does with a page.
     pub(crate) fn use_of(&self, page: u32) -> PageUse
         requires { page * 4096 < 2 ^ 32 }
+        ensures { result ≡ use_of self.now.regions.items page }
     {
         for region in &self.regions {
-            if region.has(page * PAGE) {
+            if region.has(PAGE * page) {
                 return region.pages;
             }
         }

@@ -1,104 +1,78 @@
 // The update capsules of banks.
-ghost use Rattle.std.specs.Prelude.{◌+◌, ◌<◌, ◌≤◌, ◌^◌, length, vec_len, IfOk};
+ghost use Rattle.std.specs.Prelude.{◌≡◌, ◌<◌, ◌≤◌, ◌^◌, ◌++◌, length, vec_len, OnOk, IfOk};
 ghost use Rattle.pfr_tool.specs.Banks.{bank_of};
+ghost use Rattle.pfr_tool.specs.Capsules.{page_header, pages_bytes, capsule_body, signed_capsule, capsule_rows};
+ghost use Rattle.pfr_tool.specs.Images.{signed_manifest};
+ghost use Rattle.pfr_tool.specs.Judge.{Judged, fit_capsule};
 
 use crate::bank_description::{BankDescription, PAGE};
 use crate::block::{BLOCK, Signed, sign_content};
 use crate::description::Description;
 use crate::fail::{DescFail, DescWhy, FitPart};
-use crate::region::PageUse;
-use crate::writing::push_number;
+use crate::pages::{PageMap, payload_of, push_map};
+use crate::writing::{pad, push_number};
 use pfr_flash::{Bank, NoMemory};
 use std::alloc::Global;
 
 const PAGE_HEADER: usize = 128;
 
-// what the capsule does with each page
-fn page_uses(alloc: Global, part: &BankDescription) -> Result<Vec<PageUse>, NoMemory> {
-    let mut uses = Vec::new(alloc);
-    for page in 0..part.size / PAGE {
-        uses.push(part.use_of(page))?;
-    }
-    Ok(uses)
-}
-
-// the pages that the capsule brings
-fn payload_of(alloc: Global, uses: &[PageUse], image: &[u8]) -> Result<Vec<u8>, NoMemory> {
-    let mut payload = Vec::new(alloc);
-    for (page, bytes) in uses.iter().zip(image.chunks(PAGE as usize)) {
-        if page.copies() {
-            payload.extend_from_slice(bytes)?;
-        }
-    }
-    Ok(payload)
-}
-
-// eight pages' bits, that of the first page the highest
-fn erase_bits(uses: &[PageUse]) -> u8 {
-    uses.iter()
-        .fold(0, |bits, page| bits << 1 | u8::from(page.erases()))
-}
-
-fn copy_bits(uses: &[PageUse]) -> u8 {
-    uses.iter()
-        .fold(0, |bits, page| bits << 1 | u8::from(page.copies()))
-}
-
-fn push_erase_map(body: &mut Vec<u8>, uses: &[PageUse]) -> Result<(), NoMemory> {
-    for eight in uses.chunks(8) {
-        body.push(erase_bits(eight))?;
-    }
-    Ok(())
-}
-
-fn push_copy_map(body: &mut Vec<u8>, uses: &[PageUse]) -> Result<(), NoMemory> {
-    for eight in uses.chunks(8) {
-        body.push(copy_bits(eight))?;
-    }
-    Ok(())
-}
-
-// appends the header of the pages
-fn push_page_header(body: &mut Vec<u8>, map_bits: u32, payload_len: u32) -> Result<(), NoMemory>
-    requires { vec_len body.old < 2 ^ 32 }
+// the header of the pages
+#[tactic(auto, unfolding(crate::specs::Capsules::page_header))]
+fn page_header(alloc: Global, map_bits: u32, payload_len: u32) -> Result<Vec<u8>, NoMemory>
+    ensures { IfOk result (λ header. header.items ≡ page_header map_bits payload_len) }
 {
-    let end = body.len() + PAGE_HEADER;
-    push_number(body, 0x5F50_4243)?;
-    push_number(body, 2)?;
-    push_number(body, PAGE)?;
-    push_number(body, 1)?;
-    push_number(body, 0xFF)?;
-    push_number(body, map_bits)?;
-    push_number(body, payload_len)?;
-    body.resize(end, 0)?;
+    let mut header = Vec::new(alloc);
+    push_number(&mut header, 0x5F50_4243)?;
+    push_number(&mut header, 2)?;
+    push_number(&mut header, PAGE)?;
+    push_number(&mut header, 1)?;
+    push_number(&mut header, 0xFF)?;
+    push_number(&mut header, map_bits)?;
+    push_number(&mut header, payload_len)?;
+    pad(&mut header, PAGE_HEADER)?;
+    Ok(header)
+}
+
+// appends the header, the maps and the payload
+#[tactic(auto, unfolding(crate::specs::Capsules::pages_bytes))]
+fn push_pages(
+    alloc: Global,
+    body: &mut Vec<u8>,
+    part: &BankDescription,
+    image: &[u8],
+) -> Result<(), NoMemory>
+    requires { length image.now ≡ part.now.size }
+    ensures { OnOk result (body.new.items ≡ body.old.items ++ pages_bytes part.now image.now) }
+{
+    let payload = payload_of(alloc, part, image)?;
+    let header = page_header(alloc, part.size / PAGE, payload.len() as u32)?;
+    body.extend_from_slice(&header)?;
+    push_map(body, part, PageMap::Erase)?;
+    push_map(body, part, PageMap::Copy)?;
+    body.extend_from_slice(&payload)?;
     Ok(())
 }
 
 // what the capsule's block signs
+#[tactic(auto, unfolding(crate::specs::Capsules::capsule_body))]
 fn capsule_body(
     alloc: Global,
     desc: &Description,
     bank: Bank,
     manifest: &[u8],
     image: &[u8],
-) -> Result<Vec<u8>, DescFail>
-    requires { length manifest.now < 2 ^ 32 }
+) -> Result<Vec<u8>, NoMemory>
+    requires image { length image.now ≡ (bank_of desc.now bank).size }
+    requires manifest { manifest.now ≡ signed_manifest desc.now bank image.now }
+    ensures { IfOk result (λ body. body.items ≡ capsule_body desc.now bank image.now) }
 {
-    let part = desc.bank(bank);
-    let uses = page_uses(alloc, part)?;
-    let payload = payload_of(alloc, &uses, image)?;
-    if payload.len() > part.layout.area_len as usize {
-        return Err(DescFail::Why(DescWhy::Fit(bank, FitPart::Capsule)));
-    }
     let mut body = Vec::from_slice(alloc, manifest)?;
-    push_page_header(&mut body, part.size / PAGE, payload.len() as u32)?;
-    push_erase_map(&mut body, &uses)?;
-    push_copy_map(&mut body, &uses)?;
-    body.extend_from_slice(&payload)?;
+    push_pages(alloc, &mut body, desc.bank(bank), image)?;
     Ok(body)
 }
 
 /// The capsule of a bank with this signed manifest and active image.
+#[tactic(auto, unfolding(crate::specs::Capsules::signed_capsule, crate::specs::Capsules::capsule_rows, crate::specs::Judge::fit_capsule))]
 pub fn signed_capsule(
     alloc: Global,
     desc: &Description,
@@ -106,8 +80,12 @@ pub fn signed_capsule(
     manifest: &[u8],
     image: &[u8],
 ) -> Result<Signed, DescFail>
-    requires { length manifest.now < 2 ^ 32 }
-    ensures { IfOk result (λ signed. vec_len signed.bytes ≤ (bank_of desc.now bank).layout.area_len) }
+    requires image { length image.now ≡ (bank_of desc.now bank).size }
+    requires manifest { manifest.now ≡ signed_manifest desc.now bank image.now }
+    ensures bytes { IfOk result (λ signed. signed.bytes.items ≡ signed_capsule desc.now bank image.now) }
+    ensures rows { IfOk result (λ signed. signed.rows.items ≡ capsule_rows desc.now bank image.now) }
+    ensures fits { IfOk result (λ signed. vec_len signed.bytes ≤ (bank_of desc.now bank).layout.area_len) }
+    ensures judged { Judged result (fit_capsule bank desc.now image.now) }
 {
     let part = desc.bank(bank);
     let body = capsule_body(alloc, desc, bank, manifest, image)?;

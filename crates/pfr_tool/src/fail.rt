@@ -2,7 +2,9 @@
 ghost use Rattle.std.specs.Prelude.{◌≡◌};
 ghost use Rattle.pfr_tool.specs.declared.fail.DescFail.TheVariants.{NoMemory, Why};
 
+use crate::field::Field;
 use pfr_flash::{Bank, LayoutRule, NoMemory};
+use pfr_manifest::ManifestFail;
 use std::alloc::{AllocError, AllocFailed};
 
 /// What does not fit.
@@ -23,9 +25,17 @@ pub enum FitPart {
 /// The rule that a description breaks.
 #[derive(Clone, Copy, Debug, PartialEq, Eq)]
 pub enum DescWhy {
+    /// The key is not there. Without a bank it stands in no bank's table.
+    Missing(Option<Bank>, Field),
+    /// The key's value is of another type.
+    Kind(Option<Bank>, Field),
+    /// The key's value is not allowed.
+    Value(Option<Bank>, Field),
+    /// A table has a key that no description has there.
+    Extra(Option<Bank>),
     Layout(Bank, LayoutRule),
-    /// A region does not lie in the bank.
-    Region(Bank),
+    /// A manifest may not have what the description gives the bank.
+    Manifest(Bank, ManifestFail),
     Fit(Bank, FitPart),
 }
 

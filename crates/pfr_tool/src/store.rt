@@ -1,13 +1,14 @@
 // The store of a provisioned platform.
 ghost use Rattle.std.specs.Prelude.{◌≡◌, ◌↔◌, ◌+◌, ◌<◌, ◌^◌, ◌++◌, [], ◌∷◌, IsOk, OnOk, IfOk};
 ghost use Rattle.pfr_tool.specs.Judge.{IsPlaced, Judged, judge_places};
-ghost use Rattle.pfr_tool.specs.Store.{blanks, layout_bytes, root_hash, store_of};
+ghost use Rattle.pfr_tool.specs.Fields.{blanks};
+ghost use Rattle.pfr_tool.specs.Store.{layout_bytes, root_hash, store_of};
 
 use crate::description::Description;
 use crate::fail::{DescFail, DescWhy};
 use crate::form::Form;
 use crate::marks::curve_number;
-use crate::writing::{number_bytes, push_number};
+use crate::writing::{number_bytes, push_blanks, push_number};
 use pfr_flash::{Bank, Bytes, Layout, NoMemory};
 use sha2::{Digest, Sha256};
 use std::alloc::Global;
@@ -35,17 +36,6 @@ fn push_layout(store: &mut Vec<u8>, layout: &Layout) -> Result<(), NoMemory>
     push_number(store, layout.recovery_at)?;
     push_number(store, layout.staging_at)?;
     push_number(store, layout.area_len)
-}
-
-// fills up with 0xFF
-#[tactic(auto, unfolding(crate::specs::Store::blanks))]
-fn push_blanks(store: &mut Vec<u8>, count: usize) -> Result<(), NoMemory>
-    requires { count < 2 ^ 32 }
-    ensures { OnOk result (store.new.items ≡ store.old.items ++ blanks count) }
-{
-    let end = store.len() + count;
-    store.resize(end, 0xFF)?;
-    Ok(())
 }
 
 // Both banks' sizes and layouts, the BMC's first

@@ -1,0 +1,6 @@
+pub mod AreaSteps
+pub mod Digits
+pub mod PageSteps
+pub mod RegionSteps
+pub mod Texts
+pub mod TableKeys

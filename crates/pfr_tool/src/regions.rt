@@ -1,0 +1,96 @@
+// Judges what a manifest would have of a description.
+ghost use Rattle.std.specs.Prelude.{◌≡◌, OnOk, IfOk};
+ghost use Rattle.std.specs.List.{All};
+ghost use Rattle.pfr_tool.specs.Regions.{is_clear_of, is_clear, judge_region, judge_regions, judge_entries, IsInside};
+
+use crate::bank_description::BankDescription;
+use crate::region::RegionDescription;
+use pfr_flash::Layout;
+use pfr_manifest::ManifestFail;
+
+/// How many regions and how many rules a manifest may have.
+const MOST: usize = 64;
+
+const GREATEST_SVN: u8 = 127;
+
+// whether a region shares no byte with an area
+fn is_clear_of(region: &RegionDescription, at: u32, len: u32) -> bool
+    ensures { result ≡ is_clear_of region.now at len }
+{
+    region.end <= at || at as u64 + len as u64 <= region.start as u64
+}
+
+// whether a region shares no byte with the areas of a layout
+fn is_clear(region: &RegionDescription, layout: &Layout) -> bool
+    ensures { result ≡ is_clear region.now layout.now }
+{
+    is_clear_of(region, layout.manifest_at, layout.manifest_len)
+        && is_clear_of(region, layout.recovery_at, layout.area_len)
+        && is_clear_of(region, layout.staging_at, layout.area_len)
+}
+
+// region k, behind a region from one place to another
+#[tactic(auto, unfolding(crate::specs::Regions::judge_region))]
+fn check_region(
+    k: usize,
+    region: &RegionDescription,
+    last: (u32, u32),
+    layout: &Layout,
+    size: u32,
+) -> Result<(), ManifestFail>
+    ensures exact { result ≡ judge_region k region.now last.0 last.1 layout.now size }
+    ensures inside { OnOk result (IsInside size region.now) }
+{
+    if k >= MOST {
+        return Err(ManifestFail::TooMany);
+    }
+    let k = k as u32;
+    if region.hash.is_some() && region.is_writable() {
+        return Err(ManifestFail::WritableHashed(k));
+    }
+    if region.start % 4096 != 0 || region.end % 4096 != 0 {
+        return Err(ManifestFail::Align(k));
+    }
+    if region.start >= region.end || region.end > size || !is_clear(region, layout) {
+        return Err(ManifestFail::Range(k));
+    }
+    if region.start < last.0 {
+        return Err(ManifestFail::Order(k));
+    }
+    if region.start < last.1 {
+        return Err(ManifestFail::Overlap(k));
+    }
+    Ok(())
+}
+
+fn check_regions(
+    regions: &[RegionDescription],
+    layout: &Layout,
+    size: u32,
+) -> Result<(), ManifestFail>
+    ensures exact { result ≡ judge_regions 0 0 0 regions.now layout.now size }
+    ensures inside { OnOk result (All (IsInside size) regions.now) }
+{
+    let mut last = (0, 0);
+    for (k, region) in regions.iter().enumerate() {
+        check_region(k, region, last, layout, size)?;
+        last = (region.start, region.end);
+    }
+    Ok(())
+}
+
+/// Whether a manifest may have what the description gives a bank.
+#[tactic(auto, unfolding(crate::specs::Regions::judge_entries))]
+pub fn check_entries(part: &BankDescription) -> Result<(), ManifestFail>
+    ensures exact { result ≡ judge_entries part.now }
+    ensures inside { OnOk result (All (IsInside part.now.size) part.now.regions.items) }
+{
+    if part.svn > GREATEST_SVN {
+        return Err(ManifestFail::Svn);
+    }
+    check_regions(&part.regions, &part.layout, part.size)?;
+    if part.smbus.len() > MOST {
+        return Err(ManifestFail::TooMany);
+    }
+    Ok(())
+}
