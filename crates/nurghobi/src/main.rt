@@ -2,9 +2,21 @@
 #![tactic(auto)]
 
 #[cfg(test)]
+mod capsule_tests;
+#[cfg(test)]
+mod check_tests;
+#[cfg(test)]
+mod fixtures;
+#[cfg(test)]
+mod manifest_rules;
+#[cfg(test)]
+mod manifest_tests;
+#[cfg(test)]
+mod platform_tests;
+#[cfg(test)]
 mod script_tests;
 #[cfg(test)]
-mod tests;
+mod signing;
 
 use pfr::{Status, pfr};
 use pfr_shelf::{FileShelf, OutSink};
