@@ -4,9 +4,10 @@
     make_platform.py <platform> <folder>
 
 writes <folder>/bmc, pch, nv, blank.nv, engine, power and hashed. The platform is `ordinary` (a 64 MiB BMC bank with
-18 MiB of hashed regions, a 32 MiB PCH bank with 8 MiB), `small` (two banks of 1 MiB) or `tiny` (two of 128 KiB). The
-formats are those of docs/FORMATS.md. Beside the active image each bank's recovery area holds an update capsule, which
-nothing reads yet. The signatures are marks that protect nothing: they are digests of the public key and the message.
+18 MiB of hashed regions, a 32 MiB PCH bank with 8 MiB), `capsule` (a 64 MiB BMC bank whose capsule has 16 MiB, and a
+PCH bank of 1 MiB), `small` (two banks of 1 MiB) or `tiny` (two of 128 KiB). The formats are those of docs/FORMATS.md.
+Beside the active image each bank's recovery area holds an update capsule. The signatures are marks that protect nothing:
+they are digests of the public key and the message.
 """
 
 import hashlib
@@ -201,6 +202,24 @@ def ordinary():
     return bmc, pch
 
 
+def capsule():
+    """A BMC whose capsule has 16 MiB with its block: 4,094 pages of four hashed regions."""
+    starts = [MIB + 4 * MIB * k for k in range(5)]
+    regions = [Region(start, end, 1, "sha256", "copy") for start, end in zip(starts, starts[1:])]
+    regions[3].end -= 2 * PAGE
+    bmc = Bank(
+        size=64 * MIB,
+        svn=12,
+        manifest_len=0x10000,
+        recovery_at=20 * MIB,
+        staging_at=42 * MIB,
+        area_len=22 * MIB,
+        regions=regions,
+        filled=(MIB, 17 * MIB),
+    )
+    return bmc, small()[1]
+
+
 def small():
     bank = Bank(
         size=MIB,
@@ -239,7 +258,7 @@ def tiny():
     return bank, bank
 
 
-PLATFORMS = {"ordinary": ordinary, "small": small, "tiny": tiny}
+PLATFORMS = {"ordinary": ordinary, "capsule": capsule, "small": small, "tiny": tiny}
 
 
 def main():
