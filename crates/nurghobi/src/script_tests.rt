@@ -144,21 +144,68 @@ fn want_rows(rt: &impl Abort, alloc: Global, rows: &[Words]) -> Result<(), Fail>
     Ok(())
 }
 
+// Words over two blank banks and a blank store, and the status and lines of the command that they are, or aren't.
+const COMMANDS: [(&'static [&'static str], u8, &'static str); 11] = [
+    (&[], 2, "error: usage\n"),
+    (&["run"], 2, "error: usage\n"),
+    (&["run", "bmc", "pch", "nv", "engine"], 2, "error: usage\n"),
+    (
+        &["run", "bmc", "pch", "nv", "engine", "script", "8", "8"],
+        2,
+        "error: usage\n",
+    ),
+    (&["check", "bmc", "pch", "nv"], 2, "error: usage\n"),
+    (
+        &["check", "bmc", "pch", "nv", "engine", "script"],
+        2,
+        "error: usage\n",
+    ),
+    (
+        &["checks", "bmc", "pch", "nv", "engine"],
+        2,
+        "error: usage\n",
+    ),
+    (
+        &["check", "bmc", "pch", "nv", "engine"],
+        0,
+        "bmc unprovisioned\npch unprovisioned\n",
+    ),
+    (
+        &["check", "bmc", "nv", "nv", "engine"],
+        3,
+        "error: pch 32768 size\n",
+    ),
+    (
+        &["check", "bmc", "pch", "bmc", "engine"],
+        3,
+        "error: nv too long\n",
+    ),
+    (
+        &["check", "bmc", "pch", "nv", "absent"],
+        4,
+        "error: cannot read engine\n",
+    ),
+];
+
+fn want_commands(rt: &impl Abort, alloc: Global) -> Result<(), Fail> {
+    for (words, status, lines) in COMMANDS {
+        let mut shelf = blank_shelf(alloc, 32_768, b"")?;
+        let mut list = Vec::new(alloc);
+        for word in words {
+            list.push(String::from_str(alloc, word)?)?;
+        }
+        let finished = want_lines(rt, alloc, &list, &mut shelf, status, lines)?;
+        assert!(rt; finished.bench.is_none());
+    }
+    Ok(())
+}
+
 #[test]
 fn statuses(rt: HostRuntime) -> Result<(), Fail> {
     let alloc = rt.alloc();
     want_rows(&rt, alloc, &FILES)?;
     want_rows(&rt, alloc, &WEARS)?;
-    let mut shelf = blank_shelf(alloc, 32_768, b"")?;
-    let _ = want_lines(
-        &rt,
-        alloc,
-        &Vec::new(alloc),
-        &mut shelf,
-        2,
-        "error: usage\n",
-    )?;
-    Ok(())
+    want_commands(&rt, alloc)
 }
 
 #[test]
