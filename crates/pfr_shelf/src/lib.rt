@@ -2,6 +2,7 @@
 //! memory for tests, and over the host's files and standard output.
 #![tactic(auto)]
 
+mod failure;
 mod fault;
 mod host;
 mod mem_shelf;
@@ -9,6 +10,7 @@ mod mem_sink;
 mod outside;
 mod write;
 
+pub use failure::Access;
 pub use fault::{ShelfFail, SinkFail};
 pub use host::{FileShelf, OutSink};
 pub use mem_shelf::MemShelf;

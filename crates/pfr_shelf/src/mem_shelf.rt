@@ -2,9 +2,11 @@
 ghost use Rattle.std.specs.Prelude.{◌≡◌, ◌≢◌, ℕ, ◌+◌, ◌-◌, ◌<◌, ◌≤◌, ◌⊎◌, ◌↔◌, List, length, true, Some, None, IsTrue, OnOk, OnErr, IfOk, IsErrOf, IsSomeAnd};
 ghost use Rattle.std.specs.Option.{option_map, option_copied};
 ghost use Rattle.pfr_shelf.specs.Causes.{Rose, one_more};
+ghost use Rattle.pfr_shelf.specs.Failures.{failing};
 ghost use Rattle.pfr_shelf.specs.Files.{put_file, SameBut};
-ghost use Rattle.pfr_shelf.specs.Memory.{files_in, files_of, due_of, faults_of};
+ghost use Rattle.pfr_shelf.specs.Memory.{files_in, files_of, due_of, faults_of, failed_of};
 
+use crate::failure::{Access, Failure};
 use crate::fault::ShelfFail;
 use crate::outside::Shelf;
 use pfr_flash::NoMemory;
@@ -19,6 +21,8 @@ pub struct MemShelf {
     // which call from now on fails, or 0
     due: u32,
     faults: u64,
+    // the last call that failed
+    failed: Option<Failure>,
 }
 
 impl MemShelf {
@@ -27,12 +31,14 @@ impl MemShelf {
         ensures files { (name : List ℕ) → files_of result name ≡ None }
         ensures due { due_of result ≡ 0 }
         ensures faults { faults_of result ≡ 0 }
+        ensures failed { failed_of result ≡ None }
     {
         MemShelf {
             alloc,
             files: BTreeMap::new(alloc),
             due: 0,
             faults: 0,
+            failed: None,
         }
     }
 
@@ -42,6 +48,7 @@ impl MemShelf {
         ensures err { OnErr result (files_of self.new ≡ files_of self.old) }
         ensures due { due_of self.new ≡ due_of self.old }
         ensures faults { faults_of self.new ≡ faults_of self.old }
+        ensures failed { failed_of self.new ≡ failed_of self.old }
     {
         match keep(self.alloc, &mut self.files, name, bytes) {
             Ok(()) => Ok(()),
@@ -55,6 +62,7 @@ impl MemShelf {
         ensures due { due_of self.new ≡ nth }
         ensures files { files_of self.new ≡ files_of self.old }
         ensures faults { faults_of self.new ≡ faults_of self.old }
+        ensures failed { failed_of self.new ≡ failed_of self.old }
     {
         self.due = nth;
     }
@@ -69,12 +77,13 @@ impl MemShelf {
         failing
     }
 
-    // Counts a fault.
-    fn fail(&mut self) -> ShelfFail
+    // Counts a fault, and keeps which call it was.
+    fn fail(&mut self, access: Access, name: &str) -> ShelfFail
         ensures answer { result ≡ ShelfFail.Failed }
-        ensures counted { self.new ≡ record self.old { faults = one_more self.old.faults } }
+        ensures kept { self.new ≡ record self.old { faults = one_more self.old.faults; failed = Some (failing access name.now) } }
     {
         self.faults = self.faults.saturating_add(1);
+        self.failed = Some(Failure::new(access, name));
         ShelfFail::Failed
     }
 }
@@ -86,6 +95,8 @@ impl Shelf for MemShelf {
 
     ghost faults = { faults_of };
 
+    ghost failed = { failed_of };
+
     fn load(&mut self, alloc: Global, name: &str, limit: u32) -> Result<Vec<u8>, ShelfFail>
         ensures stays { files_of self.new ≡ files_of self.old }
         ensures bytes { IfOk result (λ bytes. files_of self.old name.now ≡ Some bytes.items) }
@@ -96,13 +107,15 @@ impl Shelf for MemShelf {
         ensures failed { IsErrOf result ShelfFail.Failed ↔ ((due_of self.old ≡ 1) ⊎ (files_of self.old name.now ≡ None)) }
         ensures counted { IsErrOf result ShelfFail.Failed → faults_of self.new ≡ one_more (faults_of self.old) }
         ensures not_counted { result ≢ Err ShelfFail.Failed → faults_of self.new ≡ faults_of self.old }
+        ensures blamed { result ≡ Err ShelfFail.Failed → failed_of self.new ≡ Some (failing Access.Load name.now) }
+        ensures unblamed { result ≢ Err ShelfFail.Failed → failed_of self.new ≡ failed_of self.old }
         ensures due { due_of self.new ≡ due_of self.old - 1 }
     {
         if self.is_failing() {
-            return Err(self.fail());
+            return Err(self.fail(Access::Load, name));
         }
         match find(&self.files, name) {
-            None => Err(self.fail()),
+            None => Err(self.fail(Access::Load, name)),
             Some(bytes) => {
                 if bytes.len() > limit as usize {
                     return Err(ShelfFail::TooLong);
@@ -124,10 +137,12 @@ impl Shelf for MemShelf {
         ensures failed { IsErrOf result ShelfFail.Failed ↔ (due_of self.old ≡ 1) }
         ensures counted { IsErrOf result ShelfFail.Failed → faults_of self.new ≡ one_more (faults_of self.old) }
         ensures not_counted { result ≢ Err ShelfFail.Failed → faults_of self.new ≡ faults_of self.old }
+        ensures blamed { result ≡ Err ShelfFail.Failed → failed_of self.new ≡ Some (failing Access.Store name.now) }
+        ensures unblamed { result ≢ Err ShelfFail.Failed → failed_of self.new ≡ failed_of self.old }
         ensures due { due_of self.new ≡ due_of self.old - 1 }
     {
         if self.is_failing() {
-            return Err(self.fail());
+            return Err(self.fail(Access::Store, name));
         }
         match keep(self.alloc, &mut self.files, name, bytes) {
             Ok(()) => Ok(()),
