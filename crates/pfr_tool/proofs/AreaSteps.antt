@@ -4,8 +4,8 @@ use Rattle.std.proofs.lemmas.List.{length-replicate}
 use Rattle.pfr_flash.specs.Bytes.{written}
 use Rattle.pfr_flash.proofs.BytesLemmas.{put_mid_is, length-written}
 use borrow.Rule.Slice.PartMut.{put_mid}
-use Rattle.pfr_tool.specs.Fields.{blanks, filled}
-use Rattle.pfr_tool.specs.Made.{with_area}
+use Rattle.pfr_made.specs.Fields.{blanks, filled}
+use Rattle.pfr_made.specs.Made.{with_area}
 
 -- bytes that are written over the first of those that were written
 over_written : (image : List ℕ) (at : ℕ) (rest bytes : List ℕ) → length bytes ≤ length rest

@@ -1,7 +1,7 @@
 -- The hex digits of two parts are those of the one, then those of the other.
 use Rattle.std.proofs.Common.{◌≡◌, ℕ, List, [], ◌∷◌, ◌++◌, refl, append_assoc}
 use Rattle.hex.specs.Hex.{lower_digits, encode_with, encode_lower}
-use Rattle.pfr_tool.specs.Rows.{word}
+use Rattle.pfr_made.specs.Rows.{word}
 
 pub encode_append : (t a b : List ℕ) → encode_with t (a ++ b) ≡ encode_with t a ++ encode_with t b
 unfolding encode_with

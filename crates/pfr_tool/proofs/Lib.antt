@@ -3,4 +3,3 @@ pub mod Digits
 pub mod PageSteps
 pub mod RegionSteps
 pub mod Texts
-pub mod TableKeys

@@ -2,12 +2,12 @@
 use Rattle.std.proofs.Common.{◌≡◌, ℕ, zero, suc, ◌+◌, ◌*◌, ◌<◌, ◌≤◌, ◌^◌, Bool, true, false, List, [], length, take, drop, get_or, refl, arith, if◌then◌else◌}
 use Rattle.std.proofs.lemmas.List.{drop_more, drop_all}
 use Rattle.std.proofs.Math.Pow.{pow_mono}
-use Rattle.pfr_tool.specs.Pages.{has_byte, use_of, page_bit, bits_of, page_payload}
-use Rattle.pfr_tool.specs.declared.bank_description.BankDescription.{BankDescription}
-use Rattle.pfr_tool.specs.declared.pages.PageMap.{PageMap}
-use Rattle.pfr_tool.specs.declared.pages.PageMap.TheVariants as maps
-use Rattle.pfr_tool.specs.declared.region.PageUse.TheVariants.{Keep}
-use Rattle.pfr_tool.specs.declared.region.RegionDescription.{RegionDescription}
+use Rattle.pfr_made.specs.Pages.{has_byte, use_of, page_bit, bits_of, page_payload}
+use Rattle.pfr_description.specs.Described.{BankDescription}
+use Rattle.pfr_made.specs.declared.page_map.PageMap.{PageMap}
+use Rattle.pfr_made.specs.declared.page_map.PageMap.TheVariants as maps
+use Rattle.pfr_description.specs.declared.region.PageUse.TheVariants.{Keep}
+use Rattle.pfr_description.specs.declared.region.RegionDescription.{RegionDescription}
 
 one_bit : (b : Bool) → (if b then 1 else 0) ≤ 1
 one_bit true = omega arith

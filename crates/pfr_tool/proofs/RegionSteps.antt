@@ -6,10 +6,10 @@ use Rattle.pfr_flash.specs.declared.layout.Layout.{Layout}
 use Rattle.pfr_flash.proofs.BytesLemmas.{put_mid_is}
 use Rattle.pfr_manifest.specs.declared.fail.ManifestFail.{ManifestFail}
 use borrow.Rule.Slice.PartMut.{put_mid}
-use Rattle.pfr_tool.specs.Fields.{blanks}
-use Rattle.pfr_tool.specs.Images.{is_blank, blanked, active_of}
-use Rattle.pfr_tool.specs.Regions.{judge_region, judge_regions, IsInside}
-use Rattle.pfr_tool.specs.declared.region.RegionDescription.{RegionDescription}
+use Rattle.pfr_made.specs.Fields.{blanks}
+use Rattle.pfr_made.specs.Images.{is_blank, blanked, active_of}
+use Rattle.pfr_made.specs.Regions.{judge_region, judge_regions, IsInside}
+use Rattle.pfr_description.specs.declared.region.RegionDescription.{RegionDescription}
 
 -- a region that passes leaves the others to be judged
 pub passed_region : (k s e : ℕ) (xs : List RegionDescription) (layout : Layout) (size : ℕ) (d : RegionDescription) → k < length xs

@@ -1,22 +1,25 @@
 // A bank's image, and its capsule.
 ghost use Rattle.std.specs.Prelude.{◌≡◌, ◌↔◌, ◌≤◌, length, vec_len, IsOk, OnOk, IfOk};
-ghost use Rattle.pfr_tool.specs.Banks.{bank_of};
+ghost use Rattle.pfr_description.specs.Banks.{bank_of};
+ghost use Rattle.pfr_description.specs.Sound.{IsSound};
+ghost use Rattle.pfr_made.specs.Trust.{IsWorthy};
 ghost use Rattle.pfr_flash.specs.Layout.{IsValidLayout};
-ghost use Rattle.pfr_tool.specs.Capsules.{signed_capsule};
-ghost use Rattle.pfr_tool.specs.Images.{active_of, signed_manifest};
-ghost use Rattle.pfr_tool.specs.Judge.{IsPlaced, Judged, judge_image, of_manifest, require_fit};
-ghost use Rattle.pfr_tool.specs.Made.{active_image, with_areas, flash_of, rows_of, judge_given, judge_fits, judge_bank};
-ghost use Rattle.pfr_tool.specs.Regions.{IsInside, judge_entries};
+ghost use Rattle.pfr_made.specs.Capsules.{signed_capsule};
+ghost use Rattle.pfr_made.specs.Images.{active_of, signed_manifest};
+ghost use Rattle.pfr_made.specs.Judge.{IsPlaced, Judged, judge_image, of_manifest, require_fit};
+ghost use Rattle.pfr_made.specs.Made.{active_image, with_areas, flash_of, rows_of, judge_given, judge_fits, judge_bank};
+ghost use Rattle.pfr_made.specs.Regions.{IsInside, judge_entries};
 ghost use Rattle.std.specs.List.{All};
 
-use crate::bank_description::BankDescription;
 use crate::capsule::signed_capsule;
-use crate::description::Description;
-use crate::fail::{DescFail, DescWhy, FitPart};
 use crate::manifest::signed_manifest;
-use crate::region::RegionDescription;
+use crate::place::check_place;
+use crate::region::{blank_in, is_blank};
 use crate::regions::check_entries;
 use crate::writing::put_area;
+use pfr_description::{
+    BankDescription, DescFail, DescWhy, Description, FitPart, RegionDescription,
+};
 use pfr_flash::{Bank, Bytes, Layout, NoMemory};
 use std::alloc::Global;
 
@@ -36,16 +39,16 @@ fn blank_regions(image: &mut [u8], regions: &[RegionDescription])
     ensures { image.new ≡ active_of regions.now image.old }
 {
     for region in regions {
-        if region.is_blank() {
-            region.blank_in(image);
+        if is_blank(region) {
+            blank_in(region, image);
         }
     }
 }
 
 // the image with what the description makes blank
 fn active_image(alloc: Global, part: &BankDescription, image: &[u8]) -> Result<Vec<u8>, NoMemory>
-    requires { All (IsInside (length image.now)) part.now.regions.items }
-    ensures bytes { IfOk result (λ active. active.items ≡ active_of part.now.regions.items image.now) }
+    requires { All (IsInside (length image.now)) part.now.regions }
+    ensures bytes { IfOk result (λ active. active.items ≡ active_of part.now.regions image.now) }
     ensures len { IfOk result (λ active. vec_len active ≡ length image.now) }
 {
     let mut active = Vec::from_slice(alloc, image)?;
@@ -54,12 +57,12 @@ fn active_image(alloc: Global, part: &BankDescription, image: &[u8]) -> Result<V
 }
 
 // The bank's size and layout, and the image's length.
-#[tactic(auto, unfolding(crate::specs::Judge::judge_image))]
+#[tactic(auto, unfolding(pfr_made::specs::Judge::judge_image))]
 fn check_image(desc: &Description, bank: Bank, image: &[u8]) -> Result<(), DescWhy>
     ensures exact { result ≡ judge_image bank (bank_of desc.now bank) image.now }
     ensures ok { IsOk result ↔ (IsPlaced (bank_of desc.now bank) × (length image.now ≡ (bank_of desc.now bank).size)) }
 {
-    desc.check_place(bank)?;
+    check_place(desc, bank)?;
     if image.len() != desc.bank(bank).size as usize {
         return Err(DescWhy::Fit(bank, FitPart::Image));
     }
@@ -69,7 +72,7 @@ fn check_image(desc: &Description, bank: Bank, image: &[u8]) -> Result<(), DescW
 // What a manifest would have of the description.
 fn check_manifest(bank: Bank, part: &BankDescription) -> Result<(), DescWhy>
     ensures exact { result ≡ of_manifest bank (judge_entries part.now) }
-    ensures inside { OnOk result (All (IsInside part.now.size) part.now.regions.items) }
+    ensures inside { OnOk result (All (IsInside part.now.size) part.now.regions) }
 {
     match check_entries(part) {
         Ok(()) => Ok(()),
@@ -78,11 +81,11 @@ fn check_manifest(bank: Bank, part: &BankDescription) -> Result<(), DescWhy>
 }
 
 // What is judged before anything is made.
-#[tactic(auto, unfolding(crate::specs::Made::judge_given))]
+#[tactic(auto, unfolding(pfr_made::specs::Made::judge_given))]
 fn check_given(desc: &Description, bank: Bank, image: &[u8]) -> Result<(), DescWhy>
     ensures exact { result ≡ judge_given desc.now bank image.now }
     ensures placed { OnOk result (IsPlaced (bank_of desc.now bank) × (length image.now ≡ (bank_of desc.now bank).size)) }
-    ensures inside { OnOk result (All (IsInside (length image.now)) (bank_of desc.now bank).regions.items) }
+    ensures inside { OnOk result (All (IsInside (length image.now)) (bank_of desc.now bank).regions) }
     ensures judged { (why : DescWhy) → judge_image bank (bank_of desc.now bank) image.now ≡ Err why → result ≡ Err why }
 {
     check_image(desc, bank, image)?;
@@ -99,7 +102,7 @@ fn check_staged(bank: Bank, layout: &Layout, staged: &[u8]) -> Result<(), DescWh
 }
 
 // puts what was made into the areas of the image
-#[tactic(auto, unfolding(crate::specs::Made::with_areas))]
+#[tactic(auto, unfolding(pfr_made::specs::Made::with_areas))]
 fn put_areas(image: &mut [u8], layout: &Layout, manifest: &[u8], capsule: &[u8], staged: &[u8])
     requires layout { IsValidLayout layout.now (length image.old) }
     requires manifest { length manifest.now ≤ layout.now.manifest_len }
@@ -123,7 +126,7 @@ struct Parts {
 }
 
 // makes the parts of the image, where they and the staged file lie in their areas
-#[tactic(auto, unfolding(crate::specs::Made::judge_fits, crate::specs::Made::rows_of))]
+#[tactic(auto, unfolding(pfr_made::specs::Made::judge_fits, pfr_made::specs::Made::rows_of))]
 fn make_parts(
     alloc: Global,
     desc: &Description,
@@ -132,7 +135,7 @@ fn make_parts(
     staged: &[u8],
 ) -> Result<Parts, DescFail>
     requires size { length image.now ≡ (bank_of desc.now bank).size }
-    requires inside { All (IsInside (length image.now)) (bank_of desc.now bank).regions.items }
+    requires inside { All (IsInside (length image.now)) (bank_of desc.now bank).regions }
     ensures active { IfOk result (λ parts. parts.active.items ≡ active_image desc.now bank image.now) }
     ensures len { IfOk result (λ parts. vec_len parts.active ≡ length image.now) }
     ensures manifest { IfOk result (λ parts. parts.manifest.items ≡ signed_manifest desc.now bank (active_image desc.now bank image.now)) }
@@ -158,8 +161,42 @@ fn make_parts(
     })
 }
 
+// the bank's image, with its parts in it
+#[tactic(auto, unfolding(pfr_made::specs::Made::flash_of))]
+fn make_image(
+    alloc: Global,
+    desc: &Description,
+    bank: Bank,
+    image: &[u8],
+    staged: &[u8],
+) -> Result<Made, DescFail>
+    ensures flash { IfOk result (λ made. made.flash ≡ flash_of desc.now bank image.now staged.now) }
+    ensures capsule { IfOk result (λ made. made.capsule ≡ signed_capsule desc.now bank (active_image desc.now bank image.now)) }
+    ensures rows { IfOk result (λ made. made.rows ≡ rows_of desc.now bank (active_image desc.now bank image.now)) }
+    ensures size { IfOk result (λ made. length made.flash ≡ (bank_of desc.now bank).size) }
+    ensures fits { IfOk result (λ made. length made.capsule ≤ (bank_of desc.now bank).layout.area_len) }
+    ensures placed { OnOk result (IsPlaced (bank_of desc.now bank) × (length image.now ≡ (bank_of desc.now bank).size)) }
+    ensures place { (why : DescWhy) → judge_image bank (bank_of desc.now bank) image.now ≡ Err why → result ≡ Err (DescFail.Why why) }
+    ensures judged { Judged result (judge_bank desc.now bank image.now staged.now) }
+{
+    check_given(desc, bank, image)?;
+    let parts = make_parts(alloc, desc, bank, image, staged)?;
+    let layout = &desc.bank(bank).layout;
+    let mut flash = parts.active;
+    put_areas(&mut flash, layout, &parts.manifest, &parts.capsule, staged);
+    Ok(Made {
+        flash: Bytes::new(flash),
+        capsule: Bytes::new(parts.capsule),
+        rows: Bytes::new(parts.rows),
+    })
+}
+
 /// Makes a bank's image and its capsule of what it holds and what is staged.
-#[tactic(auto, unfolding(crate::specs::Made::flash_of))]
+///
+/// The image has the bank's size in bytes, and the staged file fits in its area. The signatures are marks that protect
+/// nothing: an engine takes them by the rows. `Err(Why(why))` names the first rule that is broken, in the order size,
+/// layout, image, the manifest's rules, and then whether manifest, capsule and staged file fit in their areas.
+#[tactic(auto, using(pfr_made::proofs::WorthMade::worthy_made))]
 pub fn make_bank(
     alloc: Global,
     desc: &Description,
@@ -177,15 +214,9 @@ pub fn make_bank(
     ensures place { (why : DescWhy) → judge_image bank (bank_of desc.now bank) image.now ≡ Err why → result ≡ Err (DescFail.Why why) }
     // The rule that is named is the first in order.
     ensures judged { Judged result (judge_bank desc.now bank image.now staged.now) }
+
+    // With the store of the same description it is trusted by any engine that accepts the rows, and its recovery area is good.
+    ensures worth { IsSound desc.now → IfOk result (λ made. IsWorthy desc.now bank made.flash made.rows) }
 {
-    check_given(desc, bank, image)?;
-    let parts = make_parts(alloc, desc, bank, image, staged)?;
-    let layout = &desc.bank(bank).layout;
-    let mut flash = parts.active;
-    put_areas(&mut flash, layout, &parts.manifest, &parts.capsule, staged);
-    Ok(Made {
-        flash: Bytes::new(flash),
-        capsule: Bytes::new(parts.capsule),
-        rows: Bytes::new(parts.rows),
-    })
+    make_image(alloc, desc, bank, image, staged)
 }

@@ -1,13 +1,11 @@
 // Signature blocks, of 1,024 bytes in front of what they sign.
 ghost use Rattle.std.specs.Prelude.{◌≡◌, ◌+◌, ◌<◌, ◌^◌, ◌++◌, length, vec_len, OnOk, IfOk};
 ghost use Rattle.pfr_chain.specs.Types.{number_of};
-ghost use Rattle.pfr_tool.specs.Blocks.{magic_of_block0, stated_length, block0_bytes, block_in, rows_in, signed_bytes, signed_rows, root_block_in, root_row_in, root_signed_bytes, root_signed_row};
+ghost use Rattle.pfr_made.specs.Blocks.{magic_of_block0, stated_length, block0_bytes, block_in, rows_in, signed_bytes, signed_rows, root_block_in, root_row_in, root_signed_bytes, root_signed_row};
 
-use crate::description::Description;
-use crate::form::Form;
-use crate::keys::KeyDescription;
 use crate::writing::{pad, push_number};
 use crate::{form1, form2};
+use pfr_description::{Description, Form, KeyDescription};
 use pfr_flash::{ContentType, NoMemory};
 use sha2::{Digest, Sha256, Sha384};
 use std::alloc::Global;
@@ -56,7 +54,7 @@ fn form_numbers(form: Form) -> (u32, u32)
 }
 
 // Block 0 of a content
-#[tactic(auto, unfolding(crate::specs::Blocks::block0_bytes))]
+#[tactic(auto, unfolding(pfr_made::specs::Blocks::block0_bytes))]
 fn block0(alloc: Global, form: Form, ty: ContentType, content: &[u8]) -> Result<Vec<u8>, NoMemory>
     requires { length content.now < 2 ^ 32 }
     ensures bytes { IfOk result (λ block. block.items ≡ block0_bytes form ty content.now) }
@@ -94,7 +92,7 @@ fn push_block1(
 }
 
 /// Signs a content by a key, which the root signs.
-#[tactic(auto, unfolding(crate::specs::Blocks::signed_bytes, crate::specs::Blocks::signed_rows))]
+#[tactic(auto, unfolding(pfr_made::specs::Blocks::signed_bytes, pfr_made::specs::Blocks::signed_rows))]
 pub fn sign_content(
     alloc: Global,
     desc: &Description,
@@ -132,7 +130,7 @@ fn push_root_block1(
 }
 
 /// Signs a content by the root.
-#[tactic(auto, unfolding(crate::specs::Blocks::root_signed_bytes, crate::specs::Blocks::root_signed_row))]
+#[tactic(auto, unfolding(pfr_made::specs::Blocks::root_signed_bytes, pfr_made::specs::Blocks::root_signed_row))]
 pub fn sign_by_root(
     alloc: Global,
     desc: &Description,

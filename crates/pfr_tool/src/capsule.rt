@@ -1,23 +1,22 @@
 // The update capsules of banks.
 ghost use Rattle.std.specs.Prelude.{◌≡◌, ◌<◌, ◌≤◌, ◌^◌, ◌++◌, length, vec_len, OnOk, IfOk};
-ghost use Rattle.pfr_tool.specs.Banks.{bank_of};
-ghost use Rattle.pfr_tool.specs.Capsules.{page_header, pages_bytes, capsule_body, signed_capsule, capsule_rows};
-ghost use Rattle.pfr_tool.specs.Images.{signed_manifest};
-ghost use Rattle.pfr_tool.specs.Judge.{Judged, fit_capsule};
+ghost use Rattle.pfr_description.specs.Banks.{bank_of};
+ghost use Rattle.pfr_made.specs.Capsules.{page_header, pages_bytes, capsule_body, signed_capsule, capsule_rows};
+ghost use Rattle.pfr_made.specs.Images.{signed_manifest};
+ghost use Rattle.pfr_made.specs.Judge.{Judged, fit_capsule};
 
-use crate::bank_description::{BankDescription, PAGE};
 use crate::block::{BLOCK, Signed, sign_content};
-use crate::description::Description;
-use crate::fail::{DescFail, DescWhy, FitPart};
-use crate::pages::{PageMap, payload_of, push_map};
+use crate::pages::{PAGE, payload_of, push_map};
 use crate::writing::{pad, push_number};
+use pfr_description::{BankDescription, DescFail, DescWhy, Description, FitPart};
 use pfr_flash::{Bank, NoMemory};
+use pfr_made::PageMap;
 use std::alloc::Global;
 
 const PAGE_HEADER: usize = 128;
 
 // the header of the pages
-#[tactic(auto, unfolding(crate::specs::Capsules::page_header))]
+#[tactic(auto, unfolding(pfr_made::specs::Capsules::page_header))]
 fn page_header(alloc: Global, map_bits: u32, payload_len: u32) -> Result<Vec<u8>, NoMemory>
     ensures { IfOk result (λ header. header.items ≡ page_header map_bits payload_len) }
 {
@@ -34,7 +33,7 @@ fn page_header(alloc: Global, map_bits: u32, payload_len: u32) -> Result<Vec<u8>
 }
 
 // appends the header, the maps and the payload
-#[tactic(auto, unfolding(crate::specs::Capsules::pages_bytes))]
+#[tactic(auto, unfolding(pfr_made::specs::Capsules::pages_bytes))]
 fn push_pages(
     alloc: Global,
     body: &mut Vec<u8>,
@@ -54,7 +53,7 @@ fn push_pages(
 }
 
 // what the capsule's block signs
-#[tactic(auto, unfolding(crate::specs::Capsules::capsule_body))]
+#[tactic(auto, unfolding(pfr_made::specs::Capsules::capsule_body))]
 fn capsule_body(
     alloc: Global,
     desc: &Description,
@@ -72,7 +71,7 @@ fn capsule_body(
 }
 
 /// The capsule of a bank with this signed manifest and active image.
-#[tactic(auto, unfolding(crate::specs::Capsules::signed_capsule, crate::specs::Capsules::capsule_rows, crate::specs::Judge::fit_capsule))]
+#[tactic(auto, unfolding(pfr_made::specs::Capsules::signed_capsule, pfr_made::specs::Capsules::capsule_rows, pfr_made::specs::Judge::fit_capsule))]
 pub fn signed_capsule(
     alloc: Global,
     desc: &Description,

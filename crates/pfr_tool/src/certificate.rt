@@ -1,11 +1,11 @@
 // Certificates, which cancel keys.
 ghost use Rattle.std.specs.Prelude.{◌≡◌, vec_len, IfOk};
 ghost use Rattle.pfr_fuses.specs.FuseMap.{IsSigning};
-ghost use Rattle.pfr_tool.specs.Certificates.{cancelling, certificate_body, certificate_bytes, certificate_row};
+ghost use Rattle.pfr_made.specs.Certificates.{cancelling, certificate_body, certificate_bytes, certificate_row};
 
 use crate::block::sign_by_root;
-use crate::description::Description;
 use crate::writing::{pad, push_number};
+use pfr_description::Description;
 use pfr_flash::{Bytes, ContentType, NoMemory};
 use std::alloc::Global;
 
@@ -32,7 +32,7 @@ fn cancelling(ty: ContentType) -> ContentType
     }
 }
 
-#[tactic(auto, unfolding(crate::specs::Certificates::certificate_body))]
+#[tactic(auto, unfolding(pfr_made::specs::Certificates::certificate_body))]
 fn certificate_body(alloc: Global, id: u8) -> Result<Vec<u8>, NoMemory>
     ensures bytes { IfOk result (λ body. body.items ≡ certificate_body id) }
     ensures len { IfOk result (λ body. vec_len body ≡ 128) }

@@ -1,7 +1,7 @@
 // The rows by which an engine accepts signatures.
 ghost use Rattle.std.specs.Prelude.{◌≡◌, ◌++◌, codes, OnOk};
 ghost use Rattle.hex.specs.Hex.{encode_lower};
-ghost use Rattle.pfr_tool.specs.Rows.{word, row_of, long_row_of};
+ghost use Rattle.pfr_made.specs.Rows.{word, row_of, long_row_of};
 
 use crate::marks::{curve_number, digest_bytes};
 use pfr_chain::Ask;
@@ -17,7 +17,7 @@ fn push_digits(alloc: Global, rows: &mut Vec<u8>, bytes: &[u8]) -> Result<(), No
 }
 
 // appends a word of hex digits, and what ends it
-#[tactic(auto, unfolding(crate::specs::Rows::word))]
+#[tactic(auto, unfolding(pfr_made::specs::Rows::word))]
 fn push_word(alloc: Global, rows: &mut Vec<u8>, bytes: &[u8], end: u8) -> Result<(), NoMemory>
     ensures { OnOk result (rows.new.items ≡ rows.old.items ++ word bytes.now end) }
 {
@@ -27,7 +27,7 @@ fn push_word(alloc: Global, rows: &mut Vec<u8>, bytes: &[u8], end: u8) -> Result
 }
 
 /// Appends the row of a signature.
-#[tactic(auto, unfolding(crate::specs::Rows::row_of))]
+#[tactic(auto, unfolding(pfr_made::specs::Rows::row_of))]
 pub fn push_row(alloc: Global, rows: &mut Vec<u8>, ask: &Ask) -> Result<(), NoMemory>
     ensures { OnOk result (rows.new.items ≡ rows.old.items ++ row_of ask.now) }
 {
@@ -55,7 +55,7 @@ fn push_pair(
 }
 
 /// Appends the long row of a signature: the key is X then Y, the signature R then S.
-#[tactic(auto, unfolding(crate::specs::Rows::long_row_of))]
+#[tactic(auto, unfolding(pfr_made::specs::Rows::long_row_of))]
 pub fn push_long_row(
     alloc: Global,
     rows: &mut Vec<u8>,

@@ -1,16 +1,15 @@
 // Block 1 of form 2, whose keys and signatures state their lengths.
 ghost use Rattle.std.specs.Prelude.{◌≡◌, ◌+◌, ◌++◌, vec_len, OnOk, IfOk};
-ghost use Rattle.pfr_tool.specs.Marks.{number_of_curve};
-ghost use Rattle.pfr_tool.specs.Rows.{long_row_of};
-ghost use Rattle.pfr_tool.specs.Form2.{key_bytes, signature_bytes, marks_on_key, head_bytes, key_entry, block0_entry, block_of, rows_of, root_block_of, root_row_of};
+ghost use Rattle.pfr_made.specs.Marks.{number_of_curve};
+ghost use Rattle.pfr_made.specs.Rows.{long_row_of};
+ghost use Rattle.pfr_made.specs.Form2.{key_bytes, signature_bytes, marks_on_key, head_bytes, key_entry, block0_entry, block_of, rows_of, root_block_of, root_row_of};
 
 use crate::block::{ANY, BLOCK};
-use crate::description::Description;
 use crate::engine_rows::push_long_row;
-use crate::keys::{KeyDescription, PublicKey};
 use crate::marks::{curve_number, sign};
 use crate::writing::{pad, push_number, push_zeros};
 use pfr_chain::{Ask, Curve};
+use pfr_description::{Description, KeyDescription, PublicKey};
 use pfr_flash::NoMemory;
 use std::alloc::Global;
 
@@ -18,7 +17,7 @@ use std::alloc::Global;
 const PAIR: u32 = 96;
 
 // an entry's key, from its permissions up to and including the key
-#[tactic(auto, unfolding(crate::specs::Form2::key_bytes))]
+#[tactic(auto, unfolding(pfr_made::specs::Form2::key_bytes))]
 fn entry_key(
     alloc: Global,
     curve: Curve,
@@ -39,7 +38,7 @@ fn entry_key(
     Ok(entry)
 }
 
-#[tactic(auto, unfolding(crate::specs::Form2::signature_bytes))]
+#[tactic(auto, unfolding(pfr_made::specs::Form2::signature_bytes))]
 fn push_signature(block: &mut Vec<u8>, marks: &Ask) -> Result<(), NoMemory>
     ensures bytes { OnOk result (block.new.items ≡ block.old.items ++ signature_bytes marks.now) }
     ensures len { OnOk result (vec_len block.new ≡ vec_len block.old + 100) }
@@ -51,7 +50,7 @@ fn push_signature(block: &mut Vec<u8>, marks: &Ask) -> Result<(), NoMemory>
 }
 
 // what Block 1 begins with, and the root entry
-#[tactic(auto, unfolding(crate::specs::Form2::head_bytes))]
+#[tactic(auto, unfolding(pfr_made::specs::Form2::head_bytes))]
 fn push_head(alloc: Global, desc: &Description, block: &mut Vec<u8>) -> Result<(), NoMemory>
     ensures bytes { OnOk result (block.new.items ≡ block.old.items ++ head_bytes desc.now) }
     ensures len { OnOk result (vec_len block.new ≡ vec_len block.old + 132) }
@@ -65,7 +64,7 @@ fn push_head(alloc: Global, desc: &Description, block: &mut Vec<u8>) -> Result<(
 }
 
 // the key entry, and the row of the root's signature
-#[tactic(auto, unfolding(crate::specs::Form2::key_entry))]
+#[tactic(auto, unfolding(pfr_made::specs::Form2::key_entry))]
 fn push_key_entry(
     alloc: Global,
     desc: &Description,
@@ -87,7 +86,7 @@ fn push_key_entry(
     Ok(())
 }
 
-#[tactic(auto, unfolding(crate::specs::Form2::block0_entry))]
+#[tactic(auto, unfolding(pfr_made::specs::Form2::block0_entry))]
 fn push_block0_entry(block: &mut Vec<u8>, marks: &Ask) -> Result<(), NoMemory>
     ensures bytes { OnOk result (block.new.items ≡ block.old.items ++ block0_entry marks.now) }
     ensures len { OnOk result (vec_len block.new ≡ vec_len block.old + 104) }
@@ -97,7 +96,7 @@ fn push_block0_entry(block: &mut Vec<u8>, marks: &Ask) -> Result<(), NoMemory>
 }
 
 /// Appends Block 1 behind Block 0, and the engine's rows of its signatures.
-#[tactic(auto, unfolding(crate::specs::Form2::block_of, crate::specs::Form2::rows_of))]
+#[tactic(auto, unfolding(pfr_made::specs::Form2::block_of, pfr_made::specs::Form2::rows_of))]
 pub fn push_block1(
     alloc: Global,
     desc: &Description,
@@ -120,7 +119,7 @@ pub fn push_block1(
 }
 
 /// Appends Block 1 without a key entry behind Block 0, and the engine's row of the root's signature.
-#[tactic(auto, unfolding(crate::specs::Form2::root_block_of))]
+#[tactic(auto, unfolding(pfr_made::specs::Form2::root_block_of))]
 pub fn push_root_block1(
     alloc: Global,
     desc: &Description,

@@ -2,19 +2,19 @@
 ghost use Rattle.std.specs.Prelude.{◌≡◌, ◌+◌, ◌<◌, ◌≤◌, ◌^◌, ◌++◌, [], length, map, vec_len, OnOk, IfOk};
 ghost use Rattle.std.specs.List.{All, flat_map};
 ghost use Rattle.pfr_manifest.specs.Spelling.{digest_of, header_bytes, region_bytes, rule_bytes};
-ghost use Rattle.pfr_tool.specs.Banks.{bank_of};
-ghost use Rattle.pfr_tool.specs.Manifests.{hash_of, region_of, rule_of, entry_bytes, manifest_with, text_of};
-ghost use Rattle.pfr_tool.specs.Judge.{Judged, fit_manifest};
-ghost use Rattle.pfr_tool.specs.Images.{signed_manifest, manifest_rows};
-ghost use Rattle.pfr_tool.specs.Regions.{IsInside};
+ghost use Rattle.pfr_description.specs.Banks.{bank_of};
+ghost use Rattle.pfr_made.specs.Manifests.{hash_of, region_of, rule_of, entry_bytes, manifest_with, text_of};
+ghost use Rattle.pfr_made.specs.Judge.{Judged, fit_manifest};
+ghost use Rattle.pfr_made.specs.Images.{signed_manifest, manifest_rows};
+ghost use Rattle.pfr_made.specs.Regions.{IsInside};
 
-use crate::bank_description::BankDescription;
 use crate::block::{BLOCK, Signed, sign_content};
-use crate::description::Description;
-use crate::fail::{DescFail, DescWhy, FitPart};
-use crate::region::{HashKind, RegionDescription};
-use crate::smbus::SmbusDescription;
+use crate::region::{bytes_in, hash_info};
 use crate::writing::{fill_up, push_number, push_short, push_zeros};
+use pfr_description::{
+    BankDescription, DescFail, DescWhy, Description, FitPart, HashKind, RegionDescription,
+    SmbusDescription,
+};
 use pfr_flash::{Bank, NoMemory};
 use sha2::{Digest, Sha256, Sha384};
 use std::alloc::Global;
@@ -34,7 +34,7 @@ fn push_digest(entries: &mut Vec<u8>, hash: Option<HashKind>, bytes: &[u8]) -> R
 }
 
 // appends the definition of a region of this image
-#[tactic(auto, unfolding(pfr_manifest::specs::Spelling::region_bytes, crate::specs::Manifests::region_of, crate::specs::Fields::number_bytes))]
+#[tactic(auto, unfolding(pfr_manifest::specs::Spelling::region_bytes, pfr_made::specs::Manifests::region_of, pfr_made::specs::Fields::number_bytes))]
 fn push_region(
     entries: &mut Vec<u8>,
     region: &RegionDescription,
@@ -44,11 +44,11 @@ fn push_region(
     ensures { OnOk result (entries.new.items ≡ entries.old.items ++ region_bytes (region_of image.now region.now)) }
 {
     entries.extend_from_slice(&[1, region.mask])?;
-    push_short(entries, region.hash_info())?;
+    push_short(entries, hash_info(region))?;
     push_zeros(entries, 4)?;
     push_number(entries, region.start)?;
     push_number(entries, region.end)?;
-    push_digest(entries, region.hash, region.bytes_in(image))
+    push_digest(entries, region.hash, bytes_in(region, image))
 }
 
 fn push_regions(
@@ -66,7 +66,7 @@ fn push_regions(
 }
 
 // appends the definition of a rule
-#[tactic(auto, unfolding(pfr_manifest::specs::Spelling::rule_bytes, crate::specs::Manifests::rule_of))]
+#[tactic(auto, unfolding(pfr_manifest::specs::Spelling::rule_bytes, pfr_made::specs::Manifests::rule_of))]
 fn push_rule(entries: &mut Vec<u8>, rule: &SmbusDescription) -> Result<(), NoMemory>
     ensures { OnOk result (entries.new.items ≡ entries.old.items ++ rule_bytes (rule_of rule.now)) }
 {
@@ -86,7 +86,7 @@ fn push_rules(entries: &mut Vec<u8>, rules: &[SmbusDescription]) -> Result<(), N
     Ok(())
 }
 
-#[tactic(auto, unfolding(pfr_manifest::specs::Spelling::header_bytes, crate::specs::Fields::number_bytes))]
+#[tactic(auto, unfolding(pfr_manifest::specs::Spelling::header_bytes, pfr_made::specs::Fields::number_bytes))]
 fn push_header(manifest: &mut Vec<u8>, part: &BankDescription, length: u32) -> Result<(), NoMemory>
     ensures bytes { OnOk result (manifest.new.items ≡ manifest.old.items ++ header_bytes (manifest_with part.now length [] [])) }
     ensures len { OnOk result (vec_len manifest.new ≡ vec_len manifest.old + 32) }
@@ -100,9 +100,9 @@ fn push_header(manifest: &mut Vec<u8>, part: &BankDescription, length: u32) -> R
 }
 
 // the definitions of the regions, then of the rules
-#[tactic(auto, unfolding(crate::specs::Manifests::entry_bytes))]
+#[tactic(auto, unfolding(pfr_made::specs::Manifests::entry_bytes))]
 fn entries_of(alloc: Global, part: &BankDescription, image: &[u8]) -> Result<Vec<u8>, NoMemory>
-    requires { All (IsInside (length image.now)) part.now.regions.items }
+    requires { All (IsInside (length image.now)) part.now.regions }
     ensures { IfOk result (λ entries. entries.items ≡ entry_bytes part.now image.now) }
 {
     let mut entries = Vec::new(alloc);
@@ -112,14 +112,14 @@ fn entries_of(alloc: Global, part: &BankDescription, image: &[u8]) -> Result<Vec
 }
 
 // the manifest of a bank with this active image
-#[tactic(auto, using(crate::proofs::Texts::text_made), unfolding(crate::specs::Judge::fit_manifest))]
+#[tactic(auto, using(crate::proofs::Texts::text_made), unfolding(pfr_made::specs::Judge::fit_manifest))]
 fn manifest_of(
     alloc: Global,
     bank: Bank,
     part: &BankDescription,
     image: &[u8],
 ) -> Result<Vec<u8>, DescFail>
-    requires { All (IsInside (length image.now)) part.now.regions.items }
+    requires { All (IsInside (length image.now)) part.now.regions }
     ensures bytes { IfOk result (λ manifest. manifest.items ≡ text_of part.now image.now) }
     ensures fits { IfOk result (λ manifest. 1024 + vec_len manifest ≤ part.now.layout.manifest_len) }
     ensures short { IfOk result (λ manifest. 1024 + vec_len manifest < 2 ^ 32) }
@@ -139,14 +139,14 @@ fn manifest_of(
 }
 
 /// The signed manifest of a bank with this active image.
-#[tactic(auto, unfolding(crate::specs::Images::signed_manifest, crate::specs::Images::manifest_rows))]
+#[tactic(auto, unfolding(pfr_made::specs::Images::signed_manifest, pfr_made::specs::Images::manifest_rows))]
 pub fn signed_manifest(
     alloc: Global,
     desc: &Description,
     bank: Bank,
     image: &[u8],
 ) -> Result<Signed, DescFail>
-    requires { All (IsInside (length image.now)) (bank_of desc.now bank).regions.items }
+    requires { All (IsInside (length image.now)) (bank_of desc.now bank).regions }
     ensures bytes { IfOk result (λ signed. signed.bytes.items ≡ signed_manifest desc.now bank image.now) }
     ensures rows { IfOk result (λ signed. signed.rows.items ≡ manifest_rows desc.now bank image.now) }
     ensures fits { IfOk result (λ signed. vec_len signed.bytes ≤ (bank_of desc.now bank).layout.manifest_len) }

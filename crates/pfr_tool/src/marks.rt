@@ -2,10 +2,10 @@
 ghost use Rattle.std.specs.Prelude.{◌≡◌};
 ghost use Rattle.pfr_engine.specs.Curves.{curve_of};
 ghost use Rattle.pfr_chain.specs.Keys.{digest_on};
-ghost use Rattle.pfr_tool.specs.Marks.{number_of_curve, digest_bytes, mark_of, marks_of};
+ghost use Rattle.pfr_made.specs.Marks.{number_of_curve, digest_bytes, mark_of, marks_of};
 
-use crate::keys::PublicKey;
 use pfr_chain::{Ask, Curve, Digest};
+use pfr_description::PublicKey;
 use sha2::{Digest as _, Sha256, Sha384};
 
 const MARK_R: u8 = b'R';
@@ -44,7 +44,7 @@ fn digest_on(curve: Curve, message: &[u8]) -> Digest
 }
 
 // a key's mark on a digest
-#[tactic(auto, unfolding(crate::specs::Marks::mark_of))]
+#[tactic(auto, unfolding(pfr_made::specs::Marks::mark_of))]
 fn mark(letter: u8, key: &PublicKey, digest: &Digest) -> [u8; 48]
     ensures { result ≡ mark_of letter key.now digest.now }
 {

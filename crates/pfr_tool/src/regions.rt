@@ -1,10 +1,10 @@
 // Judges what a manifest would have of a description.
 ghost use Rattle.std.specs.Prelude.{◌≡◌, OnOk, IfOk};
 ghost use Rattle.std.specs.List.{All};
-ghost use Rattle.pfr_tool.specs.Regions.{is_clear_of, is_clear, judge_region, judge_regions, judge_entries, IsInside};
+ghost use Rattle.pfr_made.specs.Regions.{is_clear_of, is_clear, judge_region, judge_regions, judge_entries, IsInside};
 
-use crate::bank_description::BankDescription;
-use crate::region::RegionDescription;
+use crate::region::is_writable;
+use pfr_description::{BankDescription, RegionDescription};
 use pfr_flash::Layout;
 use pfr_manifest::ManifestFail;
 
@@ -30,7 +30,7 @@ fn is_clear(region: &RegionDescription, layout: &Layout) -> bool
 }
 
 // region k, behind a region from one place to another
-#[tactic(auto, unfolding(crate::specs::Regions::judge_region))]
+#[tactic(auto, unfolding(pfr_made::specs::Regions::judge_region))]
 fn check_region(
     k: usize,
     region: &RegionDescription,
@@ -45,7 +45,7 @@ fn check_region(
         return Err(ManifestFail::TooMany);
     }
     let k = k as u32;
-    if region.hash.is_some() && region.is_writable() {
+    if region.hash.is_some() && is_writable(region) {
         return Err(ManifestFail::WritableHashed(k));
     }
     if region.start % 4096 != 0 || region.end % 4096 != 0 {
@@ -80,10 +80,10 @@ fn check_regions(
 }
 
 /// Whether a manifest may have what the description gives a bank.
-#[tactic(auto, unfolding(crate::specs::Regions::judge_entries))]
+#[tactic(auto, unfolding(pfr_made::specs::Regions::judge_entries))]
 pub fn check_entries(part: &BankDescription) -> Result<(), ManifestFail>
     ensures exact { result ≡ judge_entries part.now }
-    ensures inside { OnOk result (All (IsInside part.now.size) part.now.regions.items) }
+    ensures inside { OnOk result (All (IsInside part.now.size) part.now.regions) }
 {
     if part.svn > GREATEST_SVN {
         return Err(ManifestFail::Svn);

@@ -1,20 +1,19 @@
 // The store of a provisioned platform.
 ghost use Rattle.std.specs.Prelude.{◌≡◌, ◌↔◌, ◌+◌, ◌<◌, ◌^◌, ◌++◌, [], ◌∷◌, IsOk, OnOk, IfOk};
-ghost use Rattle.pfr_tool.specs.Judge.{IsPlaced, Judged, judge_places};
-ghost use Rattle.pfr_tool.specs.Fields.{blanks};
-ghost use Rattle.pfr_tool.specs.Store.{layout_bytes, root_hash, store_of};
+ghost use Rattle.pfr_made.specs.Judge.{IsPlaced, Judged, judge_places};
+ghost use Rattle.pfr_made.specs.Fields.{blanks};
+ghost use Rattle.pfr_made.specs.Store.{layout_bytes, root_hash, store_for};
 
-use crate::description::Description;
-use crate::fail::{DescFail, DescWhy};
-use crate::form::Form;
 use crate::marks::curve_number;
+use crate::place::check_place;
 use crate::writing::{number_bytes, push_blanks, push_number};
+use pfr_description::{DescFail, DescWhy, Description, Form};
 use pfr_flash::{Bank, Bytes, Layout, NoMemory};
 use sha2::{Digest, Sha256};
 use std::alloc::Global;
 
 // The root's hash. That of form 2 begins with the byte 2 and the scheme.
-#[tactic(auto, unfolding(crate::specs::Store::root_hash))]
+#[tactic(auto, unfolding(pfr_made::specs::Store::root_hash))]
 fn root_hash(desc: &Description) -> [u8; 32]
     ensures { result ≡ root_hash desc.now.form desc.now.curve desc.now.root }
 {
@@ -39,18 +38,18 @@ fn push_layout(store: &mut Vec<u8>, layout: &Layout) -> Result<(), NoMemory>
 }
 
 // Both banks' sizes and layouts, the BMC's first
-#[tactic(auto, unfolding(crate::specs::Judge::judge_places, crate::specs::Banks::bank_of))]
+#[tactic(auto, unfolding(pfr_made::specs::Judge::judge_places, pfr_description::specs::Banks::bank_of))]
 fn check_places(desc: &Description) -> Result<(), DescWhy>
     ensures exact { result ≡ judge_places desc.now }
     ensures ok { IsOk result ↔ (IsPlaced desc.now.bmc × IsPlaced desc.now.pch) }
 {
-    desc.check_place(Bank::Bmc)?;
-    desc.check_place(Bank::Pch)
+    check_place(desc, Bank::Bmc)?;
+    check_place(desc, Bank::Pch)
 }
 
 /// Makes the store of the platform, which is provisioned in its first slot and has fuses of profile 2.
 pub fn make_store(alloc: Global, desc: &Description) -> Result<Bytes, DescFail>
-    ensures store { IfOk result (λ store. store ≡ store_of desc.now.form desc.now.curve desc.now.root desc.now.bmc.layout desc.now.pch.layout) }
+    ensures store { IfOk result (λ store. store ≡ store_for desc.now) }
     ensures placed { OnOk result (IsPlaced desc.now.bmc × IsPlaced desc.now.pch) }
     ensures judged { Judged result (judge_places desc.now) }
 {

@@ -1,14 +1,14 @@
 // Writes fields of images.
 ghost use Rattle.std.specs.Prelude.{◌≡◌, ◌+◌, ◌<◌, ◌≤◌, ◌^◌, ◌++◌, length, vec_len, OnOk};
 ghost use Rattle.byteorder.specs.Endian.{little_bytes};
-ghost use Rattle.pfr_tool.specs.Fields.{number_bytes, blanks, zeros, padded, filled};
-ghost use Rattle.pfr_tool.specs.Made.{with_area};
+ghost use Rattle.pfr_made.specs.Fields.{number_bytes, blanks, zeros, padded, filled};
+ghost use Rattle.pfr_made.specs.Made.{with_area};
 
 use byteorder::{ByteOrder, LittleEndian};
 use pfr_flash::NoMemory;
 
 /// A number in four bytes, the lowest first.
-#[tactic(auto, unfolding(crate::specs::Fields::number_bytes))]
+#[tactic(auto, unfolding(pfr_made::specs::Fields::number_bytes))]
 pub fn number_bytes(number: u32) -> [u8; 4]
     ensures { result ≡ number_bytes number }
 {
@@ -38,7 +38,7 @@ pub fn push_short(out: &mut Vec<u8>, number: u16) -> Result<(), NoMemory>
 }
 
 /// Appends so many bytes of 0xFF.
-#[tactic(auto, unfolding(crate::specs::Fields::blanks))]
+#[tactic(auto, unfolding(pfr_made::specs::Fields::blanks))]
 pub fn push_blanks(out: &mut Vec<u8>, count: usize) -> Result<(), NoMemory>
     requires { count < 2 ^ 32 }
     ensures bytes { OnOk result (out.new.items ≡ out.old.items ++ blanks count) }
@@ -50,7 +50,7 @@ pub fn push_blanks(out: &mut Vec<u8>, count: usize) -> Result<(), NoMemory>
 }
 
 /// Appends so many zeros.
-#[tactic(auto, unfolding(crate::specs::Fields::zeros))]
+#[tactic(auto, unfolding(pfr_made::specs::Fields::zeros))]
 pub fn push_zeros(out: &mut Vec<u8>, count: usize) -> Result<(), NoMemory>
     requires { count < 2 ^ 32 }
     ensures bytes { OnOk result (out.new.items ≡ out.old.items ++ zeros count) }
@@ -62,7 +62,7 @@ pub fn push_zeros(out: &mut Vec<u8>, count: usize) -> Result<(), NoMemory>
 }
 
 /// Fills up with zeros to a length.
-#[tactic(auto, unfolding(crate::specs::Fields::zeros, crate::specs::Fields::padded))]
+#[tactic(auto, unfolding(pfr_made::specs::Fields::zeros, pfr_made::specs::Fields::padded))]
 pub fn pad(out: &mut Vec<u8>, len: usize) -> Result<(), NoMemory>
     requires { vec_len out.old ≤ len }
     ensures bytes { OnOk result (out.new.items ≡ padded len out.old.items) }
@@ -73,7 +73,7 @@ pub fn pad(out: &mut Vec<u8>, len: usize) -> Result<(), NoMemory>
 }
 
 /// Fills up with 0xFF to a length.
-#[tactic(auto, unfolding(crate::specs::Fields::blanks, crate::specs::Fields::filled))]
+#[tactic(auto, unfolding(pfr_made::specs::Fields::blanks, pfr_made::specs::Fields::filled))]
 pub fn fill_up(out: &mut Vec<u8>, len: usize) -> Result<(), NoMemory>
     requires { vec_len out.old ≤ len }
     ensures bytes { OnOk result (out.new.items ≡ filled len out.old.items) }

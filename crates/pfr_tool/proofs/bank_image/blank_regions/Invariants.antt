@@ -1,5 +1,5 @@
 use Rattle.std.proofs.Common.{◌≡◌, drop}
-use Rattle.pfr_tool.specs.Images.{active_of}
+use Rattle.pfr_made.specs.Images.{active_of}
 use Rattle.pfr_tool.proofs.bank_image.blank_regions.Given as goal
 
 abbrev pub invariant-loop-region : goal.invariant-loop-region

@@ -1,7 +1,7 @@
 use Rattle.std.proofs.Common.{◌≡◌, ◌++◌, take, map}
 use Rattle.std.specs.List.{flat_map}
 use Rattle.pfr_manifest.specs.Spelling.{region_bytes}
-use Rattle.pfr_tool.specs.Manifests.{region_of}
+use Rattle.pfr_made.specs.Manifests.{region_of}
 use Rattle.pfr_tool.proofs.manifest.push_regions.Given as goal
 
 abbrev pub invariant-loop-region : goal.invariant-loop-region

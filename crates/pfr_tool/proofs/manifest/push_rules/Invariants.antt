@@ -1,7 +1,7 @@
 use Rattle.std.proofs.Common.{◌≡◌, ◌++◌, take, map}
 use Rattle.std.specs.List.{flat_map}
 use Rattle.pfr_manifest.specs.Spelling.{rule_bytes}
-use Rattle.pfr_tool.specs.Manifests.{rule_of}
+use Rattle.pfr_made.specs.Manifests.{rule_of}
 use Rattle.pfr_tool.proofs.manifest.push_rules.Given as goal
 
 abbrev pub invariant-loop-rule : goal.invariant-loop-rule

@@ -1,5 +1,5 @@
 use Rattle.std.proofs.Common.{◌≡◌}
-use Rattle.pfr_tool.specs.Pages.{bits_of}
+use Rattle.pfr_made.specs.Pages.{bits_of}
 use Rattle.pfr_tool.proofs.pages.map_byte.Given as goal
 
 abbrev pub invariant-loop-page : goal.invariant-loop-page

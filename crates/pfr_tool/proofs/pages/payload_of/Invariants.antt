@@ -1,5 +1,5 @@
 use Rattle.std.proofs.Common.{◌≡◌, ◌*◌, ◌≤◌, vec_len}
-use Rattle.pfr_tool.specs.Pages.{payload_of}
+use Rattle.pfr_made.specs.Pages.{payload_of}
 use Rattle.pfr_tool.proofs.pages.payload_of.Given as goal
 
 abbrev pub invariant-loop-page : goal.invariant-loop-page

@@ -1,5 +1,5 @@
 use Rattle.std.proofs.Common.{◌≡◌, ◌++◌}
-use Rattle.pfr_tool.specs.Pages.{map_bytes}
+use Rattle.pfr_made.specs.Pages.{map_bytes}
 use Rattle.pfr_tool.proofs.pages.push_map.Given as goal
 
 abbrev pub invariant-loop-eight : goal.invariant-loop-eight

@@ -1,6 +1,6 @@
 use Rattle.std.proofs.Common.{◌≡◌, ℕ, ◌<◌, drop, get_or}
-use Rattle.pfr_tool.specs.Regions.{judge_regions, IsInside}
-use Rattle.pfr_tool.specs.declared.region.RegionDescription.{RegionDescription}
+use Rattle.pfr_made.specs.Regions.{judge_regions, IsInside}
+use Rattle.pfr_description.specs.declared.region.RegionDescription.{RegionDescription}
 use Rattle.pfr_tool.proofs.regions.check_regions.Given as goal
 
 abbrev pub invariant-loop-k : goal.invariant-loop-k

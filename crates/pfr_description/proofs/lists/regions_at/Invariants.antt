@@ -1,0 +1,12 @@
+use Rattle.std.proofs.Common.{◌≡◌, ◌++◌, drop, map, Ok}
+use Rattle.toml.specs.View.{table_view}
+use Rattle.pfr_description.specs.Keys.{◌>>=◌}
+use Rattle.pfr_description.specs.Lists.{each}
+use Rattle.pfr_description.specs.Tables.{region_in}
+use Rattle.pfr_description.proofs.lists.regions_at.Given as goal
+
+-- what is read so far goes before what the rest is read as
+abbrev pub invariant-loop-inner : goal.invariant-loop-inner
+invariant-loop-inner l =
+    each (region_in l.bank) (map (λ inner. table_view inner.now) l.inner-items)
+    ≡ (each (region_in l.bank) (map (λ inner. table_view inner.now) (drop l.inner-index l.inner-items)) >>= (λ rest. Ok (l.regions.items ++ rest)))

@@ -1,0 +1,131 @@
+-- What the keys and signatures of form 1 that are made say.
+use Rattle.std.proofs.Common.{◌≡◌, ℕ, ◌+◌, ◌^◌, ◌<◌, ◌≤◌, Some, List, ◌++◌, length, refl, ◌∙◌, arith, length-append}
+use Rattle.pfr_flash.specs.Bytes.{bytes_at}
+use Rattle.pfr_engine.specs.Curves.{curve_of, signature_magic}
+use Rattle.pfr_engine.specs.declared.engine.Ask.{Ask}
+use Rattle.pfr_engine.specs.declared.engine.Curve.{Curve}
+use Rattle.pfr_engine.specs.declared.engine.Curve.TheVariants.{C256, C384}
+use Rattle.pfr_chain.specs.Fields.{number_at}
+use Rattle.pfr_chain.specs.Keys.{public_key_at, signature_at}
+use Rattle.pfr_chain.specs.declared.public_key.PublicKey as chain
+use Rattle.pfr_chain.specs.declared.signature.Signature.{Signature}
+use Rattle.pfr_made.specs.Fields.{number_bytes, padded}
+use Rattle.pfr_made.specs.Form1.{key_bytes, signature_bytes}
+use Rattle.pfr_made.specs.Marks.{number_of_curve}
+use Rattle.pfr_description.specs.Typed.{IsKeyValue}
+use Rattle.pfr_made.proofs.BlockPartsMade.{length-number, in_front, last_part, first_part, in_padded, number_there, inside_at, number_inside_at}
+use Rattle.pfr_made.proofs.BlockLengthsMade.{IsMark}
+use Rattle.pfr_description.specs.declared.keys.PublicKey.{PublicKey}
+
+-- ---- curves
+pub fits-curve : (curve : Curve) → number_of_curve curve < 2 ^ 32
+fits-curve C256 = omega arith
+fits-curve C384 = omega arith
+
+pub fits-signature : (curve : Curve) → signature_magic curve < 2 ^ 32
+fits-signature C256 = omega arith
+fits-signature C384 = omega arith
+
+pub curve_of-number : (curve : Curve) → curve_of (number_of_curve curve) ≡ Some curve
+curve_of-number C256 = refl
+curve_of-number C384 = refl
+
+-- ---- three numbers and two coordinates
+module _ (a b c x y : List ℕ) (long_a : length a ≡ 4) (long_b : length b ≡ 4) (long_c : length c ≡ 4) (long_x : length x ≡ 48) (long_y : length y ≡ 48) where
+  front2 : length (a ++ b) ≡ 8
+  front2 = simp length-append (omega (arith, long_a, long_b))
+
+  front3 : length (a ++ b ++ c) ≡ 12
+  front3 = simp length-append (omega (arith, long_a, long_b, long_c))
+
+  front4 : length (a ++ b ++ c ++ x) ≡ 60
+  front4 = simp length-append (omega (arith, long_a, long_b, long_c, long_x))
+
+  front5 : length (a ++ b ++ c ++ x ++ y) ≡ 108
+  front5 = simp length-append (omega (arith, long_a, long_b, long_c, long_x, long_y))
+
+  fifth : bytes_at (padded 128 (a ++ b ++ c ++ x ++ y)) 60 48 ≡ y
+  fifth = in_padded 128 (a ++ b ++ c ++ x ++ y) 60 48 (omega (arith, front5)) ∙ last_part (a ++ b ++ c ++ x) y 60 48 front4 long_y
+
+  upto4 : (at count : ℕ) → at + count ≤ 60 → bytes_at (padded 128 (a ++ b ++ c ++ x ++ y)) at count ≡ bytes_at (a ++ b ++ c ++ x) at count
+  upto4 at count h = in_padded 128 (a ++ b ++ c ++ x ++ y) at count (omega (arith, front5)) ∙ in_front (a ++ b ++ c ++ x) y at count (omega (arith, front4))
+
+  fourth : bytes_at (padded 128 (a ++ b ++ c ++ x ++ y)) 12 48 ≡ x
+  fourth = upto4 12 48 (omega arith) ∙ last_part (a ++ b ++ c) x 12 48 front3 long_x
+
+  upto3 : (at count : ℕ) → at + count ≤ 12 → bytes_at (padded 128 (a ++ b ++ c ++ x ++ y)) at count ≡ bytes_at (a ++ b ++ c) at count
+  upto3 at count h = upto4 at count (omega arith) ∙ in_front (a ++ b ++ c) x at count (omega (arith, front3))
+
+  third : bytes_at (padded 128 (a ++ b ++ c ++ x ++ y)) 8 4 ≡ c
+  third = upto3 8 4 (omega arith) ∙ last_part (a ++ b) c 8 4 front2 long_c
+
+  upto2 : (at count : ℕ) → at + count ≤ 8 → bytes_at (padded 128 (a ++ b ++ c ++ x ++ y)) at count ≡ bytes_at (a ++ b) at count
+  upto2 at count h = upto3 at count (omega arith) ∙ in_front (a ++ b) c at count (omega (arith, front2))
+
+  second : bytes_at (padded 128 (a ++ b ++ c ++ x ++ y)) 4 4 ≡ b
+  second = upto2 4 4 (omega arith) ∙ last_part a b 4 4 long_a long_b
+
+  first : bytes_at (padded 128 (a ++ b ++ c ++ x ++ y)) 0 4 ≡ a
+  first = upto2 0 4 (omega arith) ∙ first_part a b 4 long_a
+
+-- ---- keys
+-- what the bytes of a key say
+record IsSpelled (curve : Curve) (permissions id : ℕ) (key : PublicKey) (bytes : List ℕ) : Type 0 where
+  pub curve_number : number_at bytes 0 ≡ number_of_curve curve
+  pub permission_bits : number_at bytes 4 ≡ permissions
+  pub key_id : number_at bytes 8 ≡ id
+  pub x : bytes_at bytes 12 48 ≡ key.x
+  pub y : bytes_at bytes 60 48 ≡ key.y
+
+key_spelled : (curve : Curve) (permissions id : ℕ) (key : PublicKey) → permissions < 2 ^ 32 → id < 2 ^ 32 → IsKeyValue key → IsSpelled curve permissions id key (key_bytes curve permissions id key)
+unfolding key_bytes
+key_spelled curve permissions id key fits_permissions fits_id k =
+    let a : List ℕ = number_bytes (number_of_curve curve) in
+    let b : List ℕ = number_bytes permissions in
+    let c : List ℕ = number_bytes id in
+    let all : List ℕ = padded 128 (a ++ b ++ c ++ key.x ++ key.y) in
+    let long_a : length a ≡ 4 = length-number (number_of_curve curve) in
+    let long_b : length b ≡ 4 = length-number permissions in
+    let long_c : length c ≡ 4 = length-number id in
+    record {
+      curve_number = number_there all 0 (number_of_curve curve) (fits-curve curve) (first a b c key.x key.y long_a long_b long_c k.x k.y);
+      permission_bits = number_there all 4 permissions fits_permissions (second a b c key.x key.y long_a long_b long_c k.x k.y);
+      key_id = number_there all 8 id fits_id (third a b c key.x key.y long_a long_b long_c k.x k.y);
+      x = fourth a b c key.x key.y long_a long_b long_c k.x k.y;
+      y = fifth a b c key.x key.y long_a long_b long_c k.x k.y;
+    }
+
+-- a key as an entry with a magic has it
+abbrev pub entry_of : ℕ → Curve → ℕ → ℕ → PublicKey → chain.PublicKey
+entry_of magic curve permissions id key = record { magic = magic; curve = number_of_curve curve; permissions = permissions; key_id = id; x = key.x; y = key.y }
+
+pub key_read : (block : List ℕ) (at magic : ℕ) (curve : Curve) (permissions id : ℕ) (key : PublicKey) → permissions < 2 ^ 32 → id < 2 ^ 32 → IsKeyValue key
+    → number_at block at ≡ magic → bytes_at block (at + 4) 128 ≡ key_bytes curve permissions id key → public_key_at block at ≡ entry_of magic curve permissions id key
+unfolding public_key_at
+key_read block at magic curve permissions id key fits_permissions fits_id k is there =
+    let bytes : List ℕ = key_bytes curve permissions id key in
+    let said = key_spelled curve permissions id key fits_permissions fits_id k in
+    let a : number_at block (at + 4) ≡ number_of_curve curve = number_inside_at block bytes (at + 4) 128 0 (at + 4) there (omega arith) (omega arith) ∙ said.curve_number in
+    let b : number_at block (at + 8) ≡ permissions = number_inside_at block bytes (at + 4) 128 4 (at + 8) there (omega arith) (omega arith) ∙ said.permission_bits in
+    let c : number_at block (at + 12) ≡ id = number_inside_at block bytes (at + 4) 128 8 (at + 12) there (omega arith) (omega arith) ∙ said.key_id in
+    let x : bytes_at block (at + 16) 48 ≡ key.x = inside_at block bytes (at + 4) 128 12 (at + 16) 48 there (omega arith) (omega arith) ∙ said.x in
+    let y : bytes_at block (at + 64) 48 ≡ key.y = inside_at block bytes (at + 4) 128 60 (at + 64) 48 there (omega arith) (omega arith) ∙ said.y in
+    rw (is, a, b, c, x, y) refl
+
+-- ---- signatures
+-- a signature as an entry has it
+abbrev pub signature_in : Ask → Signature
+signature_in marks = record { magic = signature_magic marks.curve; r = marks.r; s = marks.s }
+
+pub signature_read : (block : List ℕ) (at : ℕ) (marks : Ask) → IsMark marks → bytes_at block at 100 ≡ signature_bytes marks → signature_at block at ≡ signature_in marks
+unfolding signature_at signature_bytes
+signature_read block at marks m there =
+    let a : List ℕ = number_bytes (signature_magic marks.curve) in
+    let all : List ℕ = a ++ marks.r ++ marks.s in
+    let long_a : length a ≡ 4 = length-number (signature_magic marks.curve) in
+    let front : length (a ++ marks.r) ≡ 52 = simp length-append (omega (arith, long_a, m.r)) in
+    let magic_bytes : bytes_at all 0 4 ≡ a = in_front (a ++ marks.r) marks.s 0 4 (omega arith) ∙ first_part a marks.r 4 long_a in
+    let magic : number_at block at ≡ signature_magic marks.curve = number_inside_at block all at 100 0 at there (omega arith) (omega arith) ∙ number_there all 0 (signature_magic marks.curve) (fits-signature marks.curve) magic_bytes in
+    let r : bytes_at block (at + 4) 48 ≡ marks.r = inside_at block all at 100 4 (at + 4) 48 there refl (omega arith) ∙ in_front (a ++ marks.r) marks.s 4 48 (omega arith) ∙ last_part a marks.r 4 48 long_a m.r in
+    let s : bytes_at block (at + 52) 48 ≡ marks.s = inside_at block all at 100 52 (at + 52) 48 there refl (omega arith) ∙ last_part (a ++ marks.r) marks.s 52 48 front m.s in
+    rw (magic, r, s) refl

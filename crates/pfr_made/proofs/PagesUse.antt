@@ -1,0 +1,113 @@
+-- What the description says of a page: each page of a region has the region's use, and a page with another use than Keep lies in a region.
+use Rattle.std.proofs.Common.{◌≡◌, ◌∙◌, ap, sym, refl, ℕ, zero, suc, ◌+◌, ◌*◌, ◌%◌, ◌<◌, ◌≤◌, Bool, true, false, not, ◌==◌, ◌&&◌, nat_le, nat_lt, is_some, if◌then◌else◌, List, [], ◌∷◌, length, get_or, map, Any, inl, inr, Result, Ok, Err, arith}
+use Rattle.std.proofs.lemmas.Bool.{cases_Bool, and_parts, and_from, le-leb, leb-true, lt-ltb, le-ltb, ltb-true}
+use Rattle.std.proofs.lemmas.Bool.Decides.{nat_tests}
+use Rattle.pfr_flash.specs.declared.layout.Layout.{Layout}
+use Rattle.pfr_manifest.specs.Judging.{◌>>◌}
+use Rattle.pfr_manifest.specs.declared.fail.ManifestFail.{ManifestFail}
+use Rattle.pfr_manifest.proofs.Tests.{passed_test, passed_last}
+use Rattle.pfr_manifest.specs.declared.region.Region.{Region}
+use Rattle.pfr_capsule.specs.Maps.{IsPageOf}
+use Rattle.pfr_description.specs.Described.{BankDescription}
+use Rattle.pfr_description.specs.declared.region.PageUse.{PageUse}
+use Rattle.pfr_description.specs.declared.region.RegionDescription.{RegionDescription}
+use Rattle.pfr_made.specs.Manifests.{region_of}
+use Rattle.pfr_made.specs.Pages.{has_bit, has_byte, use_of}
+use Rattle.pfr_made.specs.Regions.{is_clear, is_writable, judge_region, judge_regions, judge_entries}
+use Rattle.pfr_made.specs.declared.page_map.PageMap.TheVariants as maps
+
+-- ---- what the judgement tells of the regions' places
+pub record IsWhole (size : ℕ) (region : RegionDescription) : Type 0 where
+  pub start_aligned : region.start % 4096 ≡ 0
+  pub end_aligned : region.end % 4096 ≡ 0
+  pub some : region.start < region.end
+  pub inside : region.end ≤ size
+
+-- they stand one behind the other from a place on
+abbrev pub AreOrdered : ℕ → ℕ → List RegionDescription → Type 0
+AreOrdered from size [] = Unit {0}
+AreOrdered from size (region ∷ others) = IsWhole size region × (from ≤ region.start) × AreOrdered region.end size others
+
+align_tells : (start end : ℕ) → (start % 4096 == 0 && end % 4096 == 0) ≡ true → (start % 4096 ≡ 0) × (end % 4096 ≡ 0)
+align_tells start end h = grind (arith, nat_tests)
+
+range_tells : (start end size : ℕ) (clear : Bool) → (nat_lt start end && nat_le end size && clear) ≡ true → (start < end) × (end ≤ size)
+range_tells start end size clear h = grind (arith, nat_tests)
+
+passed_judgement : (first rest : Result (Unit {0}) ManifestFail) → (first >> rest) ≡ Ok tt → (first ≡ Ok tt) × (rest ≡ Ok tt)
+passed_judgement (Ok x) rest h = (refl, h)
+passed_judgement (Err cause) rest h = absurd cc
+
+not_second : (a b : Bool) → b ≡ false → (a && b) ≡ false
+not_second true b h = h
+not_second false b h = refl
+
+region_whole : (k : ℕ) (region : RegionDescription) (last_start last_end : ℕ) (layout : Layout) (size : ℕ) → judge_region k region last_start last_end layout size ≡ Ok tt
+    → IsWhole size region × (last_end ≤ region.start)
+unfolding judge_region
+region_whole k region last_start last_end layout size h =
+    let a = passed_test _ (nat_lt k 64) _ tt h in
+    let b = passed_test _ (not (is_some region.hash && is_writable region)) _ tt a.1 in
+    let c = passed_test _ (region.start % 4096 == 0 && region.end % 4096 == 0) _ tt b.1 in
+    let d = passed_test _ (nat_lt region.start region.end && nat_le region.end size && is_clear region layout) _ tt c.1 in
+    let e = passed_test _ (nat_le last_start region.start) _ tt d.1 in
+    let f = passed_last _ (nat_le last_end region.start) e.1 in
+    let aligned = align_tells region.start region.end c.0 in
+    let range = range_tells region.start region.end size (is_clear region layout) d.0 in
+    (record { start_aligned = aligned.0; end_aligned = aligned.1; some = range.0; inside = range.1 }, leb-true last_end region.start f)
+
+regions_ordered : (k last_start last_end : ℕ) (regions : List RegionDescription) (layout : Layout) (size : ℕ) → judge_regions k last_start last_end regions layout size ≡ Ok tt → AreOrdered last_end size regions
+unfolding judge_regions
+regions_ordered k last_start last_end [] layout size h = tt
+regions_ordered k last_start last_end (region ∷ others) layout size h =
+    let p = passed_judgement (judge_region k region last_start last_end layout size) _ h in
+    let here = region_whole k region last_start last_end layout size p.0 in
+    (here.0, here.1, regions_ordered (k + 1) region.start region.end others layout size p.1)
+
+pub entries_ordered : (part : BankDescription) → judge_entries part ≡ Ok tt → AreOrdered 0 part.size part.regions
+unfolding judge_entries
+entries_ordered part h =
+    let a = passed_test _ (nat_le part.svn 127) _ tt h in
+    let b = passed_judgement (judge_regions 0 0 0 part.regions part.layout part.size) _ a.1 in
+    regions_ordered 0 0 0 part.regions part.layout part.size b.0
+
+-- ---- one region of them
+pub region_at : (from size : ℕ) (regions : List RegionDescription) (k : ℕ) (d : RegionDescription) → AreOrdered from size regions → k < length regions
+    → IsWhole size (get_or regions k d) × (from ≤ (get_or regions k d).start)
+region_at from size [] k d h within = absurd (omega arith)
+region_at from size (region ∷ others) zero d h within = (h.0, h.1)
+region_at from size (region ∷ others) (suc k) d h within =
+    let rest = region_at region.end size others k d h.2 (omega arith) in
+    (rest.0, omega (arith, h.0.some, h.1, rest.1))
+
+-- each page of a region has the region's use
+pub use_is : (from size : ℕ) (regions : List RegionDescription) (k page : ℕ) (d : RegionDescription) → AreOrdered from size regions → k < length regions
+    → (get_or regions k d).start ≤ 4096 * page → 4096 * page < (get_or regions k d).end → use_of regions page ≡ (get_or regions k d).pages
+unfolding use_of
+use_is from size [] k page d h within low high = absurd (omega arith)
+use_is from size (region ∷ others) zero page d h within low high =
+    let has : has_byte region (4096 * page) ≡ true = and_from _ _ (le-leb _ _ low) (lt-ltb _ _ high) in
+    rw has refl
+use_is from size (region ∷ others) (suc k) page d h within low high =
+    let rest = region_at region.end size others k d h.2 (omega arith) in
+    let no : nat_lt (4096 * page) region.end ≡ false = le-ltb (4096 * page) region.end (omega (arith, rest.1)) in
+    let lacks : has_byte region (4096 * page) ≡ false = not_second (nat_le region.start (4096 * page)) (nat_lt (4096 * page) region.end) no in
+    rw lacks (use_is region.end size others k page d h.2 (omega arith) low high)
+
+-- ---- a page that is erased lies in a region
+if_false : (b : Bool) (x y : PageUse) → b ≡ false → (if b then x else y) ≡ y
+if_false true x y h = cc
+if_false false x y h = refl
+
+pub in_region : (active : List ℕ) (regions : List RegionDescription) (page : ℕ) → has_bit maps.Erase (use_of regions page) ≡ true → Any (λ region. IsPageOf region page) (map (region_of active) regions)
+unfolding use_of region_of
+in_region active [] page h = absurd cc
+in_region active (region ∷ others) page h = elim (cases_Bool (has_byte region (4096 * page))) [
+  | inl has ↦
+      let p = and_parts (nat_le region.start (4096 * page)) (nat_lt (4096 * page) region.end) has in
+      (zero, region_of active region, omega arith, refl, record { low = leb-true _ _ p.0; high = ltb-true _ _ p.1 })
+  | inr lacks ↦
+      let rest : has_bit maps.Erase (use_of others page) ≡ true = ap (λ (x : PageUse). has_bit maps.Erase x) (sym (if_false (has_byte region (4096 * page)) region.pages (use_of others page) lacks)) ∙ h in
+      let found : Any (λ (other : Region). IsPageOf other page) (map (region_of active) others) = in_region active others page rest in
+      (suc found.0, found.1, omega (arith, found.2), found.3, found.4)
+]

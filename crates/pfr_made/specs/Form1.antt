@@ -1,0 +1,54 @@
+-- Blocks of form 1, whose keys lie on a curve.
+use Rattle.std.specs.Prelude.{ℕ, List, ◌++◌}
+use Rattle.pfr_engine.specs.Curves.{signature_magic}
+use Rattle.pfr_engine.specs.declared.engine.Ask.{Ask}
+use Rattle.pfr_engine.specs.declared.engine.Curve.{Curve}
+use Rattle.pfr_chain.specs.Keys.{any}
+use Rattle.pfr_made.specs.Fields.{number_bytes, zeros, padded}
+use Rattle.pfr_made.specs.Marks.{number_of_curve, marks_of}
+use Rattle.pfr_made.specs.Rows.{row_of}
+use Rattle.pfr_description.specs.Described.{Description}
+use Rattle.pfr_description.specs.declared.keys.KeyDescription.{KeyDescription}
+use Rattle.pfr_description.specs.declared.keys.PublicKey.{PublicKey}
+
+-- a key as entries spell it: curve, permissions, id, X and Y, in 128 bytes
+unfoldable pub key_bytes : Curve → ℕ → ℕ → PublicKey → List ℕ
+key_bytes curve permissions id key =
+    padded 128 (number_bytes (number_of_curve curve) ++ number_bytes permissions ++ number_bytes id ++ key.x ++ key.y)
+
+-- a signature: the curve's magic, R and S
+unfoldable pub signature_bytes : Ask → List ℕ
+signature_bytes marks = number_bytes (signature_magic marks.curve) ++ marks.r ++ marks.s
+
+-- what the root signs of a key
+abbrev pub signed_key : Description → KeyDescription → List ℕ
+signed_key desc key = key_bytes desc.curve key.permissions key.id key.key
+
+-- the root's marks on a key
+abbrev pub marks_on_key : Description → KeyDescription → Ask
+marks_on_key desc key = marks_of desc.curve desc.root (signed_key desc key)
+
+-- what Block 1 begins with, and the root entry
+unfoldable pub head_bytes : Description → List ℕ
+head_bytes desc = number_bytes 0xF27F28D7 ++ zeros 12 ++ number_bytes 0xA757A046 ++ key_bytes desc.curve any any desc.root
+
+unfoldable pub key_entry : Description → KeyDescription → List ℕ
+key_entry desc key = number_bytes 0x14711C2F ++ signed_key desc key ++ signature_bytes (marks_on_key desc key)
+
+unfoldable pub block0_entry : Ask → List ℕ
+block0_entry marks = number_bytes 0x15364367 ++ signature_bytes marks
+
+-- the block that begins with this Block 0
+unfoldable pub block_of : Description → KeyDescription → List ℕ → List ℕ
+block_of desc key block0 =
+    padded 1024 (block0 ++ head_bytes desc ++ key_entry desc key ++ block0_entry (marks_of desc.curve key.key block0))
+
+unfoldable pub rows_of : Description → KeyDescription → List ℕ → List ℕ
+rows_of desc key block0 = row_of (marks_on_key desc key) ++ row_of (marks_of desc.curve key.key block0)
+
+-- a block without a key entry, which the root signs
+unfoldable pub root_block_of : Description → List ℕ → List ℕ
+root_block_of desc block0 = padded 1024 (block0 ++ head_bytes desc ++ block0_entry (marks_of desc.curve desc.root block0))
+
+abbrev pub root_row_of : Description → List ℕ → List ℕ
+root_row_of desc block0 = row_of (marks_of desc.curve desc.root block0)
