@@ -65,7 +65,7 @@ pub run_delivered : (told : Bool) (before mid after : Outside) (request : RunReq
 run_delivered told before mid after request bench Done whole same shelf sink d = (whole, λ t. d t ∙ ap (λ f. with_images f request bench) (same t))
 run_delivered told before mid after request bench WriteFault whole same shelf sink d = (whole, let r = d.0 in omega arith, λ t. d.1 t ∙ same t)
 run_delivered told before mid after request bench (StoreFault role) whole same shelf sink d =
-    (whole, let r = d.0 in omega arith, λ t. subst (λ (f : Files). StopsStoring role f request bench after.files) (same t) (d.1 t))
+    (whole, let r = d.0 in omega arith, d.1, λ t. subst (λ (f : Files). StopsStoring role f request bench after.files) (same t) (d.2 t))
 run_delivered told before mid after request bench NoMemory whole same shelf sink d =
     inr (record { whole = whole; files = λ t. ((d t).0, subst (λ (f : Files). StopsStoring (d t).0 f request bench after.files) (same t) (d t).1) })
 run_delivered told before mid after request bench Usage whole same shelf sink d = absurd d

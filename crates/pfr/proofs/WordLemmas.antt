@@ -6,7 +6,7 @@ use Rattle.std.specs.Str.Parse.{digits_value, ParsesUnsigned}
 use Rattle.std.proofs.lemmas.Bool.{and_parts}
 use Rattle.std.proofs.lemmas.Bool.Decides.{nat_tests}
 use Rattle.std.proofs.lemmas.Str.Parse.{IsNumeralModel, numerals_by_value, parse_digits}
-use Rattle.pfr.specs.Commands.{is_numeral, run_request, wear_of}
+use Rattle.pfr.specs.Commands.{id_of, is_decimal, is_numeral, run_request, wear_of}
 
 numerals : IsNumeralModel (λ ds. list_all is_ascii_digit ds ≡ true) (digits_value 10)
 numerals = numerals_by_value (λ ds. list_all is_ascii_digit ds ≡ true) (search rules)
@@ -32,6 +32,31 @@ parsed {E} word (Err e) numeral h =
     let p = parse_digits numerals {E = E} 32 word (Err e) h (digits_of word numeral) in
     let wide : nat_le (digits_value 10 word) 16 ≡ false = grind (arith, nat_tests, some_digit word numeral) in
     rw (numeral, wide) refl
+
+-- ---- ids
+decimal_digits : (word : List ℕ) → is_decimal word ≡ true → list_all is_ascii_digit word ≡ true
+decimal_digits [] h = cc
+decimal_digits (digit ∷ []) h = rw h refl
+decimal_digits (first ∷ next ∷ rest) h = (and_parts (list_all is_ascii_digit (first ∷ next ∷ rest)) (not (first == 48)) h).0
+
+some_decimal : (word : List ℕ) → is_decimal word ≡ true → 0 < length word
+some_decimal [] h = cc
+some_decimal (first ∷ rest) h = omega arith
+
+-- what was parsed as a byte
+abbrev pub number_in : {E : Type 0} → Result ℕ E → Option ℕ
+number_in (Ok id) = Some id
+number_in (Err e) = None
+
+pub parsed_id : {E : Type 0} (word : List ℕ) (r : Result ℕ E) → is_decimal word ≡ true → ParsesUnsigned 8 10 word r → number_in r ≡ id_of word
+parsed_id {E} word (Ok id) decimal h =
+    let p = parse_digits numerals {E = E} 8 word (Ok id) h (decimal_digits word decimal) in
+    let small : nat_le (digits_value 10 word) 255 ≡ true = grind (arith, nat_tests) in
+    rw (decimal, small, p.1) refl
+parsed_id {E} word (Err e) decimal h =
+    let p = parse_digits numerals {E = E} 8 word (Err e) h (decimal_digits word decimal) in
+    let wide : nat_le (digits_value 10 word) 255 ≡ false = grind (arith, nat_tests, some_decimal word decimal) in
+    rw (decimal, wide) refl
 
 -- words of a run are five or six
 pub run_none : (words : List (List ℕ)) → ¬ ((5 ≤ length words) × (length words ≤ 6)) → run_request words ≡ None

@@ -32,7 +32,7 @@ pub record IsVerdictsText (tells : Bool) (files : Files) (request : CheckRequest
 abbrev pub ChecksFor : Bool → Outside → Outside → CheckRequest → Status → Type 0
 ChecksFor told before after request Done = told ≡ true → verdict (check_rows request before.files) ≡ Keeps
 ChecksFor told before after request WriteFault = Rose before.sink_faults after.sink_faults × (told ≡ true → verdict (check_rows request before.files) ≡ Keeps)
-ChecksFor told before after request status = RefusesFor told (check_rows request before.files) before.shelf_faults after.shelf_faults status
+ChecksFor told before after request status = RefusesFor told (check_rows request before.files) before.shelf_faults after.shelf_faults after.shelf_failed status
 
 -- Whatever its status, a check has no bench and leaves every file.
 pub record CheckAnswers (told : Bool) (before after : Outside) (request : CheckRequest) (option : Option Bench) (status : Status) : Type 0 where

@@ -2,26 +2,34 @@
 use Rattle.std.specs.Prelude.{◌≡◌, ◌⊎◌, ℕ, List, [], ◌++◌, take, Bool, true, Option, None, IsSomeAnd, IfSome}
 use Rattle.pfr_report.specs.Texts.{report}
 use Rattle.pfr_shelf.specs.Causes.{Rose}
+use Rattle.pfr_shelf.specs.Failures.{Failure}
 use Rattle.pfr_shelf.specs.Files.{Files}
 use Rattle.pfr_shelf.specs.Pieces.{AppendsPart}
 use Rattle.pfr.specs.Benches.{IsRun, HasRooms, IsMadeOf}
 use Rattle.pfr.specs.Judging.{Keeps, RefusesFor, run_rows, verdict}
 use Rattle.pfr.specs.Request.{RunRequest}
-use Rattle.pfr.specs.Storing.{with_images, StopsStoring, RefusesImages}
+use Rattle.pfr.specs.Storing.{with_images, IsBlamedStore, StopsStoring, RefusesImages}
 use Rattle.pfr.specs.declared.finished.Bench.{Bench}
 use Rattle.pfr.specs.declared.status.Role.{Role}
 use Rattle.pfr.specs.declared.status.Status.{Status}
 use Rattle.pfr.specs.declared.status.Status.TheVariants.{Done, Usage, BadInput, TooLong, ReadFault, WriteFault, StoreFault, NoMemory}
 
--- The world outside at one moment: what the shelf and the sink hold, and how often each has failed.
+-- The world outside at one moment: what the shelf and the sink hold, how often each has failed, and the shelf's last failure.
 pub record Outside : Type 0 where
   pub files : Files
   pub shelf_faults : ℕ
+  pub shelf_failed : Option Failure
   pub output : List ℕ
   pub sink_faults : ℕ
 
-abbrev pub outside : {S K : Type 0} → (S → Files) → (S → ℕ) → (K → List ℕ) → (K → ℕ) → S → K → Outside
-outside files shelf_faults written sink_faults shelf out = record { files = files shelf; shelf_faults = shelf_faults shelf; output = written out; sink_faults = sink_faults out }
+abbrev pub outside : {S K : Type 0} → (S → Files) → (S → ℕ) → (S → Option Failure) → (K → List ℕ) → (K → ℕ) → S → K → Outside
+outside files shelf_faults shelf_failed written sink_faults shelf out = record {
+  files = files shelf;
+  shelf_faults = shelf_faults shelf;
+  shelf_failed = shelf_failed shelf;
+  output = written out;
+  sink_faults = sink_faults out;
+}
 
 -- All items of the script were done, on a platform of the files.
 pub record IsWhole (told : Bool) (before : Outside) (request : RunRequest) (bench : Bench) : Type 0 where
@@ -40,7 +48,7 @@ pub record IsPart (told : Bool) (before : Outside) (request : RunRequest) (bench
 
 -- a file was refused: nothing was done, and no file was changed
 pub record IsRefused (told : Bool) (before after : Outside) (request : RunRequest) (option : Option Bench) (status : Status) : Type 0 where
-  pub cause : RefusesFor told (run_rows request before.files) before.shelf_faults after.shelf_faults status
+  pub cause : RefusesFor told (run_rows request before.files) before.shelf_faults after.shelf_faults after.shelf_failed status
   pub bench : option ≡ None
   pub files : told ≡ true → after.files ≡ before.files
 
@@ -70,6 +78,7 @@ RunAnswers told before after request option WriteFault =
 RunAnswers told before after request option (StoreFault file) =
     IsSomeAnd option (λ bench. IsWhole told before request bench
     × Rose before.shelf_faults after.shelf_faults
+    × IsBlamedStore file request after.shelf_failed
     × (told ≡ true → StopsStoring file before.files request bench after.files))
 RunAnswers told before after request option NoMemory =
     StopsEarly told before after request option ⊎ IsSomeAnd option (StopsLate told before after request)
@@ -92,7 +101,7 @@ RunOutput told before after option status =
 abbrev pub Delivers : Bool → Outside → Outside → RunRequest → Bench → Status → Type 0
 Delivers told before after request bench Done = told ≡ true → after.files ≡ with_images before.files request bench
 Delivers told before after request bench WriteFault = Rose before.sink_faults after.sink_faults × (told ≡ true → after.files ≡ before.files)
-Delivers told before after request bench status = RefusesImages told before.files after.files before.shelf_faults after.shelf_faults request bench status
+Delivers told before after request bench status = RefusesImages told before.files after.files before.shelf_faults after.shelf_faults after.shelf_failed request bench status
 
 -- the sink got the report of these notes and nothing else, or a first part of it
 abbrev pub Reports : Bool → Outside → Outside → List ℕ → Status → Type 0

@@ -1,8 +1,10 @@
 -- The stores of the images.
-use Rattle.std.specs.Prelude.{◌≡◌, ◌≢◌, ℕ, List, Bool, true}
+use Rattle.std.specs.Prelude.{◌≡◌, ◌≢◌, ℕ, List, Bool, true, Option, Some}
 use Rattle.pfr_flash.specs.FlashState.{now}
 use Rattle.pfr_shelf.specs.Causes.{Rose}
+use Rattle.pfr_shelf.specs.Failures.{Failure, failing}
 use Rattle.pfr_shelf.specs.Files.{Files, put_file, SameBut}
+use Rattle.pfr_shelf.specs.declared.failure.Access.TheVariants.{Store}
 use Rattle.pfr.specs.Request.{RunRequest}
 use Rattle.pfr.specs.declared.finished.Bench.{Bench}
 use Rattle.pfr.specs.declared.status.Role.{Role}
@@ -25,21 +27,29 @@ abbrev pub StopsStoring : Role → Files → RunRequest → Bench → Files → 
 StopsStoring role.Bmc files request bench new = SameBut request.bmc files new
 StopsStoring role.Pch files request bench new = SameBut request.pch (with_bmc files request bench) new
 StopsStoring role.Nv files request bench new = SameBut request.nv (with_pch files request bench) new
-StopsStoring role.Engine files request bench new = ⊥
-StopsStoring role.Script files request bench new = ⊥
+StopsStoring _ files request bench new = ⊥
 
 -- each file but the three images is as before
 abbrev pub KeepsOthers : RunRequest → Files → Files → Type 0
 KeepsOthers request old new = (name : List ℕ) → name ≢ request.bmc → name ≢ request.pch → name ≢ request.nv → new name ≡ old name
 
--- a store of an image gives this status only with its cause
-abbrev pub RefusesStore : Role → ℕ → ℕ → Status → Type 0
-RefusesStore role before after (StoreFault file) = (file ≡ role) × Rose before after
-RefusesStore role before after NoMemory = Unit {0}
-RefusesStore role before after status = ⊥
+-- the last call that failed was the store of this device's bytes
+abbrev pub IsBlamedStore : Role → RunRequest → Option Failure → Type 0
+IsBlamedStore role.Bmc request failed = failed ≡ Some (failing Store request.bmc)
+IsBlamedStore role.Pch request failed = failed ≡ Some (failing Store request.pch)
+IsBlamedStore role.Nv request failed = failed ≡ Some (failing Store request.nv)
+IsBlamedStore _ request failed = ⊥
+
+-- a store of a file of this role and name gives this status only with its cause
+abbrev pub RefusesStore : Role → List ℕ → ℕ → ℕ → Option Failure → Status → Type 0
+RefusesStore role name before after failed (StoreFault file) =
+    (file ≡ role) × Rose before after × (failed ≡ Some (failing Store name))
+RefusesStore role name before after failed NoMemory = Unit {0}
+RefusesStore role name before after failed status = ⊥
 
 -- the stores of the images give this status only so
-abbrev pub RefusesImages : Bool → Files → Files → ℕ → ℕ → RunRequest → Bench → Status → Type 0
-RefusesImages told old new before after request bench (StoreFault file) = Rose before after × (told ≡ true → StopsStoring file old request bench new)
-RefusesImages told old new before after request bench NoMemory = told ≡ true → (file : Role) × StopsStoring file old request bench new
-RefusesImages told old new before after request bench status = ⊥
+abbrev pub RefusesImages : Bool → Files → Files → ℕ → ℕ → Option Failure → RunRequest → Bench → Status → Type 0
+RefusesImages told old new before after failed request bench (StoreFault file) =
+    Rose before after × IsBlamedStore file request failed × (told ≡ true → StopsStoring file old request bench new)
+RefusesImages told old new before after failed request bench NoMemory = told ≡ true → (file : Role) × StopsStoring file old request bench new
+RefusesImages told old new before after failed request bench status = ⊥

@@ -10,6 +10,7 @@ ghost use Rattle.pfr_report.specs.Verdicts.{verdict_text, HasCauses};
 ghost use Rattle.pfr_shelf.specs.Pieces.{Writes};
 ghost use Rattle.pfr.specs.Checks.{CheckOutput, ChecksFor};
 ghost use Rattle.pfr.specs.ChecksInside.{AreVerdictsOf, CanBeRead, HaveCauses, Holds};
+ghost use Rattle.pfr.specs.Faults.{IsFaultless};
 ghost use Rattle.pfr.specs.Loading.{HaveSizes};
 ghost use Rattle.pfr.specs.Runs.{outside};
 
@@ -88,13 +89,14 @@ pub fn check<S: Shelf, K: Sink>(
     shelf: &mut S,
     out: &mut K,
 ) -> Status
-    ensures cause { ChecksFor S.tells (outside S.files S.faults K.written K.faults shelf.old out.old)
-        (outside S.files S.faults K.written K.faults shelf.new out.new) request.now result }
+    ensures cause { ChecksFor S.tells (outside S.files S.faults S.failed K.written K.faults shelf.old out.old)
+        (outside S.files S.faults S.failed K.written K.faults shelf.new out.new) request.now result }
     ensures files { S.tells ≡ true → S.files shelf.new ≡ S.files shelf.old }
-    ensures output { CheckOutput S.tells K.tells (outside S.files S.faults K.written K.faults shelf.old out.old)
-        (outside S.files S.faults K.written K.faults shelf.new out.new) request.now result }
+    ensures output { CheckOutput S.tells K.tells (outside S.files S.faults S.failed K.written K.faults shelf.old out.old)
+        (outside S.files S.faults S.failed K.written K.faults shelf.new out.new) request.now result }
     ensures shelf_later { S.faults shelf.old ≤ S.faults shelf.new }
     ensures sink_later { K.faults out.old ≤ K.faults out.new }
+    ensures faultless { IsFaultless result (S.faults shelf.old) (S.faults shelf.new) }
 {
     let images = match load_images(alloc, shelf, request) {
         Ok(images) => images,

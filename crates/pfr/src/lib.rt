@@ -4,8 +4,13 @@
 mod check;
 mod finished;
 mod load;
+mod making;
+mod making_words;
+mod outputs;
 mod playing;
+mod reason;
 mod run;
+mod sources;
 mod status;
 mod storing;
 mod top;

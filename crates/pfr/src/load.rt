@@ -1,6 +1,7 @@
 // The files of a command, each judged before the next is loaded.
 ghost use Rattle.std.specs.Prelude.{◌≡◌, ◌∷◌, [], ◌≤◌, ◌%◌, List, ℕ, length, true, Some, IfOk, IfErr, IsTrue};
 ghost use Rattle.pfr_shelf.specs.Causes.{Rose};
+ghost use Rattle.pfr.specs.Faults.{GoesFaultless};
 ghost use Rattle.pfr.specs.Judging.{Judge, Loads, HoldsRows, HoldsScript, RefusesFor, check_rows, engine_row, finding, image_fits, image_row, limit_of, run_rows, script_row};
 ghost use Rattle.pfr.specs.Loading.{AreLoaded, HaveSizes, IsLoaded, HasSizes};
 
@@ -30,14 +31,21 @@ pub struct Loaded {
     pub script: Script,
 }
 
-// The bytes of a file, within its limit. At an `Err` the status has its cause, whatever else the file is judged by.
-fn load<S: Shelf>(alloc: Global, shelf: &mut S, role: Role, name: &str) -> Result<Vec<u8>, Status>
+/// The bytes of a file, within its limit. At an `Err` the status has its cause, whatever else the file is judged by.
+pub fn load<S: Shelf>(
+    alloc: Global,
+    shelf: &mut S,
+    role: Role,
+    name: &str,
+) -> Result<Vec<u8>, Status>
     ensures stays { S.tells ≡ true → S.files shelf.new ≡ S.files shelf.old }
     ensures bytes { IfOk result (λ bytes. S.tells ≡ true → S.files shelf.old name.now ≡ Some bytes.items) }
     ensures short { IfOk result (λ bytes. length bytes.items ≤ limit_of role) }
     ensures err { IfErr result (λ status. (judge : Judge) →
-        RefusesFor S.tells ((role, finding role judge (S.files shelf.old name.now)) ∷ []) (S.faults shelf.old) (S.faults shelf.new) status) }
+        RefusesFor S.tells (record { role = role; name = name.now; finding = finding role judge (S.files shelf.old name.now) } ∷ [])
+        (S.faults shelf.old) (S.faults shelf.new) (S.failed shelf.new) status) }
     ensures later { S.faults shelf.old ≤ S.faults shelf.new }
+    ensures faultless { GoesFaultless result (S.faults shelf.old) (S.faults shelf.new) }
 {
     match shelf.load(alloc, name, role.limit()) {
         Ok(bytes) => Ok(bytes),
@@ -65,10 +73,11 @@ fn load_image<S: Shelf>(
     role: Role,
     name: &str,
 ) -> Result<Vec<u8>, Status>
-    ensures loads { Loads S.tells S.files S.faults shelf.old shelf.new
+    ensures loads { Loads S.tells S.files S.faults S.failed shelf.old shelf.new
         (λ files. image_row role name.now files ∷ []) result }
     ensures bytes { IfOk result (λ bytes. S.tells ≡ true → S.files shelf.old name.now ≡ Some bytes.items) }
     ensures fits { IfOk result (λ bytes. image_fits role (length bytes.items) ≡ true) }
+    ensures faultless { GoesFaultless result (S.faults shelf.old) (S.faults shelf.new) }
 {
     let bytes = load(alloc, shelf, role, name)?;
     if !role.fits(bytes.len()) {
@@ -82,9 +91,10 @@ fn load_image<S: Shelf>(
 }
 
 fn load_engine<S: Shelf>(alloc: Global, shelf: &mut S, name: &str) -> Result<ListEngine, Status>
-    ensures loads { Loads S.tells S.files S.faults shelf.old shelf.new
+    ensures loads { Loads S.tells S.files S.faults S.failed shelf.old shelf.new
         (λ files. engine_row name.now files ∷ []) result }
     ensures engine { IfOk result (λ engine. S.tells ≡ true → HoldsRows (S.files shelf.old) name.now engine) }
+    ensures faultless { GoesFaultless result (S.faults shelf.old) (S.faults shelf.new) }
 {
     let bytes = load(alloc, shelf, Role::Engine, name)?;
     match ListEngine::parse(alloc, bytes.as_slice()) {
@@ -99,9 +109,10 @@ fn load_engine<S: Shelf>(alloc: Global, shelf: &mut S, name: &str) -> Result<Lis
 }
 
 fn load_script<S: Shelf>(alloc: Global, shelf: &mut S, name: &str) -> Result<Script, Status>
-    ensures loads { Loads S.tells S.files S.faults shelf.old shelf.new
+    ensures loads { Loads S.tells S.files S.faults S.failed shelf.old shelf.new
         (λ files. script_row name.now files ∷ []) result }
     ensures script { IfOk result (λ script. S.tells ≡ true → HoldsScript (S.files shelf.old) name.now script) }
+    ensures faultless { GoesFaultless result (S.faults shelf.old) (S.faults shelf.new) }
 {
     let bytes = load(alloc, shelf, Role::Script, name)?;
     match parse(alloc, bytes.as_slice()) {
@@ -121,9 +132,10 @@ pub fn load_images<S: Shelf>(
     shelf: &mut S,
     request: &CheckRequest<'_>,
 ) -> Result<Images, Status>
-    ensures loads { Loads S.tells S.files S.faults shelf.old shelf.new (check_rows request.now) result }
+    ensures loads { Loads S.tells S.files S.faults S.failed shelf.old shelf.new (check_rows request.now) result }
     ensures loaded { IfOk result (λ images. S.tells ≡ true → AreLoaded (S.files shelf.old) request.now images) }
     ensures sizes { IfOk result HaveSizes }
+    ensures faultless { GoesFaultless result (S.faults shelf.old) (S.faults shelf.new) }
 {
     let bmc = load_image(alloc, shelf, Role::Bmc, request.bmc)?;
     let pch = load_image(alloc, shelf, Role::Pch, request.pch)?;
@@ -143,9 +155,10 @@ pub fn load_files<S: Shelf>(
     shelf: &mut S,
     request: &RunRequest<'_>,
 ) -> Result<Loaded, Status>
-    ensures loads { Loads S.tells S.files S.faults shelf.old shelf.new (run_rows request.now) result }
+    ensures loads { Loads S.tells S.files S.faults S.failed shelf.old shelf.new (run_rows request.now) result }
     ensures loaded { IfOk result (λ loaded. S.tells ≡ true → IsLoaded (S.files shelf.old) request.now loaded) }
     ensures sizes { IfOk result HasSizes }
+    ensures faultless { GoesFaultless result (S.faults shelf.old) (S.faults shelf.new) }
 {
     let names = request.images();
     let Images {

@@ -3,6 +3,7 @@ ghost use Rattle.std.specs.Prelude.{◌≡◌, ◌≤◌, IfSome};
 ghost use Rattle.pfr_report.specs.Texts.{report, AllText};
 ghost use Rattle.pfr_shelf.specs.Pieces.{Writes};
 ghost use Rattle.pfr.specs.Benches.{HasRun};
+ghost use Rattle.pfr.specs.Faults.{IsFaultless};
 ghost use Rattle.pfr.specs.Runs.{Delivers, Reports, RunAnswers, RunOutput, outside};
 
 use crate::finished::{Bench, Finished};
@@ -34,12 +35,13 @@ fn deliver<S: Shelf, K: Sink>(
     out: &mut K,
 ) -> Status
     requires { AllText bench.now.notes.list }
-    ensures files { Delivers S.tells (outside S.files S.faults K.written K.faults shelf.old out.old)
-        (outside S.files S.faults K.written K.faults shelf.new out.new) request.now bench.now result }
-    ensures output { Reports K.tells (outside S.files S.faults K.written K.faults shelf.old out.old)
-        (outside S.files S.faults K.written K.faults shelf.new out.new) (report bench.now.notes.list) result }
+    ensures files { Delivers S.tells (outside S.files S.faults S.failed K.written K.faults shelf.old out.old)
+        (outside S.files S.faults S.failed K.written K.faults shelf.new out.new) request.now bench.now result }
+    ensures output { Reports K.tells (outside S.files S.faults S.failed K.written K.faults shelf.old out.old)
+        (outside S.files S.faults S.failed K.written K.faults shelf.new out.new) (report bench.now.notes.list) result }
     ensures shelf_later { S.faults shelf.old ≤ S.faults shelf.new }
     ensures sink_later { K.faults out.old ≤ K.faults out.new }
+    ensures faultless { IsFaultless result (S.faults shelf.old) (S.faults shelf.new) }
 {
     if write_report(bench.notes.as_slice(), out).is_err() {
         return Status::WriteFault;
@@ -57,13 +59,14 @@ pub fn run<S: Shelf, K: Sink>(
     shelf: &mut S,
     out: &mut K,
 ) -> Finished
-    ensures answers { RunAnswers S.tells (outside S.files S.faults K.written K.faults shelf.old out.old)
-        (outside S.files S.faults K.written K.faults shelf.new out.new) request.now result.bench result.status }
+    ensures answers { RunAnswers S.tells (outside S.files S.faults S.failed K.written K.faults shelf.old out.old)
+        (outside S.files S.faults S.failed K.written K.faults shelf.new out.new) request.now result.bench result.status }
     ensures bench { IfSome result.bench HasRun }
-    ensures output { RunOutput K.tells (outside S.files S.faults K.written K.faults shelf.old out.old)
-        (outside S.files S.faults K.written K.faults shelf.new out.new) result.bench result.status }
+    ensures output { RunOutput K.tells (outside S.files S.faults S.failed K.written K.faults shelf.old out.old)
+        (outside S.files S.faults S.failed K.written K.faults shelf.new out.new) result.bench result.status }
     ensures shelf_later { S.faults shelf.old ≤ S.faults shelf.new }
     ensures sink_later { K.faults out.old ≤ K.faults out.new }
+    ensures faultless { IsFaultless result.status (S.faults shelf.old) (S.faults shelf.new) }
 {
     let loaded = match load_files(alloc, shelf, request) {
         Ok(loaded) => loaded,

@@ -2,10 +2,12 @@
 ghost use Rattle.std.specs.Prelude.{◌≡◌};
 ghost use Rattle.pfr_shelf.specs.Pieces.{Writes};
 ghost use Rattle.pfr.specs.Judging.{limit_of};
-ghost use Rattle.pfr.specs.Lines.{role_word, why_word, error_line, code_of};
+ghost use Rattle.pfr.specs.Lines.{role_word, error_line, code_of};
 
+use crate::reason::reason_of;
 use itoa::Buffer;
 use pfr_chain::EngineWhy;
+use pfr_description::DescWhy;
 use pfr_script::ScriptWhy;
 use pfr_shelf::{Sink, SinkFail, write_pieces};
 
@@ -22,6 +24,22 @@ pub enum Role {
     Engine,
     /// The text of the events that the platform is put through.
     Script,
+    /// The text from which images, a store and certificates are made.
+    Description,
+    /// What the BMC's bank has in its active image before it is signed.
+    BmcImage,
+    /// The same of the PCH's bank.
+    PchImage,
+    /// What the BMC's bank has staged.
+    BmcStaged,
+    /// What the PCH's bank has staged.
+    PchStaged,
+    /// The BMC's update capsule.
+    BmcCapsule,
+    /// The PCH's update capsule.
+    PchCapsule,
+    /// A certificate that cancels a key.
+    Cert,
 }
 
 /// Which rule a file breaks.
@@ -34,6 +52,8 @@ pub enum Why {
     Engine(EngineWhy),
     /// A line of the script breaks this rule.
     Script(ScriptWhy),
+    /// The description breaks this rule, or no image is made of it for this cause.
+    Description(DescWhy),
 }
 
 /// How a command ended.
@@ -43,7 +63,8 @@ pub enum Status {
     Done,
     /// The words are no command. No file was loaded.
     Usage,
-    /// The file breaks a rule. The place is an image's length in bytes, or the line of a text, from 1.
+    /// The file breaks a rule. The place is an image's length in bytes, the line of an engine's text or of a script,
+    /// from 1, or 0 of a description.
     BadInput { file: Role, place: u32, why: Why },
     /// The file has more bytes than its role's limit.
     TooLong { file: Role },
@@ -51,7 +72,8 @@ pub enum Status {
     ReadFault { file: Role },
     /// The output failed. A prefix of what the command writes may have been written.
     WriteFault,
-    /// An image could not be stored; the whole report of the run was written.
+    /// The file could not be stored, and may hold anything. Those before it were stored, and a run has written its
+    /// whole report.
     StoreFault { file: Role },
     /// There was not enough memory.
     NoMemory,
@@ -68,31 +90,35 @@ impl Role {
             Role::Nv => b"nv",
             Role::Engine => b"engine",
             Role::Script => b"script",
+            Role::Description => b"description",
+            Role::BmcImage => b"bmc-image",
+            Role::PchImage => b"pch-image",
+            Role::BmcStaged => b"bmc-staged",
+            Role::PchStaged => b"pch-staged",
+            Role::BmcCapsule => b"bmc-capsule",
+            Role::PchCapsule => b"pch-capsule",
+            Role::Cert => b"cert",
         }
     }
 
-    /// The most bytes that such a file may have.
+    /// The most bytes that such a file may have when it is loaded.
     pub fn limit(&self) -> u32
         ensures { result ≡ limit_of self.now }
     {
         match self {
-            Role::Bmc | Role::Pch => 67_108_864,
             Role::Nv => 32_768,
             Role::Engine => 4_194_304,
             Role::Script => 50_331_648,
-        }
-    }
-}
-
-impl Why {
-    /// The word that names it in an error's line.
-    pub fn word(&self) -> &'static [u8]
-        ensures { result.now ≡ why_word self.now }
-    {
-        match self {
-            Why::Size => b"size",
-            Why::Engine(why) => why.word().as_bytes(),
-            Why::Script(why) => why.word().as_bytes(),
+            Role::Description => 262_144,
+            Role::Bmc
+            | Role::Pch
+            | Role::BmcImage
+            | Role::PchImage
+            | Role::BmcStaged
+            | Role::PchStaged
+            | Role::BmcCapsule
+            | Role::PchCapsule
+            | Role::Cert => 67_108_864,
         }
     }
 }
@@ -123,6 +149,9 @@ impl Status {
             Status::BadInput { file, place, why } => {
                 let mut buffer = Buffer::new();
                 let place = buffer.format(*place).as_bytes();
+                let reason = reason_of(*why);
+                let mut digits = Buffer::new();
+                let number = reason.cause.digits(&mut digits);
                 write_pieces(
                     out,
                     &[
@@ -131,7 +160,11 @@ impl Status {
                         b" ",
                         place,
                         b" ",
-                        why.word(),
+                        reason.bank,
+                        reason.cause.kind,
+                        reason.cause.word,
+                        reason.cause.colon(),
+                        number,
                         b"\n",
                     ],
                 )

@@ -7,6 +7,9 @@ ghost use Rattle.pfr.specs.Commands.{check_request, command_of, is_numeral, run_
 ghost use Rattle.pfr.specs.Request.{images_of};
 ghost use Rattle.pfr.specs.declared.words.Command.TheVariants.{Run, Check};
 
+use crate::making_words::{
+    CertRequest, MakeRequest, ProvisionRequest, read_cert, read_make, read_provision,
+};
 use pfr_args::read_args;
 use pfr_flash::NoMemory;
 use std::alloc::Global;
@@ -71,6 +74,9 @@ impl<'a> RunRequest<'a> {
 pub enum Command<'a> {
     Run(RunRequest<'a>),
     Check(CheckRequest<'a>),
+    Make(MakeRequest<'a>),
+    Provision(ProvisionRequest<'a>),
+    Cert(CertRequest<'a>),
 }
 
 // Whether a word may stand in a command: it is not empty, and does not begin with a dash.
@@ -94,7 +100,7 @@ fn are_plain(words: &[String]) -> bool
     true
 }
 
-fn are_digits(word: &[u8]) -> bool
+pub fn are_digits(word: &[u8]) -> bool
     ensures { result ≡ list_all is_ascii_digit word.now }
 {
     word.iter().all(|digit| digit.is_ascii_digit())
@@ -211,6 +217,9 @@ fn read_plain<'a>(alloc: Global, words: &'a [String]) -> Result<Option<Command<'
     match words {
         [name, rest @ ..] if name.as_str() == "run" => read_run(alloc, rest),
         [name, rest @ ..] if name.as_str() == "check" => read_check(alloc, rest),
+        [name, rest @ ..] if name.as_str() == "make" => read_make(alloc, rest),
+        [name, rest @ ..] if name.as_str() == "provision" => read_provision(alloc, rest),
+        [name, rest @ ..] if name.as_str() == "cert" => read_cert(alloc, rest),
         _ => Ok(None),
     }
 }

@@ -1,12 +1,13 @@
 // The text of a cause that is found in a bank's bytes.
-ghost use Rattle.std.specs.Prelude.{◌≡◌, [], None, Some};
+ghost use Rattle.std.specs.Prelude.{◌≡◌, [], codes, None, Some};
 ghost use Rattle.pfr_capsule.specs.Answer as capsules;
-ghost use Rattle.pfr_report.specs.Words.{IsFound, active_kind, active_word, active_number, capsule_kind, capsule_word, capsule_number, colon, digits};
+ghost use Rattle.pfr_report.specs.Words.{IsFound, active_kind, active_word, active_number, capsule_kind, capsule_word, capsule_number, colon, digits, manifest_number, manifest_word};
 
 use crate::cause_words::{chain_word, manifest_number, manifest_word};
 use itoa::Buffer;
 use pfr_auth::ActiveFail;
 use pfr_capsule::CapsuleFail;
+use pfr_manifest::ManifestFail;
 
 /// A cause as a report writes it: what it is a cause of with a colon, or nothing; its word; and the page, region or place
 /// that it names, behind another colon.
@@ -65,6 +66,19 @@ impl Cause {
     }
 }
 
+/// What a manifest that is refused is refused for.
+pub fn manifest_cause(why: ManifestFail) -> Cause
+    ensures kind { result.kind.now ≡ codes "manifest:" }
+    ensures word { result.word.now ≡ manifest_word why }
+    ensures number { result.number ≡ manifest_number why }
+{
+    Cause {
+        kind: b"manifest:",
+        word: manifest_word(why),
+        number: manifest_number(why),
+    }
+}
+
 /// The cause of an active image that isn't trusted.
 pub fn active_cause(why: ActiveFail) -> Cause
     requires { IsFound why }
@@ -78,11 +92,7 @@ pub fn active_cause(why: ActiveFail) -> Cause
             word: chain_word(cause),
             number: None,
         },
-        ActiveFail::Manifest(cause) => Cause {
-            kind: b"manifest:",
-            word: manifest_word(cause),
-            number: manifest_number(cause),
-        },
+        ActiveFail::Manifest(cause) => manifest_cause(cause),
         ActiveFail::SvnFloor => plain(b"svn-floor"),
         ActiveFail::RegionHash(region) => numbered(b"region-hash", region),
         ActiveFail::Flash(_) => unreachable!(),
@@ -107,11 +117,7 @@ pub fn capsule_cause(why: CapsuleFail) -> Cause
             word: chain_word(cause),
             number: None,
         },
-        CapsuleFail::Manifest(cause) => Cause {
-            kind: b"manifest:",
-            word: manifest_word(cause),
-            number: manifest_number(cause),
-        },
+        CapsuleFail::Manifest(cause) => manifest_cause(cause),
         CapsuleFail::SvnFloor => plain(b"svn-floor"),
         CapsuleFail::PbcHeader => plain(b"pbc-header"),
         CapsuleFail::MapBits => plain(b"map-bits"),

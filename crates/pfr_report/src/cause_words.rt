@@ -2,7 +2,6 @@
 ghost use Rattle.std.specs.Prelude.{◌≡◌, None, Some};
 ghost use Rattle.pfr_report.specs.Words.{chain_word, manifest_number, manifest_word, rule_word};
 ghost use Rattle.pfr_chain.specs.Answer.{chain_failure};
-ghost use Rattle.pfr_manifest.specs.Answer.{manifest_failure};
 ghost use Rattle.pfr_report.specs.Texts.{bank_word, lock_word, lost_word, provision_word, HasWord};
 
 use crate::note::{LockWhy, ProvisionWhy};
@@ -102,8 +101,8 @@ pub fn chain_word(cause: ChainFail) -> &'static [u8]
     }
 }
 
+/// The word of a manifest's cause; empty where the device failed.
 pub fn manifest_word(cause: ManifestFail) -> &'static [u8]
-    requires { manifest_failure cause ≡ None }
     ensures { result.now ≡ manifest_word cause }
 {
     match cause {
@@ -119,7 +118,7 @@ pub fn manifest_word(cause: ManifestFail) -> &'static [u8]
         ManifestFail::Order(_) => b"order",
         ManifestFail::Overlap(_) => b"overlap",
         ManifestFail::Tail => b"tail",
-        ManifestFail::Flash(_) => unreachable!(),
+        ManifestFail::Flash(_) => b"",
     }
 }
 

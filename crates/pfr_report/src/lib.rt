@@ -9,6 +9,8 @@ mod notes;
 mod verdict;
 mod verdict_lines;
 
+pub use cause::{Cause, manifest_cause};
+pub use cause_words::{bank_word, rule_word};
 pub use lines::write_note;
 pub use note::{LockWhy, Note, ProvisionWhy, What};
 pub use notes::Notes;

@@ -2,47 +2,73 @@ use Rattle.pfr.specs.Runs.{outside}
 use Rattle.pfr.specs.Top.{asked}
 use Rattle.pfr.proofs.BenchLemmas.{each_spans, each_releases, each_locks, each_brings_up, each_grows, each_provision}
 use Rattle.pfr.proofs.CommandLemmas.{breach, complete}
-use Rattle.pfr.proofs.TopLemmas.{files_stay, others_kept, output_and_line}
+use Rattle.pfr.proofs.TopLemmas.{files_spare, files_stay, others_kept, output_and_line}
+use Rattle.pfr.proofs.WorthLemmas.{worth_of}
 use Rattle.pfr.proofs.top.pfr.Goals as goal
 
 pub returns-clause-output : goal.returns-clause-output
 returns-clause-output g c =
     let s = g.S.Shelf in
     let k = g.K.Sink in
-    output_and_line s.tells k.tells s.files s.faults k.written k.faults c.args.shelf.now c.serve-finished.new.shelf c.args.out.now c.serve-finished.new.out c.tell.new.out
+    output_and_line s.tells k.tells s.files s.faults s.failed k.written k.faults c.args.shelf.now c.serve-finished.new.shelf c.args.out.now c.serve-finished.new.out c.tell.new.out
     (asked c.args.words.now) c.serve-finished.result.bench c.serve-finished.result.status c.tell.result c.serve-finished.ensures.sink_later c.tell.ensures c.serve-finished.ensures.output
 
 pub returns-clause-breach : goal.returns-clause-breach
 returns-clause-breach g c =
     let s = g.S.Shelf in
     let k = g.K.Sink in
-    breach s.tells (outside s.files s.faults k.written k.faults c.args.shelf.now c.args.out.now)
-    (outside s.files s.faults k.written k.faults c.serve-finished.new.shelf c.serve-finished.new.out) (asked c.args.words.now) c.serve-finished.result.bench c.serve-finished.result.status
-    c.serve-finished.ensures.run c.serve-finished.ensures.check
+    let e = c.serve-finished.ensures in
+    let before = outside s.files s.faults s.failed k.written k.faults c.args.shelf.now c.args.out.now in
+    let after = outside s.files s.faults s.failed k.written k.faults c.serve-finished.new.shelf c.serve-finished.new.out in
+    breach s.tells before after (asked c.args.words.now) c.serve-finished.result.bench c.serve-finished.result.status
+    (record { run = e.run; check = e.check; make = e.make; provision = e.furnish; cert = e.certify })
 
 pub returns-clause-complete : goal.returns-clause-complete
 returns-clause-complete g c =
     let s = g.S.Shelf in
     let k = g.K.Sink in
-    complete s.tells (outside s.files s.faults k.written k.faults c.args.shelf.now c.args.out.now)
-    (outside s.files s.faults k.written k.faults c.serve-finished.new.shelf c.serve-finished.new.out) (k.faults c.tell.new.out) (asked c.args.words.now)
-    c.serve-finished.result.bench c.serve-finished.result.status c.tell.ensures.later c.serve-finished.ensures.run c.serve-finished.ensures.check
+    let e = c.serve-finished.ensures in
+    let before = outside s.files s.faults s.failed k.written k.faults c.args.shelf.now c.args.out.now in
+    let after = outside s.files s.faults s.failed k.written k.faults c.serve-finished.new.shelf c.serve-finished.new.out in
+    complete s.tells before after (k.faults c.tell.new.out) (asked c.args.words.now) c.serve-finished.result.bench c.serve-finished.result.status c.tell.ensures.later
+    (record { run = e.run; check = e.check; make = e.make; provision = e.furnish; cert = e.certify })
 
 pub returns-clause-others : goal.returns-clause-others
 returns-clause-others g c =
     let s = g.S.Shelf in
     let k = g.K.Sink in
-    λ request asks told. others_kept s.tells (outside s.files s.faults k.written k.faults c.args.shelf.now c.args.out.now)
-    (outside s.files s.faults k.written k.faults c.serve-finished.new.shelf c.serve-finished.new.out) request c.serve-finished.result.bench c.serve-finished.result.status
+    λ request asks told. others_kept s.tells (outside s.files s.faults s.failed k.written k.faults c.args.shelf.now c.args.out.now)
+    (outside s.files s.faults s.failed k.written k.faults c.serve-finished.new.shelf c.serve-finished.new.out) request c.serve-finished.result.bench c.serve-finished.result.status
     (c.serve-finished.ensures.run request asks) told
+
+pub returns-clause-spares : goal.returns-clause-spares
+returns-clause-spares g c =
+    let s = g.S.Shelf in
+    let k = g.K.Sink in
+    let e = c.serve-finished.ensures in
+    let before = outside s.files s.faults s.failed k.written k.faults c.args.shelf.now c.args.out.now in
+    let after = outside s.files s.faults s.failed k.written k.faults c.serve-finished.new.shelf c.serve-finished.new.out in
+    files_spare s.tells before after (asked c.args.words.now) c.serve-finished.result.bench c.serve-finished.result.status
+    (record { run = e.run; check = e.check; make = e.make; provision = e.furnish; cert = e.certify })
 
 pub returns-clause-stays : goal.returns-clause-stays
 returns-clause-stays g c =
     let s = g.S.Shelf in
     let k = g.K.Sink in
-    files_stay s.tells (outside s.files s.faults k.written k.faults c.args.shelf.now c.args.out.now)
-    (outside s.files s.faults k.written k.faults c.serve-finished.new.shelf c.serve-finished.new.out) (asked c.args.words.now) c.serve-finished.result.bench c.serve-finished.result.status
-    c.serve-finished.ensures.unused c.serve-finished.ensures.run c.serve-finished.ensures.check
+    let e = c.serve-finished.ensures in
+    let before = outside s.files s.faults s.failed k.written k.faults c.args.shelf.now c.args.out.now in
+    let after = outside s.files s.faults s.failed k.written k.faults c.serve-finished.new.shelf c.serve-finished.new.out in
+    files_stay s.tells before after (asked c.args.words.now) c.serve-finished.result.bench c.serve-finished.result.status e.unused
+    (record { run = e.run; check = e.check; make = e.make; provision = e.furnish; cert = e.certify })
+
+pub returns-clause-worth : goal.returns-clause-worth
+returns-clause-worth g c =
+    let s = g.S.Shelf in
+    let k = g.K.Sink in
+    let e = c.serve-finished.ensures in
+    let before = outside s.files s.faults s.failed k.written k.faults c.args.shelf.now c.args.out.now in
+    let after = outside s.files s.faults s.failed k.written k.faults c.serve-finished.new.shelf c.serve-finished.new.out in
+    λ request asks told done. worth_of s.tells before after request c.serve-finished.result.bench c.serve-finished.result.status (e.make request asks) told done
 
 pub returns-clause-spans : goal.returns-clause-spans
 returns-clause-spans g c = each_spans c.serve-finished.result.bench c.serve-finished.ensures.bench
