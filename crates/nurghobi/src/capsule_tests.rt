@@ -4,12 +4,12 @@ ghost use Rattle.pfr_flash.specs.FlashState.{size_of};
 
 use crate::fixtures::bank_with;
 use crate::signing::{BLOCK, CAPSULE_KEY, put, put_number, sign_again};
+use crate::small::{small_image, small_platform};
 use pfr_capsule::{Capsule, CapsuleFail, Pages};
 use pfr_chain::ChainFail;
 use pfr_engine::ListEngine;
 use pfr_flash::{Bank, Flash, MemFlash};
 use pfr_fuses::{Fuses, load};
-use pfr_tool::sample::{small_image, small_platform};
 use pfr_tool::{Form, make_bank, make_store};
 use std::alloc::Global;
 use std::process::Abort;

@@ -1,23 +1,18 @@
 // Checks of platforms: each row is a platform, and what a check of it writes.
 
-use crate::fixtures::{blank_shelf, images_of, small_shelf, turn};
-use pfr::{Status, pfr};
+use crate::fixtures::{
+    GOOD_BMC, GOOD_PCH, blank_shelf, images_of, small_shelf, turn, want_lines, word_list,
+};
+use crate::small::{small_image, small_platform};
 use pfr_flash::Bank;
-use pfr_shelf::{MemShelf, MemSink, Shelf};
-use pfr_tool::sample::{small_image, small_platform};
+use pfr_shelf::{MemShelf, Shelf};
 use pfr_tool::{Form, make_bank};
 use std::alloc::Global;
 use std::process::Abort;
 use std::test::Fail;
 
-const BMC: &str =
-    "bmc floor 0\nbmc job none\nbmc active trusted svn 3\nbmc recovery good svn 3\nbmc staging bad chain:block0-magic\nbmc same-manifest no\n";
-
 const STAGED_BMC: &str =
     "bmc floor 0\nbmc job none\nbmc active trusted svn 3\nbmc recovery good svn 3\nbmc staging good svn 3\nbmc same-manifest yes\n";
-
-const PCH: &str =
-    "pch floor 0\npch job none\npch active trusted svn 3\npch recovery good svn 3\npch staging bad chain:block0-magic\npch same-manifest no\n";
 
 const CHANGED_PCH: &str =
     "pch floor 0\npch job none\npch active untrusted region-hash:0\npch recovery good svn 3\npch staging bad chain:block0-magic\npch same-manifest no\n";
@@ -31,16 +26,10 @@ fn verdicts(
     pch: &str,
 ) -> Result<(), Fail> {
     let mut images = images_of(alloc, shelf)?;
-    let mut words = Vec::new(alloc);
-    for text in ["check", "bmc", "pch", "nv", "engine"] {
-        words.push(String::from_str(alloc, text)?)?;
-    }
-    let mut out = MemSink::new(alloc, 1_048_576)?;
-    let finished = pfr(alloc, &words, shelf, &mut out);
-    assert!(rt; finished.status == Status::Done);
-    assert!(rt; finished.bench.is_none());
+    let words = word_list(alloc, &["check", "bmc", "pch", "nv", "engine"])?;
     let wanted = format!(in alloc; "{}{}", bmc, pch)?;
-    assert!(rt; out.bytes() == wanted.as_bytes(), "{wanted}");
+    let finished = want_lines(rt, alloc, &words, shelf, 0, wanted.as_str())?;
+    assert!(rt; finished.bench.is_none());
     for name in ["bmc", "pch", "nv"] {
         let found = shelf.load(alloc, name, 1_048_576)?;
         let image = images.load(alloc, name, 1_048_576)?;
@@ -70,9 +59,9 @@ fn checks(rt: HostRuntime) -> Result<(), Fail> {
     let alloc = rt.alloc();
     for form in [Form::One, Form::Two] {
         let mut shelf = small_shelf(alloc, form)?;
-        verdicts(&rt, alloc, &mut shelf, BMC, PCH)?;
+        verdicts(&rt, alloc, &mut shelf, GOOD_BMC, GOOD_PCH)?;
         turn(alloc, &mut shelf, "pch", 0x12345, 0x01)?;
-        verdicts(&rt, alloc, &mut shelf, BMC, CHANGED_PCH)?;
+        verdicts(&rt, alloc, &mut shelf, GOOD_BMC, CHANGED_PCH)?;
         stage(alloc, &mut shelf, form)?;
         verdicts(&rt, alloc, &mut shelf, STAGED_BMC, CHANGED_PCH)?;
     }

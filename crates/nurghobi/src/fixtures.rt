@@ -2,10 +2,10 @@
 ghost use Rattle.std.specs.Prelude.{◌≡◌, ◌<◌, IfOk};
 ghost use Rattle.pfr_flash.specs.FlashState.{size_of};
 
+use crate::small::{small_image, small_platform};
 use pfr::{Finished, Status, pfr};
 use pfr_flash::{Bank, Flash, MemFlash};
 use pfr_shelf::{MemShelf, MemSink, Shelf};
-use pfr_tool::sample::{small_image, small_platform};
 use pfr_tool::{Description, Form, make_bank, make_store};
 use std::alloc::{AllocError, Global};
 use std::process::Abort;
@@ -14,13 +14,53 @@ use std::test::Fail;
 pub const UNPROVISIONED: &str =
     "1 power\n1 bmc held\n1 bmc locked unprovisioned\n1 pch held\n1 pch locked unprovisioned\n";
 
+// The verdicts of the small platform's banks.
+pub const GOOD_BMC: &str =
+    "bmc floor 0\nbmc job none\nbmc active trusted svn 3\nbmc recovery good svn 3\nbmc staging bad chain:block0-magic\nbmc same-manifest no\n";
+
+pub const GOOD_PCH: &str =
+    "pch floor 0\npch job none\npch active trusted svn 3\npch recovery good svn 3\npch staging bad chain:block0-magic\npch same-manifest no\n";
+
+pub const MAKE: &[&str] = &["make", "description", "made"];
+
+pub const PROVISION: &[&str] = &["provision", "description", "nv"];
+
+// What `make` stores, in order.
+pub const MADE: &[&str] = &[
+    "made.bmc",
+    "made.pch",
+    "made.bmc.capsule",
+    "made.pch.capsule",
+    "made.engine",
+];
+
+pub fn word_list(alloc: Global, words: &[&str]) -> Result<Vec<String>, AllocError> {
+    let mut list = Vec::new(alloc);
+    for word in words {
+        list.push(String::from_str(alloc, word)?)?;
+    }
+    Ok(list)
+}
+
 // The words of a run, with this name for the engine's file.
 pub fn run_words(alloc: Global, engine: &str) -> Result<Vec<String>, AllocError> {
-    let mut words = Vec::new(alloc);
-    for text in ["run", "bmc", "pch", "nv", engine, "script"] {
-        words.push(String::from_str(alloc, text)?)?;
-    }
-    Ok(words)
+    word_list(alloc, &["run", "bmc", "pch", "nv", engine, "script"])
+}
+
+// Does what the words ask for, and wants this status and these lines.
+pub fn want_lines(
+    rt: &impl Abort,
+    alloc: Global,
+    words: &Vec<String>,
+    shelf: &mut MemShelf,
+    status: u8,
+    lines: &str,
+) -> Result<Finished, Fail> {
+    let mut out = MemSink::new(alloc, 1_048_576)?;
+    let finished = pfr(alloc, words, shelf, &mut out);
+    assert_eq!(rt; finished.status.code(), status, "{lines}");
+    assert!(rt; out.bytes() == lines.as_bytes(), "{lines}");
+    Ok(finished)
 }
 
 // The files of a platform whose banks have the small platform's image.
@@ -63,6 +103,16 @@ pub fn put_recovery(alloc: Global, shelf: &mut MemShelf, desc: &Description) -> 
     Ok(())
 }
 
+// What the small platform is made of: this description, and the banks' images.
+pub fn source_shelf(alloc: Global, text: &str) -> Result<MemShelf, Fail> {
+    let image = small_image(alloc)?;
+    let mut shelf = MemShelf::new(alloc);
+    shelf.put("description", text.as_bytes())?;
+    shelf.put("bmc.image", image.as_slice())?;
+    shelf.put("pch.image", image.as_slice())?;
+    Ok(shelf)
+}
+
 // Two blank banks, a store of so many blank bytes and an engine of this text.
 pub fn blank_shelf(alloc: Global, store: usize, engine: &[u8]) -> Result<MemShelf, Fail>
     requires { store < 100000 }
@@ -76,6 +126,36 @@ pub fn blank_shelf(alloc: Global, store: usize, engine: &[u8]) -> Result<MemShel
     shelf.put("engine", engine)?;
     shelf.put("script", b"power\n")?;
     Ok(shelf)
+}
+
+// Does what words ask for that make no platform, and wants this status and these lines.
+pub fn want_answer(
+    rt: &impl Abort,
+    alloc: Global,
+    words: &[&str],
+    shelf: &mut MemShelf,
+    status: u8,
+    lines: &str,
+) -> Result<(), Fail> {
+    let list = word_list(alloc, words)?;
+    let finished = want_lines(rt, alloc, &list, shelf, status, lines)?;
+    assert!(rt; finished.bench.is_none());
+    Ok(())
+}
+
+// Wants that a shelf has the first so many of these files, and none of the others.
+pub fn want_files(
+    rt: &impl Abort,
+    alloc: Global,
+    shelf: &mut MemShelf,
+    names: &[&str],
+    count: usize,
+) -> Result<(), Fail> {
+    for (number, name) in names.iter().enumerate() {
+        let file = shelf.load(alloc, name, 1_048_576);
+        assert_eq!(rt; file.is_ok(), number < count, "{name}");
+    }
+    Ok(())
 }
 
 // The three images of a platform, apart from it.

@@ -6,6 +6,8 @@ mod capsule_tests;
 #[cfg(test)]
 mod check_tests;
 #[cfg(test)]
+mod description_tests;
+#[cfg(test)]
 mod fixtures;
 #[cfg(test)]
 mod manifest_rules;
@@ -17,6 +19,10 @@ mod platform_tests;
 mod script_tests;
 #[cfg(test)]
 mod signing;
+#[cfg(test)]
+mod small;
+#[cfg(test)]
+mod tool_tests;
 
 use pfr::{Status, pfr};
 use pfr_shelf::{FileShelf, OutSink};

@@ -3,9 +3,9 @@ ghost use Rattle.std.specs.Prelude.{◌<◌};
 
 use crate::fixtures::bank_with;
 use crate::manifest_rules::first_broken;
+use crate::small::{small_image, small_platform};
 use pfr_flash::{Bank, Flash, Layout, MemFlash};
 use pfr_manifest::Manifest;
-use pfr_tool::sample::{small_image, small_platform};
 use pfr_tool::{Form, make_bank};
 use std::process::Abort;
 use std::test::Fail;

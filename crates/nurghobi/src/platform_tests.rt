@@ -2,9 +2,9 @@
 
 use crate::fixtures::{put_recovery, run_script, shelf_of, small_shelf, turn};
 use crate::signing::{BLOCK, MANIFEST_KEY, put, sign_again};
+use crate::small::small_platform;
 use pfr_flash::Flash;
 use pfr_shelf::{MemShelf, Shelf};
-use pfr_tool::sample::small_platform;
 use pfr_tool::{Description, Form, PageUse, RegionDescription};
 use std::alloc::Global;
 use std::process::Abort;

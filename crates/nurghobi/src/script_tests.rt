@@ -1,30 +1,17 @@
 // Runs of scripts over files in memory: each row is a script, and what its run reports and leaves.
 ghost use Rattle.std.specs.Prelude.{◌<◌};
 
-use crate::fixtures::{UNPROVISIONED, blank_shelf, images_of, play, run_words, small_shelf, turn};
-use pfr::{Finished, pfr};
+use crate::fixtures::{
+    UNPROVISIONED, blank_shelf, images_of, play, run_words, small_shelf, turn, want_lines,
+    word_list,
+};
+use pfr::pfr;
 use pfr_flash::{Flash, FlashFail, MemFlash};
 use pfr_shelf::{MemShelf, MemSink, Shelf};
 use pfr_tool::Form;
 use std::alloc::Global;
 use std::process::Abort;
 use std::test::Fail;
-
-// Runs the words, and wants this status and these lines.
-fn want_lines(
-    rt: &impl Abort,
-    alloc: Global,
-    words: &Vec<String>,
-    shelf: &mut MemShelf,
-    status: u8,
-    lines: &str,
-) -> Result<Finished, Fail> {
-    let mut out = MemSink::new(alloc, 1_048_576)?;
-    let finished = pfr(alloc, words, shelf, &mut out);
-    assert_eq!(rt; finished.status.code(), status, "{lines}");
-    assert!(rt; out.bytes() == lines.as_bytes(), "{lines}");
-    Ok(finished)
-}
 
 // A store's length, the engine's text, the name under which it is looked for, the script, the wear or nothing, and the
 // status and lines of the run.
@@ -190,10 +177,7 @@ const COMMANDS: [(&'static [&'static str], u8, &'static str); 11] = [
 fn want_commands(rt: &impl Abort, alloc: Global) -> Result<(), Fail> {
     for (words, status, lines) in COMMANDS {
         let mut shelf = blank_shelf(alloc, 32_768, b"")?;
-        let mut list = Vec::new(alloc);
-        for word in words {
-            list.push(String::from_str(alloc, word)?)?;
-        }
+        let list = word_list(alloc, words)?;
         let finished = want_lines(rt, alloc, &list, &mut shelf, status, lines)?;
         assert!(rt; finished.bench.is_none());
     }
