@@ -14,7 +14,8 @@ use Rattle.pfr_fuses.specs.FusesState.{FusesState, floor_of, row_of}
 use Rattle.pfr_fuses.specs.FusesOf.{fuses_of}
 use Rattle.pfr_fuses.specs.RootSlot.{layout_of}
 use Rattle.pfr_fuses.specs.declared.root_slot.RootSlot.{RootSlot}
-use Rattle.pfr_manifest.specs.Fields.{AreBytes}
+use Rattle.pfr_flash.specs.Bytes.{AreBytes}
+use Rattle.pfr_flash.proofs.AreBytesLemmas.{AreBytes-bytes_at}
 use Rattle.pfr_manifest.specs.Judge.{judge_manifest}
 use Rattle.pfr_manifest.specs.declared.fail.ManifestFail.{ManifestFail}
 use Rattle.pfr_manifest.specs.declared.manifest.Manifest.{Manifest}
@@ -132,3 +133,7 @@ trusted_found image nv bank accepts fuses p t =
     let e : t.fuses ≡ p.all = cc in
     judge_active-same image bank accepts fuses p.all p.provision p.floor p.row
     ∙ subst (λ (f : FusesState). judge_active image bank f accepts ≡ Ok t.manifest) e (trusted_judged image nv bank accepts t)
+
+-- What is signed in an image of bytes is bytes: nothing else has to be shown for a judgement to mean trust.
+pub signs_bytes : (image : List ℕ) (bank : Bank) (fuses : FusesState) (accepts : Acceptance) → AreBytes image → SignsBytes image bank fuses accepts
+signs_bytes image bank fuses accepts h chain signed = AreBytes-bytes_at image chain.content_at chain.length h

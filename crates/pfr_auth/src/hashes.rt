@@ -1,7 +1,7 @@
 // The hashes of a manifest's regions.
-ghost use Rattle.std.specs.Prelude.{◌≡◌, ◌≤◌, All, IfOk, IfErr};
+ghost use Rattle.std.specs.Prelude.{◌≡◌, ◌≤◌, All, IfOk, Some};
 ghost use Rattle.pfr_flash.specs.FlashState.{now, size_of};
-ghost use Rattle.pfr_flash.specs.Reading.{OnlyReads, FailsReading};
+ghost use Rattle.pfr_flash.specs.Reading.{OnlyReads, EndsAt, failed_by};
 ghost use Rattle.pfr_auth.specs.Answer.{Answers};
 ghost use Rattle.pfr_auth.specs.Judge.{is_hashed, judge_regions};
 ghost use Rattle.pfr_auth.specs.Regions.{IsInside};
@@ -16,8 +16,7 @@ use pfr_manifest::{Region, RegionHash, Regions};
 fn is_hashed<F: Flash>(flash: &mut F, region: &Region) -> Result<bool, FlashFail>
     requires { IsInside (size_of (F.device flash.old)) region.now }
     ensures exact { IfOk result (λ matches. matches ≡ is_hashed (now (F.device flash.old)) region.now) }
-    ensures reads { OnlyReads (F.device flash.old) (F.device flash.new) }
-    ensures failed { IfErr result (λ f. FailsReading f (F.device flash.old) (F.device flash.new)) }
+    ensures ends { EndsAt (failed_by (λ fail. Some fail) result) (F.device flash.old) (F.device flash.new) }
 {
     let len = region.end - region.start;
     match region.hash {

@@ -5,7 +5,7 @@ use Rattle.std.proofs.lemmas.Bool.{false≢true}
 use Rattle.std.proofs.lemmas.List.{append-nil, take_all}
 use Rattle.std.proofs.lemmas.Nat.{and_le_l}
 use Rattle.std.specs.Prelude.{bit_and, zero, suc, ◌*◌}
-use Rattle.std.proofs.lemmas.List.Elements.{All-cons, All-append, All-take, All-drop, All-replicate}
+use Rattle.std.proofs.lemmas.List.Elements.{All-append, All-take, All-drop, All-replicate, All-from_get_or}
 use Rattle.pfr_flash.specs.Bytes.{and_bytes, blank, bytes_at, continued, written}
 use Rattle.pfr_flash.specs.Operation.{Operation, Erase, Program, Torn, applied, play}
 use Rattle.pfr_flash.specs.FlashState.{FlashState, now, upto, size_of, op_count_of}
@@ -13,6 +13,8 @@ use Rattle.pfr_flash.specs.Moved.{Extends}
 use Rattle.pfr_flash.specs.Plan.{IsPart, DoesPart}
 use Rattle.pfr_flash.specs.Range.{AllWithin}
 use Rattle.pfr_flash.proofs.MovedLemmas.{Extends-trans, Extends-length}
+use Rattle.pfr_flash.specs.Holding.{HoldsBytes}
+use Rattle.pfr_flash.proofs.HoldingLemmas.{upto_bytes}
 use Rattle.pfr_flash.proofs.PlayLemmas.{length-play}
 use Rattle.pfr_flash.proofs.StateLemmas.{upto-Extends}
 use Rattle.pfr_flash.specs.declared.names.Bank.TheVariants as bank
@@ -40,7 +42,7 @@ use Rattle.pfr_script.specs.declared.event.Event.TheVariants as event
 use Rattle.pfr_script.specs.declared.item.Item.{Item}
 use Rattle.pfr_script.specs.declared.item.Item.TheVariants as item
 use Rattle.pfr_calm.specs.Story.{Past, Story}
-use Rattle.pfr_calm.specs.World.{World, story_of}
+use Rattle.pfr_calm.specs.World.{World, AreDevices, story_of}
 use Rattle.pfr_calm.specs.Plans.{migration_in, migration_by}
 use Rattle.pfr_calm.specs.Goes.{Ran}
 use Rattle.pfr_calm.specs.Course.{Steps}
@@ -275,60 +277,12 @@ Reached-grows accepts tears (item.Arm arm ∷ items) old new size always slots (
     (subst (λ (w : World). NeverGoesBack old.nv w.nv) (sym e) (armed_grows arm (slice_index_or tears arm.tear []) old size))
     (Reached-grows accepts tears items mid new (ap (λ (xs : List ℕ). length xs) first.start ∙ size) (later_bytes old mid new first always) slots r)
 
--- ---- a store whose operations write bytes holds bytes
-abbrev pub IsOfBytes : Operation → Type 0
-IsOfBytes (Erase sector) = Unit {0}
-IsOfBytes (Program at bytes) = AreBytes bytes
-IsOfBytes (Torn at after) = AreBytes after
+-- A device that holds bytes at the end of a run held bytes at each moment of it.
+pub AlwaysBytes-held : (old new : FlashState) → HoldsBytes new → AlwaysBytes old new
+AlwaysBytes-held old new h n low high = All-from_get_or (λ (x : ℕ). x < 256) (upto new n) 0 (λ i below. upto_bytes new n h i)
 
-abbrev pub AllOfBytes : List Operation → Type 0
-AllOfBytes [] = Unit {0}
-AllOfBytes (op ∷ ops) = IsOfBytes op × AllOfBytes ops
-
-bytes_nil : AreBytes []
-bytes_nil k d h = absurd (omega (arith, h))
-
-tail_bytes : (x : ℕ) (xs : List ℕ) → AreBytes (x ∷ xs) → AreBytes xs
-tail_bytes x xs p = All-drop (λ (y : ℕ). y < 256) 1 (x ∷ xs) p
-
-cons_bytes : (x : ℕ) (xs : List ℕ) → x < 256 → AreBytes xs → AreBytes (x ∷ xs)
-cons_bytes x xs h p = All-cons (λ (y : ℕ). y < 256) x xs h p
-
-head_byte : (x : ℕ) (xs : List ℕ) → AreBytes (x ∷ xs) → x < 256
-head_byte x xs p = p 0 0 (omega arith)
-
-bytes_written : (image : List ℕ) (at : ℕ) (bytes : List ℕ) → AreBytes image → AreBytes bytes → AreBytes (written image at bytes)
-unfolding written
-bytes_written [] at bytes p q = bytes_nil
-bytes_written (x ∷ xs) (suc at) bytes p q = cons_bytes x (written xs at bytes) (head_byte x xs p) (bytes_written xs at bytes (tail_bytes x xs p) q)
-bytes_written (x ∷ xs) zero [] p q = p
-bytes_written (x ∷ xs) zero (y ∷ ys) p q = cons_bytes y (written xs zero ys) (head_byte y ys q) (bytes_written xs zero ys (tail_bytes x xs p) (tail_bytes y ys q))
-
-bytes_and : (old new : List ℕ) → AreBytes old → AreBytes (and_bytes old new)
-bytes_and [] new p = bytes_nil
-bytes_and (x ∷ xs) [] p = bytes_nil
-bytes_and (x ∷ xs) (y ∷ ys) p = cons_bytes (bit_and x y) (and_bytes xs ys) (let le = and_le_l x y in omega (arith, le, head_byte x xs p)) (bytes_and xs ys (tail_bytes x xs p))
-
-bytes_blank : AreBytes blank
-unfolding blank
-bytes_blank = All-replicate (λ (y : ℕ). y < 256) 4096 255 (omega arith)
-
-bytes_applied : (image : List ℕ) (op : Operation) → AreBytes image → IsOfBytes op → AreBytes (applied image op)
-bytes_applied image (Erase sector) p q = bytes_written image (4096 * sector) blank p bytes_blank
-bytes_applied image (Program at bytes) p q =
-    bytes_written image at (and_bytes (bytes_at image at (length bytes)) bytes) p
-    (bytes_and (bytes_at image at (length bytes)) bytes (All-take (λ (y : ℕ). y < 256) (length bytes) (drop at image) (All-drop (λ (y : ℕ). y < 256) at image p)))
-bytes_applied image (Torn at after) p q = bytes_written image at after p q
-
-bytes_play : (image : List ℕ) (ops : List Operation) (n : ℕ) → AreBytes image → AllOfBytes ops → AreBytes (play image (take n ops))
-bytes_play image [] n p q = subst (λ (ops : List Operation). AreBytes (play image ops)) (sym (take_nothing n)) p
-  where
-    take_nothing : (n : ℕ) → take {A = Operation} n [] ≡ []
-    take_nothing zero = refl
-    take_nothing (suc n) = refl
-bytes_play image (op ∷ ops) zero p q = p
-bytes_play image (op ∷ ops) (suc n) p q = bytes_play (applied image op) ops n (bytes_applied image op p q.0) q.1
-
--- A device that held bytes at first and whose operations wrote bytes held bytes at each moment.
-pub AlwaysBytes-operations : (old new : FlashState) → AreBytes new.start → AllOfBytes new.ops → AlwaysBytes old new
-AlwaysBytes-operations old new p q n low high = bytes_play new.start new.ops n p q
+-- So fuses are never taken back in a run of devices that hold bytes.
+pub Reached-never_back : (accepts : Acceptance) (tears : List (List ℕ)) (items : List Item) (old new : World) → size_of old.nv ≡ 32768 → AreDevices new → AreKnownSlots items
+    → Reached (Did accepts tears) items old new → NeverGoesBack old.nv new.nv
+Reached-never_back accepts tears items old new size devices slots r =
+    Reached-grows accepts tears items old new size (AlwaysBytes-held old.nv new.nv devices.nv) slots r

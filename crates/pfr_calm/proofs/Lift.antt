@@ -14,7 +14,7 @@ use Rattle.pfr_flash.specs.declared.names.Device.TheVariants as device
 use Rattle.pfr_flash.proofs.MovedLemmas.{Moved-refl}
 use Rattle.pfr_flash.proofs.PlayLemmas.{play-append}
 use Rattle.pfr_flash.proofs.StateLemmas.{Worked-lost}
-use Rattle.pfr_flash.proofs.FollowsLemmas.{Follows-reads}
+use Rattle.pfr_flash.proofs.FollowsLemmas.{Follows-failed}
 use Rattle.pfr_calm.specs.Story.{Story, Move, Does, after, operated, image_at, all_do, IsCut}
 use Rattle.pfr_calm.specs.World.{World, story_of, state_at, AllMoved, NoneLost, Caused}
 use Rattle.pfr_calm.specs.Goes.{Ran, Stopped, Goes}
@@ -226,14 +226,6 @@ still_reading old new (Ok x) on h = tt
 still_reading old new (Err Fault) on h = h.powered ∙ on
 still_reading old new (Err Lost) on h = tt
 
--- one device is read
-pub Goes-reads : {A : Type 0} (which : Device) (old new : World) (r : Result A FlashFail) → OnlyAt which old new
-    → (state_at which old).powered ≡ true → OnlyReads (state_at which old) (state_at which new)
-    → IfErr r (λ f. FailsReading f (state_at which old) (state_at which new)) → Goes (λ _. []) old new (at_device which r)
-Goes-reads which old new r only on reads fails =
-    Goes-follows which [] old new r only on (still_reading (state_at which old) (state_at which new) r on reads)
-    (Follows-reads (state_at which old) (state_at which new) r reads fails)
-
 -- a device that was read, and the others stay
 pub Ran-reads : (which : Device) (old new : World) → OnlyAt which old new → OnlyReads (state_at which old) (state_at which new) → Ran [] old new
 Ran-reads which old new only h = record {
@@ -241,6 +233,15 @@ Ran-reads which old new only h = record {
   moved = AllMoved-only which old new only h.worked.moved;
   none_lost = NoneLost-only which old new only h.losses;
 }
+
+-- one device is read
+pub Goes-reads : {A : Type 0} (which : Device) (old new : World) (r : Result A FlashFail) → OnlyAt which old new
+    → (state_at which old).powered ≡ true → OnlyReads (state_at which old) (state_at which new)
+    → IfErr r (λ f. FailsReading f (state_at which old) (state_at which new)) → Goes (λ _. []) old new (at_device which r)
+Goes-reads which old new (Ok x) only on reads fails = Ran-reads which old new only reads
+Goes-reads {A} which old new (Err f) only on reads fails =
+    Goes-follows {A = A} which [] old new (Err f) only on (still_reading {A = A} (state_at which old) (state_at which new) (Err f) on reads)
+    (Follows-failed {A = A} (state_at which old) (state_at which new) f reads fails)
 
 -- and which is on yet
 pub on_after_follows : (A : Type 0) (which : Device) (plan : List Operation) (old new : World) (x : A)

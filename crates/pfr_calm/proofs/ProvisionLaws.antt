@@ -75,6 +75,7 @@ provisioned_so nv root m n number size slot j =
     let follows : Follows (provision_plan number root) old new (Ok tt) = record {
       ok = refl;
       on = refl;
+      whole = refl;
       part = record { added = provision_plan number root; is = refl; part = IsPart-whole nv (provision_plan number root) };
       failed = tt;
       still = tt;

@@ -1,6 +1,7 @@
 -- The platform's devices as they are, and its notes.
 use Rattle.std.specs.Prelude.{◌≡◌, ◌≢◌, ℕ, ◌+◌, true, false}
 use Rattle.pfr_flash.specs.FlashState.{FlashState, Rose}
+use Rattle.pfr_flash.specs.Holding.{HoldsBytes}
 use Rattle.pfr_flash.specs.Moved.{Moved}
 use Rattle.pfr_flash.specs.declared.flash.FlashFail.{FlashFail}
 use Rattle.pfr_flash.specs.declared.flash.FlashFail.TheVariants.{Fault, Lost}
@@ -33,6 +34,12 @@ pub record AllMoved (old new : World) : Type 0 where
   pub bmc : Moved old.bmc new.bmc
   pub pch : Moved old.pch new.pch
   pub nv : Moved old.nv new.nv
+
+-- all that the devices hold are bytes
+pub record AreDevices (w : World) : Type 0 where
+  pub bmc : HoldsBytes w.bmc
+  pub pch : HoldsBytes w.pch
+  pub nv : HoldsBytes w.nv
 
 -- each device has power
 pub record IsOn (w : World) : Type 0 where

@@ -6,3 +6,4 @@ pub mod Form2Law
 pub mod ChainLaw
 pub mod MovedLaw
 pub mod TypeLaw
+pub mod Found

@@ -1,10 +1,10 @@
 // Digests of a flash's bytes, which are read in pieces.
-ghost use Rattle.std.specs.Prelude.{◌≡◌, ℕ, ◌+◌, ◌≤◌, ◌++◌, List, OnOk, IfOk, IfErr};
+ghost use Rattle.std.specs.Prelude.{◌≡◌, ℕ, ◌+◌, ◌≤◌, ◌++◌, List, OnOk, IfOk, Some};
 ghost use Rattle.sha2.specs.Sha256.{sha256};
 ghost use Rattle.sha2.specs.Sha512.{sha384};
 ghost use Rattle.pfr_flash.specs.Bytes.{bytes_at};
 ghost use Rattle.pfr_flash.specs.FlashState.{now, size_of};
-ghost use Rattle.pfr_flash.specs.Reading.{OnlyReads, FailsReading};
+ghost use Rattle.pfr_flash.specs.Reading.{EndsAt, failed_by};
 
 use crate::both_hashers::{BothHashers, Digests};
 use pfr_flash::{Flash, FlashFail};
@@ -22,8 +22,7 @@ fn feed<F: Flash, H: Digest>(
 ) -> Result<(), FlashFail>
     requires { at + len ≤ size_of (F.device flash.old) }
     ensures fed { (m : List ℕ) → H.holds hasher.old m → OnOk result (H.holds hasher.new (m ++ bytes_at (now (F.device flash.old)) at len)) }
-    ensures reads { OnlyReads (F.device flash.old) (F.device flash.new) }
-    ensures failed { IfErr result (λ f. FailsReading f (F.device flash.old) (F.device flash.new)) }
+    ensures ends { EndsAt (failed_by (λ fail. Some fail) result) (F.device flash.old) (F.device flash.new) }
 {
     // Places in a flash fit a u32, as its size does.
     let _size = flash.size();
@@ -43,8 +42,7 @@ fn feed<F: Flash, H: Digest>(
 pub fn digest256_at<F: Flash>(flash: &mut F, at: u32, len: u32) -> Result<[u8; 32], FlashFail>
     requires { at + len ≤ size_of (F.device flash.old) }
     ensures digest { IfOk result (λ d. d ≡ sha256 (bytes_at (now (F.device flash.old)) at len)) }
-    ensures reads { OnlyReads (F.device flash.old) (F.device flash.new) }
-    ensures failed { IfErr result (λ f. FailsReading f (F.device flash.old) (F.device flash.new)) }
+    ensures ends { EndsAt (failed_by (λ fail. Some fail) result) (F.device flash.old) (F.device flash.new) }
 {
     let mut hasher = Sha256::new();
     feed(flash, at, len, &mut hasher)?;
@@ -55,8 +53,7 @@ pub fn digest256_at<F: Flash>(flash: &mut F, at: u32, len: u32) -> Result<[u8; 3
 pub fn digest384_at<F: Flash>(flash: &mut F, at: u32, len: u32) -> Result<[u8; 48], FlashFail>
     requires { at + len ≤ size_of (F.device flash.old) }
     ensures digest { IfOk result (λ d. d ≡ sha384 (bytes_at (now (F.device flash.old)) at len)) }
-    ensures reads { OnlyReads (F.device flash.old) (F.device flash.new) }
-    ensures failed { IfErr result (λ f. FailsReading f (F.device flash.old) (F.device flash.new)) }
+    ensures ends { EndsAt (failed_by (λ fail. Some fail) result) (F.device flash.old) (F.device flash.new) }
 {
     let mut hasher = Sha384::new();
     feed(flash, at, len, &mut hasher)?;
@@ -68,8 +65,7 @@ pub fn digests_at<F: Flash>(flash: &mut F, at: u32, len: u32) -> Result<Digests,
     requires { at + len ≤ size_of (F.device flash.old) }
     ensures first { IfOk result (λ d. d.sha256 ≡ sha256 (bytes_at (now (F.device flash.old)) at len)) }
     ensures second { IfOk result (λ d. d.sha384 ≡ sha384 (bytes_at (now (F.device flash.old)) at len)) }
-    ensures reads { OnlyReads (F.device flash.old) (F.device flash.new) }
-    ensures failed { IfErr result (λ f. FailsReading f (F.device flash.old) (F.device flash.new)) }
+    ensures ends { EndsAt (failed_by (λ fail. Some fail) result) (F.device flash.old) (F.device flash.new) }
 {
     let mut hasher = BothHashers::new();
     feed(flash, at, len, &mut hasher)?;

@@ -1,8 +1,8 @@
 // The judgement of a signature block and its content in a flash.
-ghost use Rattle.std.specs.Prelude.{◌≡◌, ◌+◌, ◌≤◌, length, IfOk, IfErr, Ok};
+ghost use Rattle.std.specs.Prelude.{◌≡◌, ◌+◌, ◌≤◌, length, IfOk, IfErr, Ok, Some};
 ghost use Rattle.pfr_flash.specs.FlashState.{now, size_of};
-ghost use Rattle.pfr_flash.specs.Reading.{OnlyReads, FailsReading};
-ghost use Rattle.pfr_chain.specs.Answer.{Answers, IsFound};
+ghost use Rattle.pfr_flash.specs.Reading.{EndsAt, failed_by};
+ghost use Rattle.pfr_chain.specs.Answer.{Answers, IsFound, chain_failure};
 ghost use Rattle.pfr_chain.specs.Fields.{number_at};
 ghost use Rattle.pfr_chain.specs.Types.{type_of};
 ghost use Rattle.pfr_chain.specs.Chain.{IsChain};
@@ -62,7 +62,7 @@ fn judged<F: Flash, E: Engine>(
     requires { place + len ≤ size_of (F.device flash.old) }
     ensures exact { let image = now (F.device flash.old) in
         Answers (F.device flash.old) (F.device flash.new) result (judge image place len want root.now cancelled.now (E.accepts engine.now)) }
-    ensures reads { OnlyReads (F.device flash.old) (F.device flash.new) }
+    ensures ends { EndsAt (failed_by chain_failure result) (F.device flash.old) (F.device flash.new) }
 {
     // Places in a flash fit a u32, as its size does.
     let _size = flash.size();
@@ -113,7 +113,7 @@ pub fn verify<F: Flash, E: Engine>(
     // Which cause it is: the first in order.
     ensures exact { let image = now (F.device flash.old) in
         Answers (F.device flash.old) (F.device flash.new) result (judge image place len want root.now cancelled.now (E.accepts engine.now)) }
-    ensures reads { OnlyReads (F.device flash.old) (F.device flash.new) }
+    ensures ends { EndsAt (failed_by chain_failure result) (F.device flash.old) (F.device flash.new) }
 {
     judged(flash, place, len, want, root, cancelled, engine)
 }
@@ -123,8 +123,7 @@ pub fn verify<F: Flash, E: Engine>(
 pub fn content_type<F: Flash>(flash: &mut F, place: u32) -> Result<Option<ContentType>, FlashFail>
     requires { place + 128 ≤ size_of (F.device flash.old) }
     ensures exact { IfOk result (λ found. found ≡ type_of (number_at (now (F.device flash.old)) (place + 8))) }
-    ensures failed { IfErr result (λ f. FailsReading f (F.device flash.old) (F.device flash.new)) }
-    ensures reads { OnlyReads (F.device flash.old) (F.device flash.new) }
+    ensures ends { EndsAt (failed_by (λ fail. Some fail) result) (F.device flash.old) (F.device flash.new) }
 {
     // Places in a flash fit a u32, as its size does.
     let _size = flash.size();

@@ -10,6 +10,8 @@ use Rattle.pfr_flash.specs.Flash.{Does, Reads, with_taken}
 use Rattle.pfr_flash.specs.Reading.{OnlyReads}
 use Rattle.pfr_flash.specs.declared.flash.FlashFail.{FlashFail}
 use Rattle.pfr_flash.specs.declared.flash.FlashFail.TheVariants.{Fault, Lost}
+use Rattle.pfr_flash.specs.Holding.{HoldsBytes}
+use Rattle.pfr_flash.proofs.HoldingLemmas.{tear_bytes}
 use Rattle.pfr_flash.proofs.EndingLemmas.{EndingOf, is_off, is_full, is_cut, is_broken, is_done, ending_of}
 use Rattle.pfr_flash.proofs.TearLemmas.{FitsIn, torn_by-torn}
 use Rattle.pfr_flash.proofs.PlayLemmas.{length-play}
@@ -222,9 +224,9 @@ worked_broken old op tear whole on room c f =
 fits_now : (old : FlashState) (op : Operation) → FitsIn (size_of old) op → FitsIn (length (now old)) op
 fits_now old op h = subst (λ (n : ℕ). FitsIn n op) (sym (length-play old.start old.ops)) h
 
-does_at : (op : Operation) (old : FlashState) (t : Ending) → EndingOf old t → IsWhole op → FitsIn (size_of old) op
+does_at : (op : Operation) (old : FlashState) (t : Ending) → EndingOf old t → IsWhole op → HoldsBytes old → FitsIn (size_of old) op
     → after op old ≡ after_ending op old t → answer old ≡ answer_at t → Does op old (after_ending op old t) (answer_at t)
-does_at op old Off (is_off off) whole fits a r = record {
+does_at op old Off (is_off off) whole holds fits a r = record {
   leaves = sym a;
   answers = sym r;
   ok = tt;
@@ -233,7 +235,7 @@ does_at op old Off (is_off off) whole fits a r = record {
   lost = (λ _. off, λ _. refl);
   worked = worked_still old old.faults old.taken old.read_due (omega arith) (omega arith) (inl refl) (none refl) (λ _. (refl, refl));
 }
-does_at op old Full (is_full on full) whole fits a r = record {
+does_at op old Full (is_full on full) whole holds fits a r = record {
   leaves = sym a;
   answers = sym r;
   ok = tt;
@@ -242,25 +244,25 @@ does_at op old Full (is_full on full) whole fits a r = record {
   lost = (λ h. cc, λ h. cc);
   worked = worked_still old (raised_by old.faults 1) old.taken old.read_due (omega arith) (omega arith) (inl refl) (no_room full) (λ off. absurd cc);
 }
-does_at op old (Cut tear) (is_cut on room c) whole fits a r = record {
+does_at op old (Cut tear) (is_cut on room c) whole holds fits a r = record {
   leaves = sym a;
   answers = sym r;
   ok = tt;
-  err = inr (record { done = torn_by tear (now old) op; torn = torn_by-torn (now old) tear op (fits_now old op fits); is = refl });
+  err = inr (record { done = torn_by tear (now old) op; torn = torn_by-torn (now old) tear op (tear_bytes old.cut_due _ tear c holds.cut) (fits_now old op fits); is = refl });
   fault = λ h. cc;
   lost = (λ _. refl, λ _. refl);
   worked = worked_cut old op tear whole on room c;
 }
-does_at op old (Broken tear) (is_broken on room c f) whole fits a r = record {
+does_at op old (Broken tear) (is_broken on room c f) whole holds fits a r = record {
   leaves = sym a;
   answers = sym r;
   ok = tt;
-  err = inr (record { done = torn_by tear (now old) op; torn = torn_by-torn (now old) tear op (fits_now old op fits); is = refl });
+  err = inr (record { done = torn_by tear (now old) op; torn = torn_by-torn (now old) tear op (tear_bytes old.fault_due _ tear f holds.fault) (fits_now old op fits); is = refl });
   fault = λ h. omega arith;
   lost = (λ h. cc, λ h. cc);
   worked = worked_broken old op tear whole on room c f;
 }
-does_at op old Done (is_done on room c f) whole fits a r = record {
+does_at op old Done (is_done on room c f) whole holds fits a r = record {
   leaves = sym a;
   answers = sym r;
   ok = refl;
@@ -271,14 +273,14 @@ does_at op old Done (is_done on room c f) whole fits a r = record {
 }
 
 -- what an implementation shows: what it leaves and what it answers
-pub does : (op : Operation) (old new : FlashState) (result : Result (Unit {0}) FlashFail) → IsWhole op → FitsIn (size_of old) op
+pub does : (op : Operation) (old new : FlashState) (result : Result (Unit {0}) FlashFail) → IsWhole op → HoldsBytes old → FitsIn (size_of old) op
     → new ≡ after_ending op old (ending old) → result ≡ answer_at (ending old) → Does op old new result
 unfolding after answer
-does op old new result whole fits n r =
-    rw (n, r) (does_at op old (ending old) (ending_of old) whole fits refl refl)
+does op old new result whole holds fits n r =
+    rw (n, r) (does_at op old (ending old) (ending_of old) whole holds fits refl refl)
 
 -- ---- a read
-only_still : (old : FlashState) (faults taken : ℕ) (read_due : Bool) → old.faults ≤ faults → old.taken ≤ taken
+pub only_still : (old : FlashState) (faults taken : ℕ) (read_due : Bool) → old.faults ≤ faults → old.taken ≤ taken
     → ((read_due ≡ old.read_due) ⊎ ReadFaulted old (record old { faults = faults; taken = taken; read_due = read_due }))
     → FaultCause old (record old { faults = faults; taken = taken; read_due = read_due })
     → (old.powered ≡ false → (faults ≡ old.faults) × (read_due ≡ old.read_due))
@@ -311,6 +313,7 @@ reads_ok old count on = record {
   lost = (λ h. cc, λ h. cc);
   reads = only_still old old.faults (raised_by old.taken count) old.read_due (omega arith) (omega arith) (inl refl) (none refl) (λ _. (refl, refl)) (λ h. (h, refl));
   cause = tt;
+  ends = record { leaves = refl; can = tt; taken = omega arith };
 }
 
 pub reads_lost : (old : FlashState) (count : ℕ) → old.powered ≡ false → Reads count old (with_taken old count) (Err Lost)
@@ -324,6 +327,7 @@ reads_lost old count off = record {
   lost = (λ _. off, λ _. refl);
   reads = only_still old old.faults (raised_by old.taken count) old.read_due (omega arith) (omega arith) (inl refl) (none refl) (λ _. (refl, refl)) (λ h. (h, refl));
   cause = off;
+  ends = record { leaves = refl; can = off; taken = omega arith };
 }
 
 pub reads_fault : (old : FlashState) (count : ℕ) → old.powered ≡ true → old.read_due ≡ true
@@ -340,4 +344,5 @@ reads_fault old count on due =
       lost = (λ h. cc, λ h. cc);
       reads = only_still old (raised_by old.faults 1) (raised_by old.taken count) false (omega arith) (omega arith) (inr faulted) (at_read faulted) (λ off. absurd cc) (λ off. absurd cc);
       cause = faulted;
+      ends = record { leaves = refl; can = (on, due); taken = omega arith };
     }

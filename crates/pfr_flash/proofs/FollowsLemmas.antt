@@ -1,16 +1,17 @@
 -- Calls that follow a plan, and such calls in a row.
-use Rattle.std.proofs.Common.{◌≡◌, ℕ, ◌≤◌, List, [], ◌∷◌, ◌++◌, refl, sym, ap, ◌∙◌, subst, arith, Result, Ok, Err, IfErr, append_assoc, ◌⊎◌, inl, inr, Bool, true, false}
+use Rattle.std.proofs.Common.{◌≡◌, ℕ, ◌≤◌, List, [], ◌∷◌, ◌++◌, refl, sym, ap, ◌∙◌, subst, arith, Some, Result, Ok, Err, IfErr, append_assoc, ◌⊎◌, inl, inr, Bool, true, false}
 use Rattle.std.proofs.lemmas.List.{append-nil}
 use Rattle.pfr_flash.specs.Operation.{Operation, applied, play, IsTorn}
 use Rattle.pfr_flash.specs.FlashState.{FlashState, now}
 use Rattle.pfr_flash.specs.Flash.{Does}
 use Rattle.pfr_flash.specs.Moved.{Worked}
-use Rattle.pfr_flash.specs.Reading.{OnlyReads, FailsReading}
-use Rattle.pfr_flash.specs.Plan.{IsPart, DoesPart, FailsWorking, Follows}
+use Rattle.pfr_flash.specs.Reading.{OnlyReads, FailsReading, EndsAt, failed_by}
+use Rattle.pfr_flash.specs.Plan.{IsPart, DoesPart, with_ops, FailsWorking, Follows}
 use Rattle.pfr_flash.specs.Range.{AllWithin, SameOutside}
 use Rattle.pfr_flash.specs.declared.flash.FlashFail.{FlashFail}
 use Rattle.pfr_flash.specs.declared.flash.FlashFail.TheVariants.{Fault, Lost}
 use Rattle.pfr_flash.proofs.MovedLemmas.{Worked-refl, Worked-trans}
+use Rattle.pfr_flash.proofs.EndsLemmas.{ends_reads, ends_fails}
 use Rattle.pfr_flash.proofs.PlayLemmas.{play-append}
 use Rattle.pfr_flash.proofs.PlanLemmas.{IsPart-none, IsPart-after, DoesPart-none, DoesPart-whole, DoesPart-err, DoesPart-outside}
 
@@ -47,10 +48,6 @@ pub FailsWorking-later : (f : FlashFail) (a b c : FlashState) → a.faults ≤ b
 FailsWorking-later Fault a b c le h = omega (arith, le, h)
 FailsWorking-later Lost a b c le h = h
 
-fails_reading : {A : Type 0} (old new : FlashState) (result : Result A FlashFail) → IfErr result (λ f. FailsReading f old new) → IfErr result (λ f. FailsWorking f old new)
-fails_reading old new (Ok x) h = tt
-fails_reading old new (Err f) h = FailsWorking-reading f old new h
-
 fails_later : {A : Type 0} (a b c : FlashState) (result : Result A FlashFail) → a.faults ≤ b.faults → IfErr result (λ f. FailsWorking f b c) → IfErr result (λ f. FailsWorking f a c)
 fails_later a b c (Ok x) le h = tt
 fails_later a b c (Err f) le h = FailsWorking-later f a b c le h
@@ -58,15 +55,37 @@ fails_later a b c (Err f) le h = FailsWorking-later f a b c le h
 -- ---- one call
 -- nothing to do
 pub Follows-none : {A : Type 0} (d : FlashState) (x : A) → Follows {A = A} [] d d (Ok x)
-Follows-none d x = record { ok = sym (append-nil d.ops); on = refl; part = DoesPart-none [] d; failed = tt; still = tt; worked = Worked-refl d }
+Follows-none d x = record { ok = sym (append-nil d.ops); on = refl; whole = ap (λ (ops : List Operation). record d { ops = ops }) (sym (append-nil d.ops)); part = DoesPart-none [] d; failed = tt; still = tt; worked = Worked-refl d }
 
 none_added : (old new : FlashState) → OnlyReads old new → DoesPart [] old new
 none_added old new h = record { added = []; is = h.ops ∙ sym (append-nil old.ops); part = tt }
 
+-- a call that only reads, and failed
+pub Follows-failed : {A : Type 0} (old new : FlashState) (f : FlashFail) → OnlyReads old new → FailsReading f old new → Follows {A = A} [] old new (Err f)
+Follows-failed old new f reads failed = record {
+  ok = tt;
+  on = tt;
+  whole = tt;
+  part = none_added old new reads;
+  failed = FailsWorking-reading f old new failed;
+  still = λ e. reads.powered;
+  worked = reads.worked;
+}
+
 -- a call that only reads
-pub Follows-reads : {A : Type 0} (old new : FlashState) (result : Result A FlashFail) → OnlyReads old new → IfErr result (λ f. FailsReading f old new) → Follows [] old new result
-Follows-reads old new (Ok x) h failed = record { ok = h.ops ∙ sym (append-nil old.ops); on = h.powered; part = none_added old new h; failed = tt; still = tt; worked = h.worked }
-Follows-reads old new (Err f) h failed = record { ok = tt; on = tt; part = none_added old new h; failed = FailsWorking-reading f old new failed; still = λ e. h.powered; worked = h.worked }
+pub Follows-reads : {A : Type 0} (old new : FlashState) (result : Result A FlashFail) → EndsAt (failed_by (λ fail. Some fail) result) old new → Follows [] old new result
+Follows-reads old new (Ok x) h =
+    let reads : OnlyReads old new = ends_reads h in
+    record {
+      ok = reads.ops ∙ sym (append-nil old.ops);
+      on = reads.powered;
+      whole = h.leaves ∙ ap (λ (ops : List Operation). record old { ops = ops; taken = new.taken }) (sym (append-nil old.ops));
+      part = none_added old new reads;
+      failed = tt;
+      still = tt;
+      worked = reads.worked;
+    }
+Follows-reads old new (Err f) h = Follows-failed old new f (ends_reads h) (ends_fails f old new h)
 
 -- an erase or a program
 why_failed : (op : Operation) (old new : FlashState) (f : FlashFail) → Does op old new (Err f) → FailsWorking f old new
@@ -91,12 +110,13 @@ pub Follows-does : (op : Operation) (old new : FlashState) (result : Result (Uni
 Follows-does op old new (Ok u) h = record {
   ok = ap (λ (d : FlashState). d.ops) h.ok;
   on = ap (λ (d : FlashState). d.powered) h.ok;
+  whole = h.ok ∙ ap (λ (n : ℕ). record (with_ops old (op ∷ [])) { taken = n }) (sym (ap (λ (d : FlashState). d.taken) h.ok));
   part = DoesPart-whole (op ∷ []) old new h.ok;
   failed = tt;
   still = tt;
   worked = h.worked;
 }
-Follows-does op old new (Err f) h = record { ok = tt; on = tt; part = DoesPart-err op [] old new f h; failed = why_failed op old new f h; still = still_on op old new f h; worked = h.worked }
+Follows-does op old new (Err f) h = record { ok = tt; on = tt; whole = tt; part = DoesPart-err op [] old new f h; failed = why_failed op old new f h; still = still_on op old new f h; worked = h.worked }
 
 -- ---- calls in a row
 -- the first was done, and then the next
@@ -105,6 +125,7 @@ pub Follows-then : {A B : Type 0} (plan next : List Operation) (a b c : FlashSta
 Follows-then plan next a b c x (Ok y) h k = record {
   ok = k.ok ∙ ap (λ (o : List Operation). o ++ next) h.ok ∙ append_assoc a.ops plan next;
   on = k.on ∙ h.on;
+  whole = k.whole ∙ ap (λ (d : FlashState). record d { ops = d.ops ++ next; taken = c.taken }) h.whole ∙ ap (λ (ops : List Operation). record a { ops = ops; taken = c.taken }) (append_assoc a.ops plan next);
   part = DoesPart-then plan next a b c h.worked.moved.start h.ok k.part;
   failed = tt;
   still = tt;
@@ -113,6 +134,7 @@ Follows-then plan next a b c x (Ok y) h k = record {
 Follows-then plan next a b c x (Err f) h k = record {
   ok = tt;
   on = tt;
+  whole = tt;
   part = DoesPart-then plan next a b c h.worked.moved.start h.ok k.part;
   failed = FailsWorking-later f a b c h.worked.moved.faults k.failed;
   still = λ e. k.still e ∙ h.on;
@@ -125,6 +147,7 @@ pub Follows-first : {A B : Type 0} (plan next : List Operation) (a b : FlashStat
 Follows-first plan next a b f h = record {
   ok = tt;
   on = tt;
+  whole = tt;
   part = record { added = h.part.added; is = h.part.is; part = IsPart-more (now a) plan next h.part.added h.part.part };
   failed = h.failed;
   still = h.still;
@@ -147,7 +170,7 @@ Follows-stop op plan a b done f result h e is =
 
 -- what is answered besides does not matter
 pub Follows-gives : {A B : Type 0} (plan : List Operation) (a b : FlashState) (x : A) (y : B) → Follows {A = A} plan a b (Ok x) → Follows {A = B} plan a b (Ok y)
-Follows-gives plan a b x y h = record { ok = h.ok; on = h.on; part = h.part; failed = tt; still = tt; worked = h.worked }
+Follows-gives plan a b x y h = record { ok = h.ok; on = h.on; whole = h.whole; part = h.part; failed = tt; still = tt; worked = h.worked }
 
 -- ---- the bytes
 -- at Ok they are those that the plan leaves

@@ -1,12 +1,15 @@
 pub mod BytesLemmas
+pub mod AreBytesLemmas
 pub mod PlayLemmas
 pub mod CellsLemmas
 pub mod EndingLemmas
+pub mod HoldingLemmas
 pub mod TearLemmas
 pub mod DoesLemmas
 pub mod MemLemmas
 pub mod MovedLemmas
 pub mod ReadingLemmas
+pub mod EndsLemmas
 pub mod RangeLemmas
 pub mod PlanLemmas
 pub mod FuseLemmas

@@ -1,20 +1,25 @@
 -- A flash in memory does what its trait says.
-use Rattle.std.proofs.Common.{◌≡◌, ℕ, ◌+◌, ◌-◌, Bool, true, false, eqb, ltb, List, [], length, refl, sym, ap, ◌∙◌, subst, arith, Option, Some, None, Result, Ok, Err, ◌⊎◌, inl, inr}
+use Rattle.std.proofs.Common.{◌≡◌, ℕ, ◌+◌, ◌-◌, Bool, true, false, eqb, ltb, List, [], ◌∷◌, ◌++◌, length, get_or, refl, sym, ap, ◌∙◌, subst, arith, Option, Some, None, Result, Ok, Err, ◌⊎◌, inl, inr}
 use Rattle.std.proofs.lemmas.Bool.{cases_Bool}
+use Rattle.std.proofs.lemmas.List.{get_or_append_left, get_or_push}
 use Rattle.std.proofs.lemmas.Bool.Decides.{nat_tests}
 use Rattle.pfr_flash.specs.Operation.{Operation}
 use Rattle.pfr_flash.specs.FlashState.{FlashState, Due, due_after, ending, ending_with, after_ending, answer_at, raised_by}
 use Rattle.pfr_flash.specs.Moved.{IsWhole}
 use Rattle.pfr_flash.specs.Flash.{Does, Reads}
 use Rattle.pfr_flash.specs.Cells.{CellsState}
-use Rattle.pfr_flash.specs.Rig.{due_of, arm_after, ending_at, cells_after, rig_after, device_of}
+use Rattle.pfr_flash.specs.Rig.{IsKnownArm, due_of, arm_after, ending_at, cells_after, rig_after, device_of}
 use Rattle.pfr_flash.specs.declared.rig.Arm.{Arm}
 use Rattle.pfr_flash.specs.declared.rig.Rig.{Rig}
 use Rattle.pfr_flash.specs.declared.rig.Outcome.{Outcome}
 use Rattle.pfr_flash.specs.declared.rig.Outcome.TheVariants.{Off, Full, Cut, Broken, Done}
 use Rattle.pfr_flash.specs.declared.flash.FlashFail.{FlashFail}
 use Rattle.pfr_flash.specs.declared.flash.FlashFail.TheVariants.{Fault, Lost}
+use Rattle.pfr_flash.specs.Bytes.{AreBytes}
+use Rattle.pfr_flash.specs.Holding.{HoldsBytes, WritesBytes, tear_of}
 use Rattle.pfr_flash.proofs.TearLemmas.{FitsIn}
+use Rattle.pfr_flash.proofs.AreBytesLemmas.{AreBytes-nil}
+use Rattle.pfr_flash.proofs.HoldingLemmas.{HoldsBytes-after}
 use Rattle.pfr_flash.proofs.DoesLemmas.{does, reads_ok, reads_lost, reads_fault}
 
 due_of-after : (tears : List (List ℕ)) (number : ℕ) (arm : Option Arm) → due_of tears (arm_after number arm) ≡ due_after number (due_of tears arm)
@@ -43,22 +48,44 @@ answer_any tears (Cut tear) = refl
 answer_any tears (Broken tear) = refl
 answer_any tears Done = refl
 
+-- what an erase or a program leaves
+mem_leaves : (op : Operation) (cells cells' : CellsState) (rig rig' : Rig) (taken read_fault count room : ℕ) (outcome : Outcome)
+    → ending_at cells.tears outcome ≡ ending_with rig.powered count room (due_of cells.tears rig.cut) (due_of cells.tears rig.fault)
+    → count ≡ length cells.ops → room ≡ cells.room
+    → cells' ≡ cells_after op cells outcome → rig' ≡ rig_after (count + 1) rig outcome
+    → device_of cells' rig' taken read_fault ≡ after_ending op (device_of cells rig taken read_fault) (ending (device_of cells rig taken read_fault))
+unfolding ending
+mem_leaves op cells cells' rig rig' taken read_fault count room outcome seen n r after_cells after_rig =
+    let endinged : ending_at cells.tears outcome ≡ ending (device_of cells rig taken read_fault) = rw (← n, ← r) seen in
+    rw (after_cells, after_rig, n, ← endinged) (device_after op cells rig taken read_fault outcome)
+
 pub mem_does : (op : Operation) (device : FlashState) (cells cells' : CellsState) (rig rig' : Rig) (taken read_fault count room : ℕ) (outcome : Outcome)
-    (result : Result (Unit {0}) FlashFail) → IsWhole op → FitsIn (length device.start) op
+    (result : Result (Unit {0}) FlashFail) → IsWhole op → HoldsBytes device → FitsIn (length device.start) op
     → device_of cells rig taken read_fault ≡ device
     → ending_at cells.tears outcome ≡ ending_with rig.powered count room (due_of cells.tears rig.cut) (due_of cells.tears rig.fault)
     → count ≡ length cells.ops → room ≡ cells.room
     → cells' ≡ cells_after op cells outcome → rig' ≡ rig_after (count + 1) rig outcome → result ≡ answer_at (ending_at [] outcome)
     → Does op device (device_of cells' rig' taken read_fault) result
 unfolding ending
-mem_does op device cells cells' rig rig' taken read_fault count room outcome result whole fits view seen n r after_cells after_rig answered =
+mem_does op device cells cells' rig rig' taken read_fault count room outcome result whole holds fits view seen n r after_cells after_rig answered =
     let old = device_of cells rig taken read_fault in
     let endinged : ending_at cells.tears outcome ≡ ending old = rw (← n, ← r) seen in
-    let left : device_of cells' rig' taken read_fault ≡ after_ending op old (ending old) =
-    rw (after_cells, after_rig, n, ← endinged) (device_after op cells rig taken read_fault outcome) in
+    let left = mem_leaves op cells cells' rig rig' taken read_fault count room outcome seen n r after_cells after_rig in
     let answer : result ≡ answer_at (ending old) = answered ∙ answer_any cells.tears outcome ∙ ap answer_at endinged in
     subst (λ (d : FlashState). Does op d (device_of cells' rig' taken read_fault) result) view
-    (does op old (device_of cells' rig' taken read_fault) result whole (subst (λ (d : FlashState). FitsIn (length d.start) op) (sym view) fits) left answer)
+    (does op old (device_of cells' rig' taken read_fault) result whole (subst HoldsBytes (sym view) holds) (subst (λ (d : FlashState). FitsIn (length d.start) op) (sym view) fits) left answer)
+
+-- and bytes are left where bytes were given
+pub mem_holds : (op : Operation) (cells cells' : CellsState) (rig rig' : Rig) (taken read_fault count room : ℕ) (outcome : Outcome)
+    → WritesBytes op → HoldsBytes (device_of cells rig taken read_fault)
+    → ending_at cells.tears outcome ≡ ending_with rig.powered count room (due_of cells.tears rig.cut) (due_of cells.tears rig.fault)
+    → count ≡ length cells.ops → room ≡ cells.room
+    → cells' ≡ cells_after op cells outcome → rig' ≡ rig_after (count + 1) rig outcome
+    → HoldsBytes (device_of cells' rig' taken read_fault)
+mem_holds op cells cells' rig rig' taken read_fault count room outcome writes holds seen n r after_cells after_rig =
+    let old = device_of cells rig taken read_fault in
+    subst HoldsBytes (sym (mem_leaves op cells cells' rig rig' taken read_fault count room outcome seen n r after_cells after_rig))
+    (HoldsBytes-after op old writes holds)
 
 -- ---- a read
 pub mem_reads_lost : (device : FlashState) (cells : CellsState) (rig : Rig) (taken taken' read_fault count : ℕ) → device_of cells rig taken read_fault ≡ device
@@ -85,3 +112,30 @@ mem_reads_fault device cells rig taken taken' read_fault read_fault' faults coun
     rw (t, counted) (subst (λ (b : Bool). Reads count device (record (device_of cells (record rig { faults = raised_by rig.faults 1 }) (raised_by taken count) read_fault) { read_due = b }) (Err Fault)) (sym gone)
     (subst (λ (d : FlashState). Reads count d (record (device_of cells (record rig { faults = raised_by rig.faults 1 }) (raised_by taken count) read_fault) { read_due = false }) (Err Fault)) view
     (reads_fault (device_of cells rig taken read_fault) count on due)))
+
+-- ---- arming
+-- a further tear changes no other arm
+arm_stays : (tears : List (List ℕ)) (tear : List ℕ) (arm : Option Arm) → IsKnownArm (length tears) arm → AreBytes (tear_of (due_of tears arm)) → AreBytes (tear_of (due_of (tears ++ tear ∷ []) arm))
+arm_stays tears tear None k h = h
+arm_stays tears tear (Some arm) k h = subst AreBytes (sym (get_or_append_left tears (tear ∷ []) [] arm.tear k)) h
+
+-- a device that a cut or a fault is armed in holds bytes, where the tear is of bytes
+pub arms_cut : (cells cells' : CellsState) (rig : Rig) (taken read_fault number place : ℕ) (tear : List ℕ) → HoldsBytes (device_of cells rig taken read_fault)
+    → IsKnownArm (length cells.tears) rig.fault → AreBytes tear → cells' ≡ record cells { tears = cells.tears ++ tear ∷ [] } → place ≡ length cells.tears
+    → HoldsBytes (device_of cells' (record rig { cut = Some (record { number = number; tear = place }) }) taken read_fault)
+arms_cut cells cells' rig taken read_fault number place tear h known bytes kept at = rw kept (record {
+  start = h.start;
+  ops = h.ops;
+  cut = subst AreBytes (sym (get_or_push cells.tears tear [] place (sym at))) bytes;
+  fault = arm_stays cells.tears tear rig.fault known h.fault;
+})
+
+pub arms_fault : (cells cells' : CellsState) (rig : Rig) (taken read_fault number place : ℕ) (tear : List ℕ) → HoldsBytes (device_of cells rig taken read_fault)
+    → IsKnownArm (length cells.tears) rig.cut → AreBytes tear → cells' ≡ record cells { tears = cells.tears ++ tear ∷ [] } → place ≡ length cells.tears
+    → HoldsBytes (device_of cells' (record rig { fault = Some (record { number = number; tear = place }) }) taken read_fault)
+arms_fault cells cells' rig taken read_fault number place tear h known bytes kept at = rw kept (record {
+  start = h.start;
+  ops = h.ops;
+  cut = arm_stays cells.tears tear rig.cut known h.cut;
+  fault = subst AreBytes (sym (get_or_push cells.tears tear [] place (sym at))) bytes;
+})

@@ -1,12 +1,15 @@
 -- What follows for a device from what its calls do.
-use Rattle.std.proofs.Common.{◌≡◌, ◌≢◌, ℕ, zero, suc, ◌+◌, ◌≤◌, Bool, true, false, eqb, List, [], ◌∷◌, ◌++◌, length, take, refl, sym, ap, ◌∙◌, arith, None, Ok, ◌⊎◌, inl, inr}
+use Rattle.std.proofs.Common.{◌≡◌, ◌≢◌, ℕ, zero, suc, ◌+◌, ◌≤◌, Bool, true, false, eqb, List, [], ◌∷◌, ◌++◌, length, take, refl, sym, ap, ◌∙◌, subst, arith, None, Ok, ◌⊎◌, inl, inr}
 use Rattle.std.proofs.lemmas.Bool.{cases_Bool, ne_eqb}
 use Rattle.std.proofs.lemmas.List.{take-append-le, append-nil}
+use Rattle.pfr_flash.specs.Bytes.{AreBytes}
+use Rattle.pfr_flash.specs.Holding.{HoldsBytes}
 use Rattle.pfr_flash.specs.Operation.{Operation, applied, play, IsTorn}
 use Rattle.pfr_flash.specs.FlashState.{FlashState, now, upto, op_count_of, due_at, ending, answer}
 use Rattle.pfr_flash.specs.Moved.{Extends, was_done, Moved, Worked, none}
 use Rattle.pfr_flash.specs.Plan.{IsPart}
 use Rattle.pfr_flash.proofs.PlayLemmas.{play-append}
+use Rattle.pfr_flash.proofs.HoldingLemmas.{upto_bytes}
 use Rattle.pfr_flash.proofs.DoesLemmas.{passed_same}
 use Rattle.pfr_flash.proofs.PlanLemmas.{IsPart-none}
 
@@ -59,6 +62,10 @@ pub upto-Extends : (old new : FlashState) (k : ℕ) → new.start ≡ old.start 
 upto-Extends old new k start more le =
     let front : take k new.ops ≡ take k old.ops = ap (λ (ops : List Operation). take k ops) more.is ∙ take-append-le k old.ops more.more le in
     ap (λ (s : List ℕ). play s (take k new.ops)) start ∙ ap (λ (ops : List Operation). play old.start ops) front
+
+-- What a device holds once calls were done tells what it held before them, at each of its moments.
+pub moved_bytes : (old new : FlashState) (k : ℕ) → Moved old new → HoldsBytes new → k ≤ op_count_of old → AreBytes (upto old k)
+moved_bytes old new k moved h within = subst AreBytes (upto-Extends old new k moved.start moved.ops within) (upto_bytes new k h)
 
 take-past : (ops more : List Operation) (j : ℕ) → take (length ops + j) (ops ++ more) ≡ ops ++ take j more
 take-past [] more j = let e : 0 + j ≡ j = omega arith in rw e refl

@@ -4,6 +4,7 @@ ghost use Rattle.pfr_flash.specs.Bytes.{bytes_at};
 ghost use Rattle.pfr_flash.specs.Operation.{Erase, Program};
 ghost use Rattle.pfr_flash.specs.FlashState.{FlashState, now, size_of, op_count_of};
 ghost use Rattle.pfr_flash.specs.Flash.{Does, Reads, IsInPage};
+ghost use Rattle.pfr_flash.specs.Holding.{HoldsBytes};
 
 use thiserror::Error;
 
@@ -69,4 +70,7 @@ pub trait Flash: Drop {
         requires page { IsInPage at (length bytes.now) }
         requires within { at + length bytes.now ≤ size_of (device self.old) }
         ensures { Does (Program at bytes.now) (device self.old) (device self.new) result };
+
+    /// All that a device holds are bytes.
+    ghost holds_bytes: { (flash : Self) → HoldsBytes (device flash) };
 }

@@ -5,7 +5,8 @@ ghost use Rattle.pfr_flash.specs.Operation.{Erase, Program};
 ghost use Rattle.pfr_flash.specs.FlashState.{now, size_of, op_count_of};
 ghost use Rattle.pfr_flash.specs.Flash.{Does, IsInPage, Reads, with_cut, with_fault};
 ghost use Rattle.pfr_flash.specs.Cells.{cells_now, CellsState};
-ghost use Rattle.pfr_flash.specs.Rig.{cells_after, IsFree, IsKnownOutcome};
+ghost use Rattle.pfr_flash.specs.Holding.{HoldsBytes};
+ghost use Rattle.pfr_flash.specs.Rig.{cells_after, device_of, IsFree, IsKnownOutcome};
 ghost use Rattle.pfr_flash.specs.MemFlash.{new_device, IsDeviceLen};
 
 use crate::bytes_of::copy_from;
@@ -25,6 +26,7 @@ pub struct MemFlash {
     rig: Rig,
     taken: u64,
     read_fault: u32,
+    ghost bytes: { HoldsBytes (device_of cells rig taken read_fault) },
 }
 
 impl Model for MemFlash {
@@ -111,6 +113,8 @@ fn program_at(cells: &mut Cells, at: u32, bytes: &[u8], outcome: Outcome)
 
 impl Flash for MemFlash {
     ghost device = { λ m. m.device };
+
+    ghost holds_bytes = { λ m. m.bytes };
 
     fn size(&self) -> u32 {
         self.cells.size()

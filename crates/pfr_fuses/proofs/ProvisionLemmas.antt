@@ -1,5 +1,5 @@
 -- What a provision leaves, whole or cut short.
-use Rattle.std.proofs.Common.{◌≡◌, ℕ, zero, suc, ◌+◌, ◌-◌, ◌*◌, ◌≤◌, ◌<◌, true, false, List, [], ◌∷◌, length, length-append, take, get_or, Result, Ok, Err, OnOk, IfErr, refl, sym, ap, ◌∙◌, subst, arith, bit_and, ◌⊎◌, inl, inr}
+use Rattle.std.proofs.Common.{◌≡◌, ℕ, zero, suc, ◌+◌, ◌-◌, ◌*◌, ◌≤◌, ◌<◌, true, false, List, [], ◌∷◌, length, length-append, take, get_or, None, Result, Ok, Err, OnOk, IfErr, refl, sym, ap, ◌∙◌, subst, arith, bit_and, ◌⊎◌, inl, inr}
 use Rattle.std.specs.Prelude.{◌≢◌}
 use Rattle.std.specs.Int.Bits.{and_zero_r}
 use Rattle.std.proofs.lemmas.Bool.{cases_Bool, cases_eq, cases_lt}
@@ -11,20 +11,21 @@ use Rattle.pfr_flash.specs.Moved.{Worked}
 use Rattle.pfr_flash.specs.Operation.{Operation, Program, applied, play, IsTorn}
 use Rattle.pfr_flash.specs.Plan.{IsPart, DoesPart, Follows}
 use Rattle.pfr_flash.specs.Range.{IsWithin, AllWithin, SameOutside}
-use Rattle.pfr_flash.specs.Reading.{OnlyReads}
+use Rattle.pfr_flash.specs.Reading.{OnlyReads, EndsAt}
 use Rattle.pfr_flash.specs.declared.names.Bank.{Bank}
 use Rattle.pfr_flash.specs.declared.names.Bank.TheVariants.{Bmc, Pch}
 use Rattle.pfr_flash.specs.declared.names.ContentType.{ContentType}
 use Rattle.pfr_flash.specs.declared.names.ContentType.TheVariants.{PchManifest, PchCapsule, BmcManifest, BmcCapsule}
 use Rattle.pfr_flash.specs.declared.flash.FlashFail.{FlashFail}
 use Rattle.pfr_flash.proofs.BytesLemmas.{length-bytes_at, get_or-bytes_at, bytes_at-written, and_bytes-ones, get_or-written_inside}
+use Rattle.pfr_flash.proofs.EndsLemmas.{ends_reads}
 use Rattle.pfr_flash.proofs.FollowsLemmas.{FailsWorking-reading, Follows-reads, Follows-then, Follows-first, Follows-now, DoesPart-now}
 use Rattle.pfr_flash.proofs.FuseLemmas.{applied-byte}
 use Rattle.pfr_flash.proofs.PlayLemmas.{length-applied}
 use Rattle.pfr_flash.proofs.PlanLemmas.{DoesPart-outside}
 use Rattle.pfr_flash.proofs.StateLemmas.{upto-added}
 use Rattle.pfr_flash.proofs.RangeLemmas.{SameOutside-applied, SameOutside-torn, SameOutside-refl, SameOutside-wider, then_outside, bytes_at-outside, length-now}
-use Rattle.pfr_fuses.specs.Answer.{Refuses}
+use Rattle.pfr_fuses.specs.Answer.{Refuses, fuse_failure}
 use Rattle.pfr_fuses.specs.RootSlot.{IsSlot, slot_of, slot_bytes, provision_in}
 use Rattle.pfr_fuses.specs.Slots.{IsSet, IsBlank, IsProvisionedBy, IsUnset, slot_at, is_blank}
 use Rattle.pfr_fuses.specs.FuseMap.{IsSigning, profile_of, floor_at, row_at}
@@ -50,9 +51,9 @@ same_cause : (other cause : FuseFail) → refused {A = ℕ} other ≡ refused ca
 same_cause other cause h = let e : other ≡ cause = cc in ap (λ (c : FuseFail). refused {A = Unit {0}} c) e
 
 -- the store was only read, and a cause was found or a read failed
-pub provisions-refused : (what : RootSlot) (old new : FlashState) (cause : FuseFail) (judged : Result ℕ FuseFail) → Refuses old new cause judged → OnlyReads old new → Provisions what old new (Err cause) judged
+pub provisions-refused : (what : RootSlot) (old new : FlashState) (cause : FuseFail) (judged : Result ℕ FuseFail) → Refuses old new cause judged → EndsAt (fuse_failure cause) old new → Provisions what old new (Err cause) judged
 provisions-refused what old new (Flash f) (Ok number) h reads =
-    let none : Follows {A = Unit {0}} [] old new (Err f) = Follows-reads old new (Err f) reads h in
+    let none : Follows {A = Unit {0}} [] old new (Err f) = Follows-reads old new (Err f) reads in
     Follows-first [] (provision_plan number what) old new f none
 provisions-refused what old new (Flash f) (Err other) h reads = (h, reads)
 provisions-refused what old new NotProvisioned (Ok number) h reads = absurd cc
@@ -64,17 +65,17 @@ provisions-refused what old new AlreadyProvisioned (Err other) h reads = (same_c
 provisions-refused what old new (LayoutBad bank rule) (Ok number) h reads = absurd cc
 provisions-refused what old new (LayoutBad bank rule) (Err other) h reads = (same_cause other (LayoutBad bank rule) h, reads)
 
-read_first : {A : Type 0} (plan : List Operation) (old middle new : FlashState) (result : Result A FlashFail) → OnlyReads old middle → Follows plan middle new result → Follows plan old new result
+read_first : {A : Type 0} (plan : List Operation) (old middle new : FlashState) (result : Result A FlashFail) → EndsAt None old middle → Follows plan middle new result → Follows plan old new result
 read_first plan old middle new result reads h =
-    let none : Follows {A = Unit {0}} [] old middle (Ok (tt {0})) = Follows-reads {A = Unit {0}} old middle (Ok (tt {0})) reads (tt {0}) in
+    let none : Follows {A = Unit {0}} [] old middle (Ok (tt {0})) = Follows-reads {A = Unit {0}} old middle (Ok (tt {0})) reads in
     Follows-then [] plan old middle new (tt {0}) result none h
 
 -- the slot was programmed, or a program failed
-pub provisions-done : (what : RootSlot) (old middle new : FlashState) (number : ℕ) (u : Unit {0}) (judged : Result ℕ FuseFail) → judged ≡ Ok number → OnlyReads old middle
+pub provisions-done : (what : RootSlot) (old middle new : FlashState) (number : ℕ) (u : Unit {0}) (judged : Result ℕ FuseFail) → judged ≡ Ok number → EndsAt None old middle
     → Follows (provision_plan number what) middle new (Ok u) → Provisions what old new (Ok tt) judged
 provisions-done what old middle new number u judged is reads h = rw is (read_first (provision_plan number what) old middle new (Ok u) reads h)
 
-pub provisions-failed : (what : RootSlot) (old middle new : FlashState) (number : ℕ) (f : FlashFail) (judged : Result ℕ FuseFail) → judged ≡ Ok number → OnlyReads old middle
+pub provisions-failed : (what : RootSlot) (old middle new : FlashState) (number : ℕ) (f : FlashFail) (judged : Result ℕ FuseFail) → judged ≡ Ok number → EndsAt None old middle
     → Follows {A = Unit {0}} (provision_plan number what) middle new (Err f) → Provisions what old new (Err (Flash f)) judged
 provisions-failed what old middle new number f judged is reads h = rw is (read_first (provision_plan number what) old middle new (Err f) reads h)
 
@@ -303,7 +304,7 @@ did_in_slots old new what bmc_size pch_size result slot (Ok number) is h =
       within = plan-slots what number slot can.slot.within;
       few = omega arith;
     }
-did_in_slots old new what bmc_size pch_size result slot (Err cause) is h = record { plan = []; did = reads_did old new h.1; programs = tt {0}; within = tt {0}; few = omega arith }
+did_in_slots old new what bmc_size pch_size result slot (Err cause) is h = record { plan = []; did = reads_did old new (ends_reads h.1); programs = tt {0}; within = tt {0}; few = omega arith }
 
 along_now : (old new : FlashState) (what : RootSlot) (number : ℕ) → size_of old ≡ 32768 → IsSlot what → IsFirstBlank (now old) number → Did (provision_plan number what) old new → Along (now old) what number (now new)
 along_now old new what number size slot first h =
@@ -347,15 +348,15 @@ provision_err old new what bmc_size pch_size (Err (Flash f)) size slot (Ok numbe
       what_is_left (now old) what number (length-now old ∙ size) can.slot.within slot can.slot.blank (now new) can.unset
           (along_now old new what number size slot can.slot (record { part = h.part; worked = h.worked })),
     )
-provision_err old new what bmc_size pch_size (Err (Flash f)) size slot (Err other) is h = (FailsWorking-reading f old new h.0, inr (inr h.1.content))
+provision_err old new what bmc_size pch_size (Err (Flash f)) size slot (Err other) is h = (FailsWorking-reading f old new h.0, inr (inr (ends_reads h.1).content))
 provision_err old new what bmc_size pch_size (Err NotProvisioned) size slot (Ok number) is h = absurd h
-provision_err old new what bmc_size pch_size (Err NotProvisioned) size slot (Err other) is h = (barred old new what bmc_size pch_size NotProvisioned other is h.0, h.1.content)
+provision_err old new what bmc_size pch_size (Err NotProvisioned) size slot (Err other) is h = (barred old new what bmc_size pch_size NotProvisioned other is h.0, (ends_reads h.1).content)
 provision_err old new what bmc_size pch_size (Err SlotsSpent) size slot (Ok number) is h = absurd h
-provision_err old new what bmc_size pch_size (Err SlotsSpent) size slot (Err other) is h = (barred old new what bmc_size pch_size SlotsSpent other is h.0, h.1.content)
+provision_err old new what bmc_size pch_size (Err SlotsSpent) size slot (Err other) is h = (barred old new what bmc_size pch_size SlotsSpent other is h.0, (ends_reads h.1).content)
 provision_err old new what bmc_size pch_size (Err AlreadyProvisioned) size slot (Ok number) is h = absurd h
-provision_err old new what bmc_size pch_size (Err AlreadyProvisioned) size slot (Err other) is h = (barred old new what bmc_size pch_size AlreadyProvisioned other is h.0, h.1.content)
+provision_err old new what bmc_size pch_size (Err AlreadyProvisioned) size slot (Err other) is h = (barred old new what bmc_size pch_size AlreadyProvisioned other is h.0, (ends_reads h.1).content)
 provision_err old new what bmc_size pch_size (Err (LayoutBad bank rule)) size slot (Ok number) is h = absurd h
-provision_err old new what bmc_size pch_size (Err (LayoutBad bank rule)) size slot (Err other) is h = (barred old new what bmc_size pch_size (LayoutBad bank rule) other is h.0, h.1.content)
+provision_err old new what bmc_size pch_size (Err (LayoutBad bank rule)) size slot (Err other) is h = (barred old new what bmc_size pch_size (LayoutBad bank rule) other is h.0, (ends_reads h.1).content)
 
 -- From the moment at which a slot is provisioned it stays as it is.
 pub KeepsProvision-slot : (old new : FlashState) (what : RootSlot) (number : ℕ) → size_of old ≡ 32768 → new.start ≡ old.start → IsSlot what → IsUnset (now old) → IsFirstBlank (now old) number
@@ -377,7 +378,7 @@ provision_keeps old new what bmc_size pch_size result size slot (Ok number) is h
     let can = judged-ok (now old) what bmc_size pch_size number is in
     let did = follows_did (provision_plan number what) old new result h in
     KeepsProvision-slot old new what number size did.worked.moved.start slot can.unset can.slot did.part
-provision_keeps old new what bmc_size pch_size result size slot (Err cause) is h = KeepsProvision-none old new h.1.ops
+provision_keeps old new what bmc_size pch_size result size slot (Err cause) is h = KeepsProvision-none old new (ends_reads h.1).ops
 
 slot_set : (old new : FlashState) (what : RootSlot) (number : ℕ) (result : Result (Unit {0}) FuseFail) → size_of old ≡ 32768 → IsSlot what → IsUnset (now old) → IsFirstBlank (now old) number
     → FollowsAs (provision_plan number what) old new result → OnOk result (IsProvisionedBy (now new) number)

@@ -2,8 +2,14 @@
 use Rattle.std.specs.Prelude.{◌≡◌, Option, Some, None, Result, Ok, Err}
 use Rattle.pfr_flash.specs.FlashState.{FlashState}
 use Rattle.pfr_flash.specs.Reading.{FailsReading}
+use Rattle.pfr_flash.specs.declared.flash.FlashFail.{FlashFail}
 use Rattle.pfr_fuses.specs.declared.fuse_fail.FuseFail.{FuseFail}
 use Rattle.pfr_fuses.specs.declared.fuse_fail.FuseFail.TheVariants.{Flash}
+
+-- the device's failure, where that is the cause
+abbrev pub fuse_failure : FuseFail → Option FlashFail
+fuse_failure (Flash fail) = Some fail
+fuse_failure cause = None
 
 -- a refusal is the judgement's cause, or a failed call's of the device
 abbrev pub Refuses : {Y : Type 0} → FlashState → FlashState → FuseFail → Result Y FuseFail → Type 0

@@ -5,12 +5,12 @@ use Rattle.pfr_flash.specs.FlashState.{FlashState, now}
 use Rattle.pfr_flash.specs.Layout.{IsValidLayout, judge_layout}
 use Rattle.pfr_flash.specs.Operation.{Operation, Program}
 use Rattle.pfr_flash.specs.Plan.{FailsWorking, Follows}
-use Rattle.pfr_flash.specs.Reading.{OnlyReads}
+use Rattle.pfr_flash.specs.Reading.{EndsAt, failed_by}
 use Rattle.pfr_flash.specs.declared.layout.LayoutRule.{LayoutRule}
 use Rattle.pfr_flash.specs.declared.names.Bank.{Bank}
 use Rattle.pfr_flash.specs.declared.names.Bank.TheVariants.{Bmc, Pch}
 use Rattle.pfr_flash.specs.declared.names.ContentType.{ContentType}
-use Rattle.pfr_fuses.specs.Answer.{Answers, known, ◌>>=◌}
+use Rattle.pfr_fuses.specs.Answer.{Answers, known, ◌>>=◌, fuse_failure}
 use Rattle.pfr_fuses.specs.FuseMap.{IsFloorBit, IsCancelBit, profile_of}
 use Rattle.pfr_fuses.specs.RootSlot.{slot_bytes, provision_in}
 use Rattle.pfr_fuses.specs.Slots.{IsBlank, IsProvisionedBy, IsUnset, HasBlank, slot_at, slots_from, is_set, is_blank}
@@ -90,7 +90,7 @@ FollowsAs plan old new (Err cause) = ⊥
 -- The provision is programmed in the slot that was judged. Where it is refused, the device is only read.
 abbrev pub Provisions : RootSlot → FlashState → FlashState → Result (Unit {0}) FuseFail → Result ℕ FuseFail → Type 0
 Provisions what old new result (Ok number) = FollowsAs (provision_plan number what) old new result
-Provisions what old new result (Err cause) = Answers old new result (Err cause) × OnlyReads old new
+Provisions what old new result (Err cause) = Answers old new result (Err cause) × EndsAt (failed_by fuse_failure result) old new
 
 -- ---- what it leaves
 -- a slot provisions the platform with this

@@ -1,8 +1,8 @@
 // The rows of fuses, read from a store of either profile.
-ghost use Rattle.std.specs.Prelude.{◌≡◌, ◌↔◌, ◌⊎◌, ℕ, ◌+◌, ◌<◌, ◌≤◌, IfOk, IfErr};
+ghost use Rattle.std.specs.Prelude.{◌≡◌, ◌↔◌, ◌⊎◌, ℕ, ◌+◌, ◌<◌, ◌≤◌, IfOk, IfErr, Some};
 ghost use Rattle.pfr_flash.specs.Bytes.{bytes_at, continued};
 ghost use Rattle.pfr_flash.specs.FlashState.{now, size_of};
-ghost use Rattle.pfr_flash.specs.Reading.{OnlyReads, FailsReading};
+ghost use Rattle.pfr_flash.specs.Reading.{EndsAt, failed_by};
 ghost use Rattle.pfr_fuses.specs.FuseMap.{IsSigning, profile_of};
 ghost use Rattle.pfr_fuses.specs.FusesOf.{floor_fuses, row_fuses};
 ghost use Rattle.pfr_fuses.specs.FusesState.{floor_in};
@@ -23,8 +23,7 @@ fn read_fuses<F: Flash, const BYTES: usize>(
     requires width { width ≤ BYTES }
     ensures found { IfOk result
         (λ row. row ≡ continued (bytes_at (now (F.device nv.old)) at width) BYTES) }
-    ensures reads { OnlyReads (F.device nv.old) (F.device nv.new) }
-    ensures failed { IfErr result (λ f. FailsReading f (F.device nv.old) (F.device nv.new)) }
+    ensures ends { EndsAt (failed_by (λ fail. Some fail) result) (F.device nv.old) (F.device nv.new) }
 {
     let mut bytes = [0xFF; BYTES];
     let kept = &mut bytes[..];
@@ -37,8 +36,7 @@ fn read_floor<F: Flash>(nv: &mut F, profile: Profile, bank: Bank) -> Result<Fuse
     requires size { size_of (F.device nv.old) ≡ 32768 }
     requires profile { profile ≡ profile_of (now (F.device nv.old)) }
     ensures found { IfOk result (λ row. row ≡ floor_fuses (now (F.device nv.old)) bank) }
-    ensures reads { OnlyReads (F.device nv.old) (F.device nv.new) }
-    ensures failed { IfErr result (λ f. FailsReading f (F.device nv.old) (F.device nv.new)) }
+    ensures ends { EndsAt (failed_by (λ fail. Some fail) result) (F.device nv.old) (F.device nv.new) }
 {
     read_fuses(nv, profile.floor_at(bank), profile.floor_width())
 }
@@ -53,8 +51,7 @@ fn read_row<F: Flash>(
     requires profile { profile ≡ profile_of (now (F.device nv.old)) }
     requires signing { IsSigning ty }
     ensures found { IfOk result (λ row. row ≡ row_fuses (now (F.device nv.old)) ty) }
-    ensures reads { OnlyReads (F.device nv.old) (F.device nv.new) }
-    ensures failed { IfErr result (λ f. FailsReading f (F.device nv.old) (F.device nv.new)) }
+    ensures ends { EndsAt (failed_by (λ fail. Some fail) result) (F.device nv.old) (F.device nv.new) }
 {
     read_fuses(nv, profile.row_at(ty), profile.row_width())
 }
@@ -106,8 +103,7 @@ impl Floors {
         requires size { size_of (F.device nv.old) ≡ 32768 }
         requires profile { profile ≡ profile_of (now (F.device nv.old)) }
         ensures found { IfOk result (FloorsOf (now (F.device nv.old))) }
-        ensures reads { OnlyReads (F.device nv.old) (F.device nv.new) }
-        ensures failed { IfErr result (λ f. FailsReading f (F.device nv.old) (F.device nv.new)) }
+        ensures ends { EndsAt (failed_by (λ fail. Some fail) result) (F.device nv.old) (F.device nv.new) }
     {
         let bmc = read_floor(nv, profile, Bank::Bmc)?;
         let pch = read_floor(nv, profile, Bank::Pch)?;
@@ -147,8 +143,7 @@ impl CancelRows {
         requires size { size_of (F.device nv.old) ≡ 32768 }
         requires profile { profile ≡ profile_of (now (F.device nv.old)) }
         ensures found { IfOk result (RowsOf (now (F.device nv.old))) }
-        ensures reads { OnlyReads (F.device nv.old) (F.device nv.new) }
-        ensures failed { IfErr result (λ f. FailsReading f (F.device nv.old) (F.device nv.new)) }
+        ensures ends { EndsAt (failed_by (λ fail. Some fail) result) (F.device nv.old) (F.device nv.new) }
     {
         let pch_manifest = read_row(nv, profile, ContentType::PchManifest)?;
         let pch_capsule = read_row(nv, profile, ContentType::PchCapsule)?;

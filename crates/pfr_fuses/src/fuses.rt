@@ -4,8 +4,8 @@ ghost use Rattle.pfr_flash.specs.FlashState.{now, size_of};
 ghost use Rattle.pfr_flash.specs.FuseRow.{IsCleared};
 ghost use Rattle.pfr_flash.specs.Plan.{Follows};
 ghost use Rattle.pfr_flash.specs.Range.{IsWithin, SameOutside};
-ghost use Rattle.pfr_flash.specs.Reading.{OnlyReads};
-ghost use Rattle.pfr_fuses.specs.Answer.{Answers};
+ghost use Rattle.pfr_flash.specs.Reading.{EndsAt, failed_by};
+ghost use Rattle.pfr_fuses.specs.Answer.{Answers, fuse_failure};
 ghost use Rattle.pfr_fuses.specs.Slots.{IsProvisionedBy, IsUnset, HasBlank, slot_at};
 ghost use Rattle.pfr_fuses.specs.FuseMap.{IsSigning, IsFloor, IsCancelled, profile_of, profile_number, floor_at, row_at};
 ghost use Rattle.pfr_fuses.specs.FusesState.{floor_of, row_of};
@@ -66,7 +66,7 @@ fn loaded<F: Flash>(nv: &mut F) -> Result<Fuses, FuseFail>
     requires { size_of (F.device nv.old) ≡ 32768 }
     ensures exact { Answers (F.device nv.old) (F.device nv.new) result
         (fuses_of (now (F.device nv.old))) }
-    ensures reads { OnlyReads (F.device nv.old) (F.device nv.new) }
+    ensures ends { EndsAt (failed_by fuse_failure result) (F.device nv.old) (F.device nv.new) }
 {
     let slot = provisioned_slot(nv)?;
     let profile = Profile::read(nv)?;
@@ -98,7 +98,7 @@ pub fn load<F: Flash>(nv: &mut F) -> Result<Fuses, FuseFail>
         Answers (F.device nv.old) (F.device nv.new) result (Err SlotsSpent) }
     ensures exact { Answers (F.device nv.old) (F.device nv.new) result
         (fuses_of (now (F.device nv.old))) }
-    ensures reads { OnlyReads (F.device nv.old) (F.device nv.new) }
+    ensures ends { EndsAt (failed_by fuse_failure result) (F.device nv.old) (F.device nv.new) }
 {
     loaded(nv)
 }

@@ -1,7 +1,7 @@
 // The two profiles of a store: where its fuses lie, and how many there are.
-ghost use Rattle.std.specs.Prelude.{◌≡◌, ◌+◌, ◌≤◌, IfOk, IfErr};
+ghost use Rattle.std.specs.Prelude.{◌≡◌, ◌+◌, ◌≤◌, IfOk, IfErr, Some};
 ghost use Rattle.pfr_flash.specs.FlashState.{now, size_of};
-ghost use Rattle.pfr_flash.specs.Reading.{OnlyReads, FailsReading};
+ghost use Rattle.pfr_flash.specs.Reading.{EndsAt, failed_by};
 ghost use Rattle.pfr_fuses.specs.FuseMap.{IsSigning, profile_of, profile_number, floor_at, floor_width, row_at, row_width};
 
 use pfr_flash::{Bank, ContentType, Flash, FlashFail};
@@ -23,8 +23,7 @@ impl Profile {
     pub fn read<F: Flash>(nv: &mut F) -> Result<Profile, FlashFail>
         requires { size_of (F.device nv.old) ≡ 32768 }
         ensures found { IfOk result (λ profile. profile ≡ profile_of (now (F.device nv.old))) }
-        ensures reads { OnlyReads (F.device nv.old) (F.device nv.new) }
-        ensures failed { IfErr result (λ f. FailsReading f (F.device nv.old) (F.device nv.new)) }
+        ensures ends { EndsAt (failed_by (λ fail. Some fail) result) (F.device nv.old) (F.device nv.new) }
     {
         let mut gate = [0];
         nv.read(PROFILE_GATE, &mut gate)?;

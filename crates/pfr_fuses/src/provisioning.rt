@@ -6,8 +6,8 @@ ghost use Rattle.pfr_flash.specs.Moved.{Worked};
 ghost use Rattle.pfr_flash.specs.Operation.{Program};
 ghost use Rattle.pfr_flash.specs.Plan.{Follows};
 ghost use Rattle.pfr_flash.specs.Range.{IsWithin, SameOutside};
-ghost use Rattle.pfr_flash.specs.Reading.{OnlyReads};
-ghost use Rattle.pfr_fuses.specs.Answer.{Answers};
+ghost use Rattle.pfr_flash.specs.Reading.{EndsAt, failed_by};
+ghost use Rattle.pfr_fuses.specs.Answer.{Answers, fuse_failure};
 ghost use Rattle.pfr_fuses.specs.RootSlot.{IsSlot};
 ghost use Rattle.pfr_fuses.specs.Growth.{Adds, AddsAtMost, KeepsProvision, NeverGoesBack, OnlyLoses};
 ghost use Rattle.pfr_fuses.specs.Slots.{IsProvisionedBy, is_blank};
@@ -34,7 +34,7 @@ fn first_blank<F: Flash>(nv: &mut F) -> Result<Option<u32>, FuseFail>
     requires { size_of (F.device nv.old) ≡ 32768 }
     ensures exact { Answers (F.device nv.old) (F.device nv.new) result
         (judge_slots (now (F.device nv.old))) }
-    ensures reads { OnlyReads (F.device nv.old) (F.device nv.new) }
+    ensures ends { EndsAt (failed_by fuse_failure result) (F.device nv.old) (F.device nv.new) }
 {
     let mut found = None;
     for number in 0..SLOTS {
@@ -88,7 +88,7 @@ fn judge_provision<F: Flash>(
     requires { size_of (F.device nv.old) ≡ 32768 }
     ensures exact { Answers (F.device nv.old) (F.device nv.new) result
         (judge_provision (now (F.device nv.old)) what.now bmc_size pch_size) }
-    ensures reads { OnlyReads (F.device nv.old) (F.device nv.new) }
+    ensures ends { EndsAt (failed_by fuse_failure result) (F.device nv.old) (F.device nv.new) }
 {
     let blank = first_blank(nv)?;
     judge_places(what, bmc_size, pch_size, blank)

@@ -1,8 +1,8 @@
 // The search for the slot that provisions the platform.
 ghost use Rattle.std.specs.Prelude.{◌≡◌};
 ghost use Rattle.pfr_flash.specs.FlashState.{now, size_of};
-ghost use Rattle.pfr_flash.specs.Reading.{OnlyReads};
-ghost use Rattle.pfr_fuses.specs.Answer.{Answers};
+ghost use Rattle.pfr_flash.specs.Reading.{EndsAt, failed_by};
+ghost use Rattle.pfr_fuses.specs.Answer.{Answers, fuse_failure};
 ghost use Rattle.pfr_fuses.specs.Slots.{is_set, is_blank, provisioned_slot};
 
 use crate::fuse_fail::FuseFail;
@@ -36,7 +36,7 @@ pub fn provisioned_slot<F: Flash>(nv: &mut F) -> Result<[u8; SLOT_LEN as usize],
     requires { size_of (F.device nv.old) ≡ 32768 }
     ensures exact { Answers (F.device nv.old) (F.device nv.new) result
         (provisioned_slot (now (F.device nv.old))) }
-    ensures reads { OnlyReads (F.device nv.old) (F.device nv.new) }
+    ensures ends { EndsAt (failed_by fuse_failure result) (F.device nv.old) (F.device nv.new) }
 {
     let mut has_blank = false;
     for number in 0..SLOTS {

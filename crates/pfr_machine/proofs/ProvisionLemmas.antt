@@ -34,7 +34,7 @@ use Rattle.pfr_machine.specs.Checks.{provision_ops, provision_note}
 
 -- what would be answered does not matter where the call failed
 Follows-first_only : (plan : List Operation) (old new : FlashState) (fail : FlashFail) → FollowsPlan {A = Unit {0}} plan old new (Err fail) → FollowsPlan {A = What} plan old new (Err fail)
-Follows-first_only plan old new fail p = record { ok = tt; on = tt; part = p.part; failed = p.failed; still = p.still; worked = p.worked }
+Follows-first_only plan old new fail p = record { ok = tt; on = tt; whole = tt; part = p.part; failed = p.failed; still = p.still; worked = p.worked }
 
 -- ---- the answer of the call, as what is noted
 module _ (what : RootSlot) (old new : FlashState) (note : What) where
@@ -47,23 +47,23 @@ module _ (what : RootSlot) (old new : FlashState) (note : What) where
 
   pub ended_failed : (j : Result ℕ FuseFail) (fail : FlashFail) → Provisions what old new (Err (fuse.Flash fail)) j → FollowsPlan {A = What} (provision_ops what j) old new (Err fail)
   ended_failed (Ok number) fail p = Follows-first_only (provision_plan number what) old new fail p
-  ended_failed (Err cause) fail p = Follows-reads old new (Err fail) p.1 p.0
+  ended_failed (Err cause) fail p = Follows-reads old new (Err fail) p.1
 
   pub ended_already : (j : Result ℕ FuseFail) → Provisions what old new (Err fuse.AlreadyProvisioned) j → FollowsPlan (provision_ops what j) old new (Ok note)
   ended_already (Ok number) p = absurd p
-  ended_already (Err cause) p = Follows-reads old new (Ok note) p.1 tt
+  ended_already (Err cause) p = Follows-reads old new (Ok note) p.1
 
   pub ended_layout : (j : Result ℕ FuseFail) (b : Bank) (rule : LayoutRule) → Provisions what old new (Err (fuse.LayoutBad b rule)) j → FollowsPlan (provision_ops what j) old new (Ok note)
   ended_layout (Ok number) b rule p = absurd p
-  ended_layout (Err cause) b rule p = Follows-reads old new (Ok note) p.1 tt
+  ended_layout (Err cause) b rule p = Follows-reads old new (Ok note) p.1
 
   pub ended_spent : (j : Result ℕ FuseFail) → Provisions what old new (Err fuse.SlotsSpent) j → FollowsPlan (provision_ops what j) old new (Ok note)
   ended_spent (Ok number) p = absurd p
-  ended_spent (Err cause) p = Follows-reads old new (Ok note) p.1 tt
+  ended_spent (Err cause) p = Follows-reads old new (Ok note) p.1
 
   pub ended_unset : (j : Result ℕ FuseFail) → Provisions what old new (Err fuse.NotProvisioned) j → FollowsPlan (provision_ops what j) old new (Ok note)
   ended_unset (Ok number) p = absurd p
-  ended_unset (Err cause) p = Follows-reads old new (Ok note) p.1 tt
+  ended_unset (Err cause) p = Follows-reads old new (Ok note) p.1
 
 cause_is : (a b : FuseFail) (r : Result (Unit {0}) FuseFail) → r ≡ Err a → r ≡ Err b → a ≡ b
 cause_is a b r e f = cc

@@ -13,7 +13,7 @@ use Rattle.pfr_flash.specs.declared.names.Bank.{Bank}
 use Rattle.pfr_flash.specs.declared.names.Bank.TheVariants as bank
 use Rattle.pfr_flash.specs.declared.names.Device.{Device}
 use Rattle.pfr_flash.specs.declared.names.Device.TheVariants as device
-use Rattle.pfr_flash.proofs.FollowsLemmas.{Follows-none, Follows-reads}
+use Rattle.pfr_flash.proofs.FollowsLemmas.{Follows-none, Follows-failed}
 use Rattle.pfr_engine.specs.Acceptance.{Acceptance}
 use Rattle.pfr_fuses.specs.FusesOf.{fuses_of}
 use Rattle.pfr_fuses.specs.FusesState.{FusesState}
@@ -73,7 +73,7 @@ module _ {E : Type 0} (which : Device) (d : FlashState) (old new : PlatformState
   pub read_stopped : (fail : FlashFail) → IsOn old.world → FailsReading fail (state_at which old.world) (state_at which new.world) → Stopped [] which fail old.world new.world
   read_stopped fail on failed =
       Stopped-follows (Unit {0}) which [] fail old.world new.world (only_at which d old new e) (powered_at which old.world on) (still fail on)
-      (Follows-reads {A = Unit {0}} (state_at which old.world) (state_at which new.world) (Err fail) reads failed)
+      (Follows-failed {A = Unit {0}} (state_at which old.world) (state_at which new.world) fail reads failed)
 
 -- what is found of a bank is what its contents say
 pub found_at : (accepts : Acceptance) (which : Bank) (w : World) (found : Result FusesState FuseFail) (a : Authentication)

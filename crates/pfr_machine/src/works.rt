@@ -8,7 +8,7 @@ ghost use Rattle.pfr_report.specs.Texts.{AllText, HasText};
 ghost use Rattle.pfr_report.specs.declared.note.What.{What};
 ghost use Rattle.pfr_report.specs.declared.note.What.TheVariants.{Held, Locked, Lost};
 ghost use Rattle.pfr_calm.specs.Story.{Says, counts_of};
-ghost use Rattle.pfr_calm.specs.World.{story_of, IsOn, IsDark, SameDevices};
+ghost use Rattle.pfr_calm.specs.World.{AreDevices, story_of, IsOn, IsDark, SameDevices};
 ghost use Rattle.pfr_calm.specs.Goes.{Ran};
 ghost use Rattle.pfr_calm.specs.Turn.{unreadable};
 ghost use Rattle.pfr_machine.specs.PlatformState.{AddsNotes, with_note, switched, SameStore};
@@ -57,6 +57,13 @@ impl<F: Flash, E: Engine + Drop> Works<F, E> {
             pch: self.pch.op_count(),
             nv: self.nv.op_count(),
         }
+    }
+
+    /// All that the devices hold are bytes. This does nothing.
+    pub fn known(&self)
+        ensures { AreDevices self.now.world }
+    {
+        let _ = &self.bmc;
     }
 
     // Appends a note of the item that is being done.

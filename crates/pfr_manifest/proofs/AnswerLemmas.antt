@@ -1,11 +1,11 @@
 -- Answers of calls over a flash.
-use Rattle.std.proofs.Common.{◌≡◌, Result, Ok, Err, IfErr, OnOk, sym, ◌∙◌}
+use Rattle.std.proofs.Common.{◌≡◌, Result, Ok, Err, IfErr, None, sym, ◌∙◌}
 use Rattle.pfr_flash.specs.FlashState.{FlashState}
-use Rattle.pfr_flash.specs.Reading.{OnlyReads}
+use Rattle.pfr_flash.specs.Reading.{OnlyReads, EndsAt, failed_by}
 use Rattle.pfr_flash.proofs.ReadingLemmas.{FailsReading-later, OnlyReads-refl}
 use Rattle.pfr_manifest.specs.declared.fail.ManifestFail.{ManifestFail}
 use Rattle.pfr_manifest.specs.declared.fail.ManifestFail.TheVariants.{Flash}
-use Rattle.pfr_manifest.specs.Answer.{IsFound, Refuses, Answers}
+use Rattle.pfr_manifest.specs.Answer.{IsFound, manifest_failure, Refuses, Answers}
 
 -- a cause that is found is no failure of the device
 pub refuses_found : {Y : Type 0} (old new : FlashState) (cause : ManifestFail) (judged : Result Y ManifestFail) → judged ≡ Err cause → IsFound cause → Refuses old new cause judged
@@ -16,10 +16,11 @@ pub answers_found : {Y : Type 0} (old new : FlashState) (r judged : Result Y Man
 answers_found old new (Ok x) judged e found = sym e
 answers_found old new (Err cause) judged e found = refuses_found old new cause judged (sym e) found
 
--- what holds at any rate holds at Ok
-pub ok_always : {Y P : Type 0} (r : Result Y ManifestFail) → P → OnOk r P
-ok_always (Ok x) p = p
-ok_always (Err cause) p = tt
+-- an answer that is found tells no failure of the device
+pub found_ends : {Y : Type 0} (r : Result Y ManifestFail) {old new : FlashState} → IfErr r IsFound → EndsAt None old new → EndsAt (failed_by manifest_failure r) old new
+found_ends (Ok x) found h = h
+found_ends (Err (Flash f)) found h = absurd found
+found_ends (Err _) found h = h
 
 -- a refusal of a part, after calls that only read, is one of the whole
 pub refuses_later : {X Y : Type 0} (old mid new : FlashState) (cause : ManifestFail) (part : Result X ManifestFail) (whole : Result Y ManifestFail) →

@@ -1,11 +1,12 @@
 -- Reading entries from a flash, one after the other.
-use Rattle.std.proofs.Common.{◌≡◌, ℕ, suc, ◌+◌, ◌-◌, ◌<◌, ◌≤◌, List, [], ◌∷◌, ◌++◌, length, take, drop, Result, Ok, Err, sym, ap, ◌∙◌, arith, subst, length-drop}
-use Rattle.std.proofs.lemmas.List.{drop-drop, drop_all, take_all}
+use Rattle.std.proofs.Common.{◌≡◌, ℕ, suc, ◌+◌, ◌-◌, ◌<◌, ◌≤◌, List, [], ◌∷◌, ◌++◌, length, take, drop, Result, Ok, Err, None, sym, ap, ◌∙◌, arith, length-drop}
+use Rattle.std.proofs.lemmas.List.{drop-drop, drop_all}
 use Rattle.pfr_flash.specs.Bytes.{bytes_at}
 use Rattle.pfr_flash.specs.FlashState.{FlashState, now, size_of}
-use Rattle.pfr_flash.specs.Reading.{OnlyReads}
+use Rattle.pfr_flash.specs.Reading.{OnlyReads, EndsAt}
 use Rattle.pfr_flash.specs.declared.layout.Layout.{Layout}
 use Rattle.pfr_flash.proofs.RangeLemmas.{length-now}
+use Rattle.pfr_flash.proofs.EndsLemmas.{ends_reads, ends_content}
 use Rattle.pfr_flash.proofs.ReadingLemmas.{then_reads}
 use Rattle.pfr_manifest.specs.declared.manifest.Manifest.{Manifest}
 use Rattle.pfr_manifest.specs.declared.region.Region.{Region}
@@ -14,10 +15,9 @@ use Rattle.pfr_manifest.specs.declared.entry.Entry.{Entry}
 use Rattle.pfr_manifest.specs.declared.entry.Entry.TheVariants as entries
 use Rattle.pfr_manifest.specs.declared.fail.ManifestFail.{ManifestFail}
 use Rattle.pfr_manifest.specs.Answer.{Refuses}
-use Rattle.pfr_manifest.specs.Fields.{AreBytes, AreBytesBelow}
 use Rattle.pfr_manifest.specs.Judging.{◌>>◌}
 use Rattle.pfr_manifest.specs.Judge.{judge_entry, judge_tail, judge_entries, turns_left, region_len, with_region, with_rule}
-use Rattle.pfr_manifest.proofs.Pieces.{length-bytes_at, drop-bytes_at, more_below, all_below}
+use Rattle.pfr_manifest.proofs.Pieces.{length-bytes_at, drop-bytes_at}
 use Rattle.pfr_manifest.proofs.AnswerLemmas.{refuses_later}
 use Rattle.pfr_manifest.proofs.EntryLemmas.{judge_none, step_err, step_tail, step_region, step_rule, turns_some, turns-region, turns-rule}
 
@@ -27,8 +27,7 @@ pub record IsReading (old mid : FlashState) (place size at : ℕ) (m : Manifest)
   pub few_regions : length m.regions ≤ 64
   pub few_rules : length m.rules ≤ 64
   pub exact : judge_entries (turns_left m) (drop at (bytes_at (now old) place size)) at m layout bank ≡ all
-  pub bytes : AreBytesBelow at (bytes_at (now old) place size)
-  pub reads : OnlyReads old mid
+  pub ends : EndsAt None old mid
 
 -- the judgement of the entry at the place
 abbrev pub entry_there : FlashState → ℕ → ℕ → ℕ → Manifest → Layout → ℕ → Result Entry ManifestFail
@@ -49,10 +48,10 @@ module _ {old mid : FlashState} {place size at : ℕ} {m : Manifest} {layout : L
   turns_more = turns_some m r.few_regions r.few_rules
 
   judged_here : (result : Result Entry ManifestFail) → entry_there mid place size at m layout bank ≡ result → judge_entry (take 64 (drop at (bytes_at (now old) place size))) at m layout bank ≡ result
-  judged_here result h = ap (λ rest. judge_entry (take 64 rest) at m layout bank) (sym (left_is mid r.reads.content)) ∙ h
+  judged_here result h = ap (λ rest. judge_entry (take 64 rest) at m layout bank) (sym (left_is mid (ends_content r.ends))) ∙ h
 
   pub entry_refused : (new : FlashState) (cause : ManifestFail) → at < size → Refuses mid new cause (entry_there mid place size at m layout bank) → Refuses old new cause all
-  entry_refused new cause left = refuses_later old mid new cause _ all r.reads
+  entry_refused new cause left = refuses_later old mid new cause _ all (ends_reads r.ends)
       (λ e. sym r.exact ∙ step_err (turns_left m) _ _ at m layout bank turns_more (some_left left) cause (judged_here (Err cause) e))
 
   pub tail_judged : (later : FlashState) (result : Result (Unit {0}) ManifestFail) → at < size → entry_there mid place size at m layout bank ≡ Ok entries.Tail → now later ≡ now old
@@ -63,19 +62,8 @@ module _ {old mid : FlashState} {place size at : ℕ} {m : Manifest} {layout : L
 
   pub tail_refused : (later new : FlashState) (cause : ManifestFail) → at < size → entry_there mid place size at m layout bank ≡ Ok entries.Tail → OnlyReads mid later
       → Refuses later new cause (judge_tail (bytes_at (now later) (place + at) (size - at))) → Refuses old new cause all
-  tail_refused later new cause left h reads = refuses_later old later new cause _ all (then_reads r.reads reads)
-      (λ e. tail_judged later (Err cause) left h (reads.content ∙ r.reads.content) e)
-
-  pub tail_bytes : (later : FlashState) → at < size → now later ≡ now mid → AreBytes (bytes_at (now later) (place + at) (size - at)) → AreBytes (bytes_at (now old) place size)
-  tail_bytes later left content h =
-      let bytes : List ℕ = bytes_at (now old) place size in
-      let long = length-all old place size fits in
-      let same : bytes_at (now later) (place + at) (size - at) ≡ take (size - at) (drop at bytes) =
-      left_is later (content ∙ r.reads.content) ∙ sym (take_all (size - at) (drop at bytes) (omega (arith, length-drop at bytes, long))) in
-      all_below bytes (at + (size - at)) (omega arith) (more_below bytes at (size - at) (size - at) (omega arith) r.bytes (subst AreBytes same h))
-
-  pub piece_bytes : (len : ℕ) → len ≤ 64 → AreBytes (take 64 (bytes_at (now mid) (place + at) (size - at))) → AreBytesBelow (at + len) (bytes_at (now old) place size)
-  piece_bytes len h piece = more_below (bytes_at (now old) place size) at len 64 h r.bytes (subst (λ rest. AreBytes (take 64 rest)) (left_is mid r.reads.content) piece)
+  tail_refused later new cause left h reads = refuses_later old later new cause _ all (then_reads (ends_reads r.ends) reads)
+      (λ e. tail_judged later (Err cause) left h (reads.content ∙ (ends_content r.ends)) e)
 
   pub region_read : (region : Region) (regions : List Region) (len : ℕ) → at < size → entry_there mid place size at m layout bank ≡ Ok (entries.Region region)
       → length m.regions < 64 → regions ≡ m.regions ++ region ∷ [] → len ≡ region_len region
@@ -93,10 +81,8 @@ module _ {old mid : FlashState} {place size at : ℕ} {m : Manifest} {layout : L
       let d : drop 40 (drop at (bytes_at (now old) place size)) ≡ drop (at + 40) (bytes_at (now old) place size) = drop-drop 40 at (bytes_at (now old) place size) in
       rw (pushed, ← d) (sym s ∙ r.exact)
 
-  pub none_left : size ≤ at → (all ≡ Ok m) × AreBytes (bytes_at (now old) place size)
+  pub none_left : size ≤ at → all ≡ Ok m
   none_left h =
       let long = length-all old place size fits in
-      let e : drop at (bytes_at (now old) place size) ≡ [] = drop_all at (bytes_at (now old) place size) (omega arith) in (
-        sym r.exact ∙ ap (λ rest. judge_entries (turns_left m) rest at m layout bank) e ∙ judge_none (turns_left m) at m layout bank,
-        all_below (bytes_at (now old) place size) at (omega arith) r.bytes,
-      )
+      let e : drop at (bytes_at (now old) place size) ≡ [] = drop_all at (bytes_at (now old) place size) (omega arith) in
+      sym r.exact ∙ ap (λ rest. judge_entries (turns_left m) rest at m layout bank) e ∙ judge_none (turns_left m) at m layout bank

@@ -5,7 +5,8 @@ use Rattle.std.proofs.lemmas.Bool.{cases_lt}
 use Rattle.std.proofs.lemmas.Nat.{le_bytes_4}
 use Rattle.byteorder.specs.Endian.{little_bytes, little_number}
 use Rattle.byteorder.specs.Numbers.{little_number-reads_back, little_from-lt}
-use Rattle.pfr_manifest.specs.Fields.{AreBytes, field, number_at}
+use Rattle.pfr_flash.specs.Bytes.{AreBytes}
+use Rattle.pfr_manifest.specs.Fields.{field, number_at}
 
 pub AreBytes-take : (n : ℕ) (bytes : List ℕ) → AreBytes bytes → AreBytes (take n bytes)
 AreBytes-take n bytes h = λ i. ⊎_elim (λ k. within i k) (λ k. past i k) (cases_lt i n)

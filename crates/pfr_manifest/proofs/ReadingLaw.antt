@@ -13,7 +13,7 @@ use Rattle.pfr_manifest.specs.declared.entry.Entry.TheVariants as entries
 use Rattle.pfr_manifest.specs.declared.fail.ManifestFail.{ManifestFail}
 use Rattle.pfr_manifest.specs.declared.fail.ManifestFail.TheVariants.{Tail}
 use Rattle.pfr_manifest.specs.Judging.{◌>>=◌, ◌>>◌}
-use Rattle.pfr_manifest.specs.Fields.{AreBytes}
+use Rattle.pfr_flash.specs.Bytes.{AreBytes}
 use Rattle.pfr_manifest.specs.Regions.{IsRegion, IsInOrder}
 use Rattle.pfr_manifest.specs.Spelling.{header_bytes, region_bytes, rule_bytes, body_bytes}
 use Rattle.pfr_manifest.specs.Manifest.{IsWide, IsRegionWide, IsRuleWide, IsManifestOf}

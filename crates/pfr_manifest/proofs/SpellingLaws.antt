@@ -8,7 +8,8 @@ use Rattle.pfr_manifest.specs.declared.region.Region.{Region}
 use Rattle.pfr_manifest.specs.declared.region.RegionHash.{RegionHash}
 use Rattle.pfr_manifest.specs.declared.region.RegionHash.TheVariants as hashes
 use Rattle.pfr_manifest.specs.declared.rule.Rule.{Rule}
-use Rattle.pfr_manifest.specs.Fields.{AreBytes, field, number_at}
+use Rattle.pfr_flash.specs.Bytes.{AreBytes}
+use Rattle.pfr_manifest.specs.Fields.{field, number_at}
 use Rattle.pfr_manifest.specs.Regions.{IsDigest}
 use Rattle.pfr_manifest.specs.Spelling.{magic, hash_info, digest_of, header_bytes, region_bytes, rule_bytes}
 use Rattle.pfr_manifest.specs.Manifest.{IsHeaderWide, IsRegionWide, IsRuleWide}

@@ -1,5 +1,5 @@
 -- Fields of a list of bytes, by place.
-use Rattle.std.specs.Prelude.{ℕ, ◌+◌, ◌<◌, List, slice_index, slice_range}
+use Rattle.std.specs.Prelude.{ℕ, ◌+◌, List, slice_range}
 use Rattle.byteorder.specs.Endian.{little_number}
 
 -- so many bytes from a place on
@@ -9,10 +9,3 @@ field bytes at count = slice_range bytes at (at + count)
 -- the number in so many bytes from a place on, the lowest first
 unfoldable pub number_at : List ℕ → ℕ → ℕ → ℕ
 number_at bytes at count = little_number count (field bytes at count)
-
--- all numbers of the list, or those below a place, are bytes
-abbrev pub AreBytes : List ℕ → Type 0
-AreBytes bytes = (i : ℕ) → slice_index bytes i < 256
-
-abbrev pub AreBytesBelow : ℕ → List ℕ → Type 0
-AreBytesBelow place bytes = (i : ℕ) → i < place → slice_index bytes i < 256

@@ -1,7 +1,6 @@
 // What may stand at a place behind a manifest's header.
 ghost use Rattle.std.specs.Prelude.{◌≡◌, ◌<◌, ◌≤◌, length, IfOk, IfErr};
 ghost use Rattle.pfr_manifest.specs.Answer.{IsFound};
-ghost use Rattle.pfr_manifest.specs.Fields.{AreBytes};
 ghost use Rattle.pfr_manifest.specs.Judge.{HasRoom, region_len, region_size, hash_at, region_at, rule_at, is_clear_of, is_clear, judge_definition, judge_region, judge_rule, judge_entry, judge_tail};
 
 use crate::fail::ManifestFail;
@@ -178,7 +177,6 @@ impl Entry {
         requires { 0 < length entry.now }
         ensures exact { result ≡ judge_entry entry.now place manifest.now layout.now bank }
         ensures room { IfOk result (λ found. HasRoom found (length entry.now) manifest.now) }
-        ensures bytes { AreBytes entry.now }
         ensures found { IfErr result IsFound }
     {
         match entry[0] {
@@ -198,7 +196,6 @@ impl Entry {
 #[tactic(auto, unfolding(crate::specs::Judge::judge_tail))]
 pub fn check_tail(tail: &[u8]) -> Result<(), ManifestFail>
     ensures exact { result ≡ judge_tail tail.now }
-    ensures bytes { AreBytes tail.now }
     ensures found { IfErr result IsFound }
 {
     if tail.len() >= 128 || !tail.iter().all(|byte| *byte == 0xFF) {

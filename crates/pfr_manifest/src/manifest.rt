@@ -3,9 +3,8 @@ ghost use Rattle.std.specs.Prelude.{◌≡◌, ◌+◌, ◌≤◌, length, Ok, I
 ghost use Rattle.pfr_flash.specs.Bytes.{bytes_at};
 ghost use Rattle.pfr_flash.specs.FlashState.{now, size_of};
 ghost use Rattle.pfr_flash.specs.Layout.{IsValidLayout};
-ghost use Rattle.pfr_flash.specs.Reading.{OnlyReads};
-ghost use Rattle.pfr_manifest.specs.Answer.{IsFound, Answers};
-ghost use Rattle.pfr_manifest.specs.Fields.{AreBytes};
+ghost use Rattle.pfr_flash.specs.Reading.{EndsAt, failed_by};
+ghost use Rattle.pfr_manifest.specs.Answer.{IsFound, Answers, manifest_failure};
 ghost use Rattle.pfr_manifest.specs.Judge.{HasNoEntries, header_at, judge_header, judge_manifest};
 ghost use Rattle.pfr_manifest.specs.Manifest.{IsManifestOf};
 ghost use Rattle.pfr_flash.specs.declared.layout.Layout.{Layout};
@@ -57,7 +56,6 @@ pub fn read_header(header: &[u8; HEADER], count: u32) -> Result<Manifest, Manife
     requires { 32 ≤ count }
     ensures exact { result ≡ judge_header header.now count }
     ensures empty { IfOk result HasNoEntries }
-    ensures bytes { AreBytes header.now }
     ensures found { IfErr result IsFound }
 {
     if number(header, 0) != 0x02B3_CE1D {
@@ -92,8 +90,7 @@ impl Manifest {
         // Which cause it is: the first in order.
         ensures exact { Answers (F.device flash.old) (F.device flash.new) result
             (judge_manifest (bytes_at (now (F.device flash.old)) place size) layout.now (size_of (F.device flash.old))) }
-        ensures bytes { OnOk result (AreBytes (bytes_at (now (F.device flash.old)) place size)) }
-        ensures reads { OnlyReads (F.device flash.old) (F.device flash.new) }
+        ensures ends { EndsAt (failed_by manifest_failure result) (F.device flash.old) (F.device flash.new) }
     {
         judged(flash, place, size, layout)
     }

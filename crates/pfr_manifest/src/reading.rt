@@ -2,9 +2,8 @@
 ghost use Rattle.std.specs.Prelude.{◌≡◌, ◌+◌, ◌<◌, ◌≤◌, take, drop, IfOk, OnOk};
 ghost use Rattle.pfr_flash.specs.Bytes.{bytes_at};
 ghost use Rattle.pfr_flash.specs.FlashState.{now, size_of};
-ghost use Rattle.pfr_flash.specs.Reading.{OnlyReads};
-ghost use Rattle.pfr_manifest.specs.Answer.{Answers};
-ghost use Rattle.pfr_manifest.specs.Fields.{AreBytes, AreBytesBelow};
+ghost use Rattle.pfr_flash.specs.Reading.{EndsAt, failed_by};
+ghost use Rattle.pfr_manifest.specs.Answer.{Answers, manifest_failure};
 ghost use Rattle.pfr_manifest.specs.Judge.{HasNoEntries, HasRoom, turns_left, judge_header, judge_entry, judge_tail, judge_entries, judge_manifest};
 
 use crate::entry::{Entry, LONGEST, RULE, check_tail};
@@ -18,9 +17,8 @@ fn header_at<F: Flash>(flash: &mut F, place: u32, size: u32) -> Result<Manifest,
     requires { place + size ≤ size_of (F.device flash.old) }
     ensures exact { Answers (F.device flash.old) (F.device flash.new) result (judge_header (take 32 (bytes_at (now (F.device flash.old)) place size)) size) }
     ensures empty { IfOk result HasNoEntries }
-    ensures bytes { OnOk result (AreBytesBelow 32 (bytes_at (now (F.device flash.old)) place size)) }
     ensures some { OnOk result (32 ≤ size) }
-    ensures reads { OnlyReads (F.device flash.old) (F.device flash.new) }
+    ensures ends { EndsAt (failed_by manifest_failure result) (F.device flash.old) (F.device flash.new) }
 {
     if (size as usize) < HEADER {
         return Err(ManifestFail::Magic);
@@ -44,8 +42,7 @@ fn entry_at<F: Flash>(
     requires within { place + left ≤ size_of (F.device flash.old) }
     ensures exact { Answers (F.device flash.old) (F.device flash.new) result (judge_entry (take 64 (bytes_at (now (F.device flash.old)) place left)) at manifest.now layout.now bank) }
     ensures room { IfOk result (λ entry. HasRoom entry left manifest.now) }
-    ensures bytes { OnOk result (AreBytes (take 64 (bytes_at (now (F.device flash.old)) place left))) }
-    ensures reads { OnlyReads (F.device flash.old) (F.device flash.new) }
+    ensures ends { EndsAt (failed_by manifest_failure result) (F.device flash.old) (F.device flash.new) }
 {
     let mut piece = [0; LONGEST];
     let count = left.min(LONGEST as u32);
@@ -59,8 +56,7 @@ fn entry_at<F: Flash>(
 fn tail_at<F: Flash>(flash: &mut F, place: u32, left: u32) -> Result<(), ManifestFail>
     requires { place + left ≤ size_of (F.device flash.old) }
     ensures exact { Answers (F.device flash.old) (F.device flash.new) result (judge_tail (bytes_at (now (F.device flash.old)) place left)) }
-    ensures bytes { OnOk result (AreBytes (bytes_at (now (F.device flash.old)) place left)) }
-    ensures reads { OnlyReads (F.device flash.old) (F.device flash.new) }
+    ensures ends { EndsAt (failed_by manifest_failure result) (F.device flash.old) (F.device flash.new) }
 {
     if left >= 128 {
         return Err(ManifestFail::Tail);
@@ -84,10 +80,8 @@ fn entries_at<F: Flash>(
     requires bank { bank ≡ size_of (F.device flash.old) }
     requires some { 32 ≤ size }
     requires empty { HasNoEntries manifest }
-    requires bytes { AreBytesBelow 32 (bytes_at (now (F.device flash.old)) place size) }
     ensures exact { Answers (F.device flash.old) (F.device flash.new) result (judge_entries (turns_left manifest) (drop 32 (bytes_at (now (F.device flash.old)) place size)) 32 manifest layout.now bank) }
-    ensures bytes { OnOk result (AreBytes (bytes_at (now (F.device flash.old)) place size)) }
-    ensures reads { OnlyReads (F.device flash.old) (F.device flash.new) }
+    ensures ends { EndsAt (failed_by manifest_failure result) (F.device flash.old) (F.device flash.new) }
 {
     let mut at = HEADER as u32;
     'entries: while at < size {
@@ -119,8 +113,7 @@ pub fn judged<F: Flash>(
 ) -> Result<Manifest, ManifestFail>
     requires { place + size ≤ size_of (F.device flash.old) }
     ensures exact { Answers (F.device flash.old) (F.device flash.new) result (judge_manifest (bytes_at (now (F.device flash.old)) place size) layout.now (size_of (F.device flash.old))) }
-    ensures bytes { OnOk result (AreBytes (bytes_at (now (F.device flash.old)) place size)) }
-    ensures reads { OnlyReads (F.device flash.old) (F.device flash.new) }
+    ensures ends { EndsAt (failed_by manifest_failure result) (F.device flash.old) (F.device flash.new) }
 {
     let bank = flash.size();
     let header = header_at(flash, place, size)?;

@@ -1,5 +1,6 @@
 use Rattle.std.proofs.Common.{◌∙◌, ap, ℕ, ◌/◌, List, length}
 use Rattle.pfr_flash.specs.FlashState.{size_of}
+use Rattle.pfr_flash.proofs.EndsLemmas.{ends_reads}
 use Rattle.pfr_flash.proofs.RangeLemmas.{length-now}
 use Rattle.pfr_flash.proofs.ReadingLemmas.{then_reads}
 use Rattle.pfr_capsule.proofs.PagesRead.{ends_in_map}
@@ -25,11 +26,11 @@ returns-in-Some-clause-reads g c = then_reads (then_reads (then_reads c.signed_a
 
 pub returns-in_err-digest-clause-reads : goal.returns-in_err-digest-clause-reads
 returns-in_err-digest-clause-reads g c =
-    then_reads (then_reads (then_reads (then_reads c.signed_at.ensures.reads c.header_at.ensures.reads) c.pages_at.ensures.reads) c.incoherent_region.ensures.reads) c.digest256_at.ensures.reads
+    then_reads (then_reads (then_reads (then_reads c.signed_at.ensures.reads c.header_at.ensures.reads) c.pages_at.ensures.reads) c.incoherent_region.ensures.reads) (ends_reads c.digest256_at.ensures.ends)
 
 pub returns-clause-regions : goal.returns-clause-regions
 returns-clause-regions g c = rw (length-now (g.F.Flash.device c.args.flash.now)) at c.in_ok-signed.ensures.ok.spelled.each_region
 
 pub returns-clause-reads : goal.returns-clause-reads
 returns-clause-reads g c =
-    then_reads (then_reads (then_reads (then_reads c.signed_at.ensures.reads c.header_at.ensures.reads) c.pages_at.ensures.reads) c.incoherent_region.ensures.reads) c.digest256_at.ensures.reads
+    then_reads (then_reads (then_reads (then_reads c.signed_at.ensures.reads c.header_at.ensures.reads) c.pages_at.ensures.reads) c.incoherent_region.ensures.reads) (ends_reads c.digest256_at.ensures.ends)

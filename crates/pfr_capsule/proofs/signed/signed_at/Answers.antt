@@ -1,5 +1,6 @@
 use Rattle.std.proofs.Common.{arith}
 use Rattle.std.proofs.lemmas.Result.{err_from_is_err_and}
+use Rattle.pfr_flash.proofs.EndsLemmas.{ends_reads}
 use Rattle.pfr_flash.proofs.ReadingLemmas.{then_reads}
 use Rattle.pfr_capsule.proofs.Parts.{manifest_refused, below_floor, signed_found, signed_is}
 use Rattle.pfr_capsule.proofs.signed.signed_at.Goals as goal
@@ -16,7 +17,7 @@ returns-in_err-manifest-clause-exact g c =
     (g.F.Flash.device c.read.new.flash) c.in_err-manifest.field-0.0 c.in_err-manifest.ensures.exact)
 
 pub returns-in_err-manifest-clause-reads : goal.returns-in_err-manifest-clause-reads
-returns-in_err-manifest-clause-reads g c = then_reads (then_reads c.capsule_chain.ensures.reads c.inner_chain.ensures.reads) c.read.ensures.reads
+returns-in_err-manifest-clause-reads g c = then_reads (then_reads c.capsule_chain.ensures.reads c.inner_chain.ensures.reads) (ends_reads c.read.ensures.ends)
 
 pub returns-then-from-floor-clause-exact : goal.returns-then-from-floor-clause-exact
 returns-then-from-floor-clause-exact g c =
@@ -26,7 +27,7 @@ returns-then-from-floor-clause-exact g c =
     c.in_ok-manifest.manifest c.in_ok-manifest.ensures.exact (omega (arith, c.if-from-floor.true, c.floor.ensures.exact, c.from.ensures))
 
 pub returns-then-from-floor-clause-reads : goal.returns-then-from-floor-clause-reads
-returns-then-from-floor-clause-reads g c = then_reads (then_reads c.capsule_chain.ensures.reads c.inner_chain.ensures.reads) c.read.ensures.reads
+returns-then-from-floor-clause-reads g c = then_reads (then_reads c.capsule_chain.ensures.reads c.inner_chain.ensures.reads) (ends_reads c.read.ensures.ends)
 
 pub returns-clause-ok : goal.returns-clause-ok
 returns-clause-ok g c =
@@ -43,4 +44,4 @@ returns-clause-exact g c =
     c.in_ok-manifest.manifest c.in_ok-manifest.ensures.exact (omega (arith, c.if-from-floor.false, c.floor.ensures.exact, c.from.ensures))
 
 pub returns-clause-reads : goal.returns-clause-reads
-returns-clause-reads g c = then_reads (then_reads c.capsule_chain.ensures.reads c.inner_chain.ensures.reads) c.read.ensures.reads
+returns-clause-reads g c = then_reads (then_reads c.capsule_chain.ensures.reads c.inner_chain.ensures.reads) (ends_reads c.read.ensures.ends)

@@ -1,25 +1,28 @@
 use Rattle.std.proofs.Common.{arith, refl}
-use Rattle.pfr_flash.proofs.ReadingLemmas.{OnlyReads-refl, then_reads}
+use Rattle.std.proofs.lemmas.Result.{err_from_is_err_and}
+use Rattle.pfr_flash.proofs.EndsLemmas.{EndsAt-refl, then_ends, ends_content}
 use Rattle.pfr_fuses.specs.Provisioning.{judge_slots}
 use Rattle.pfr_fuses.proofs.BlankLemmas.{judge_ends, judge_goes_on}
 use Rattle.pfr_fuses.proofs.provisioning.first_blank.Goals as goal
 
 pub loop-number-init : goal.loop-number-init
 unfolding judge_slots
-loop-number-init g c = record { reads = OnlyReads-refl _; rest = refl }
+loop-number-init g c = record { ends = EndsAt-refl _; rest = refl }
 
-pub returns-in_err-read-clause-reads : goal.returns-in_err-read-clause-reads
-returns-in_err-read-clause-reads g c = then_reads c.loop-number.invariant.reads c.read.ensures.reads.reads
+pub returns-in_err-read-clause-ends : goal.returns-in_err-read-clause-ends
+returns-in_err-read-clause-ends g c =
+    let p = err_from_is_err_and c.from_residual.result c.from_residual.ensures.1 in
+    rw (p.1, p.2) (then_ends c.loop-number.invariant.ends c.in_err-read.ensures.reads.ends)
 
-pub returns-then-is_set-clause-reads : goal.returns-then-is_set-clause-reads
-returns-then-is_set-clause-reads g c = then_reads c.loop-number.invariant.reads c.read.ensures.reads.reads
+pub returns-then-is_set-clause-ends : goal.returns-then-is_set-clause-ends
+returns-then-is_set-clause-ends g c = then_ends c.loop-number.invariant.ends c.in_ok-read.ensures.reads.ends
 
 pub returns-then-is_set-clause-exact : goal.returns-then-is_set-clause-exact
 returns-then-is_set-clause-exact g c =
-    judge_ends _ _ _ c.loop-number.number c.loop-number.found (omega arith) c.loop-number.invariant.reads.content c.in_ok-read.ensures.bytes c.if-is_set.ensures c.loop-number.invariant.rest
+    judge_ends _ _ _ c.loop-number.number c.loop-number.found (omega arith) (ends_content c.loop-number.invariant.ends) c.in_ok-read.ensures.bytes c.if-is_set.ensures c.loop-number.invariant.rest
 
 pub loop-number-preserved : goal.loop-number-preserved
 loop-number-preserved g c = record {
-  reads = then_reads c.loop-number.invariant.reads c.read.ensures.reads.reads;
-  rest = judge_goes_on _ _ _ c.loop-number.number c.loop-number.found _ (omega arith) c.loop-number.invariant.reads.content c.in_ok-read.ensures.bytes c.if-is_set.ensures c.found_first-found.ensures c.loop-number.invariant.rest;
+  ends = then_ends c.loop-number.invariant.ends c.in_ok-read.ensures.reads.ends;
+  rest = judge_goes_on _ _ _ c.loop-number.number c.loop-number.found _ (omega arith) (ends_content c.loop-number.invariant.ends) c.in_ok-read.ensures.bytes c.if-is_set.ensures c.found_first-found.ensures c.loop-number.invariant.rest;
 }

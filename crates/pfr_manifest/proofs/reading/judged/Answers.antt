@@ -3,7 +3,7 @@ use Rattle.std.proofs.lemmas.Result.{err_from_is_err_and}
 use Rattle.pfr_flash.specs.Bytes.{bytes_at}
 use Rattle.pfr_flash.specs.FlashState.{FlashState, now, size_of}
 use Rattle.pfr_flash.proofs.RangeLemmas.{length-now}
-use Rattle.pfr_flash.proofs.ReadingLemmas.{then_reads}
+use Rattle.pfr_flash.proofs.EndsLemmas.{then_ends, ends_reads, ends_content}
 use Rattle.pfr_manifest.specs.Judge.{turns_left, judge_entries}
 use Rattle.pfr_manifest.proofs.Pieces.{length-bytes_at}
 use Rattle.pfr_manifest.proofs.AnswerLemmas.{refuses_whole, answers_later}
@@ -23,9 +23,9 @@ returns-clause-exact g c =
     let bytes : List ℕ = bytes_at (now old) c.args.place c.args.size in
     let long : length bytes ≡ c.args.size = length-bytes_at (now old) c.args.place c.args.size (omega (arith, length-now old)) in
     let whole = header_passed bytes c.args.size c.args.layout.now (size_of old) c.in_ok-header.header long c.in_ok-header.ensures.exact in
-    let same = ap (λ image. judge_entries (turns_left c.in_ok-header.header) (drop 32 (bytes_at image c.args.place c.args.size)) 32 c.in_ok-header.header c.args.layout.now c.size-bank.result) c.header_at.ensures.reads.content in
+    let same = ap (λ image. judge_entries (turns_left c.in_ok-header.header) (drop 32 (bytes_at image c.args.place c.args.size)) 32 c.in_ok-header.header c.args.layout.now c.size-bank.result) (ends_content c.in_ok-header.ensures.ends) in
     let sized = ap (λ bank. judge_entries (turns_left c.in_ok-header.header) (drop 32 bytes) 32 c.in_ok-header.header c.args.layout.now bank) c.size-bank.ensures in
-    answers_later old _ _ _ _ _ c.header_at.ensures.reads (same ∙ sized ∙ sym whole) c.entries_at.ensures.exact
+    answers_later old _ _ _ _ _ (ends_reads c.in_ok-header.ensures.ends) (same ∙ sized ∙ sym whole) c.entries_at.ensures.exact
 
-pub returns-clause-reads : goal.returns-clause-reads
-returns-clause-reads g c = then_reads c.header_at.ensures.reads c.entries_at.ensures.reads
+pub returns-clause-ends : goal.returns-clause-ends
+returns-clause-ends g c = then_ends c.in_ok-header.ensures.ends c.entries_at.ensures.ends

@@ -1,7 +1,7 @@
-use Rattle.std.proofs.Common.{ap}
+use Rattle.std.proofs.Common.{ap, arith}
 use Rattle.pfr_flash.specs.Operation.{Program}
 use Rattle.pfr_flash.specs.MemFlash.{MemState}
-use Rattle.pfr_flash.proofs.MemLemmas.{mem_does}
+use Rattle.pfr_flash.proofs.MemLemmas.{mem_does, mem_holds}
 use Rattle.pfr_flash.proofs.mem_flash.MemFlashFlash.program.Goals as goal
 
 pub program_at-requires-clause-known : goal.program_at-requires-clause-known
@@ -11,6 +11,15 @@ pub returns-clause-does : goal.returns-clause-does
 returns-clause-does c =
     let a = c.self.inside in
     mem_does (Program c.args.at c.args.bytes.now) c.args.self.now.device a.cells c.program_at.new.cells a.rig c.finish.new.self a.taken a.read_fault
-    c.op_count-count.result c.room.result c.outcome-outcome.result c.finish.result tt c.requires.within
+    c.op_count-count.result c.room.result c.outcome-outcome.result c.finish.result tt c.args.self.now.bytes c.requires.within
     (ap (λ (m : MemState). m.device) c.self.view_is) (c.outcome-outcome.ensures.ending a.cells.tears)
     c.op_count-count.ensures.count c.room.ensures c.program_at.ensures c.finish.ensures.rig c.finish.ensures.answer
+
+pub invariant_of-self-inside : goal.invariant_of-self-inside
+invariant_of-self-inside c =
+    let a = c.self.inside in (
+      mem_holds (Program c.args.at c.args.bytes.now) a.cells c.program_at.new.cells a.rig c.finish.new.self a.taken a.read_fault
+          c.op_count-count.result c.room.result c.outcome-outcome.result (λ i. omega (arith, c.type_inv.bytes i)) a.bytes (c.outcome-outcome.ensures.ending a.cells.tears)
+          c.op_count-count.ensures.count c.room.ensures c.program_at.ensures c.finish.ensures.rig,
+      tt,
+    )
