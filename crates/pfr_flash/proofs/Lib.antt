@@ -1,4 +1,5 @@
 pub mod BytesLemmas
+pub mod PartsLemmas
 pub mod AreBytesLemmas
 pub mod PlayLemmas
 pub mod CellsLemmas
@@ -16,3 +17,7 @@ pub mod FuseLemmas
 pub mod LayoutLemmas
 pub mod StateLemmas
 pub mod FollowsLemmas
+pub mod CutLemmas
+pub mod LosingLemmas
+pub mod ClearingLemmas
+pub mod LeavingLemmas
