@@ -1,3 +1,4 @@
+pub mod JudgingLemmas
 pub mod BytesLemmas
 pub mod PartsLemmas
 pub mod AreBytesLemmas
