@@ -33,6 +33,11 @@ part_of bytes at n off count fits =
     let shorter : count ≤ m = omega arith in
     rw (← is, drop-take off m (drop at bytes), take-take count m (drop off (drop at bytes)) shorter, drop-drop off at bytes) refl
 
+-- a number inside of a part
+pub number_in_part : (bytes : List ℕ) (at count off : ℕ) → off + 4 ≤ count → number_at (bytes_at bytes at count) off ≡ number_at bytes (at + off)
+unfolding little_at
+number_in_part bytes at count off fits = ap (little_number 4) (part_of bytes at count off 4 fits)
+
 -- Where two lists have the same bytes from a place each on, they have the same parts there.
 pub same_part : (a b : List ℕ) (p q n off count : ℕ) → bytes_at a p n ≡ bytes_at b q n → off + count ≤ n → bytes_at a (p + off) count ≡ bytes_at b (q + off) count
 same_part a b p q n off count same fits =
