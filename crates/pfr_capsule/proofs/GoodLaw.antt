@@ -27,7 +27,7 @@ use Rattle.pfr_manifest.proofs.FindingLaw.{judge_ends as manifest_ends}
 use Rattle.pfr_capsule.specs.CapsuleState.{CapsuleState, capsule_of}
 use Rattle.pfr_capsule.specs.Good.{IsGood, Serves, StandForBank}
 use Rattle.pfr_capsule.specs.Judge.{judge_capsule, judge_header, judge_maps, judge_numbers, judge_pages}
-use Rattle.pfr_capsule.specs.Judging.{◌>>◌, require_none}
+use Rattle.pfr_flash.specs.Judging.{◌>>◌, require_none}
 use Rattle.pfr_capsule.specs.Maps.{count_before, page_outside, uncovered_region, unerased_copy}
 use Rattle.pfr_capsule.specs.PageBytes.{incoherent_region}
 use Rattle.pfr_capsule.specs.PageHeader.{HasHeader, IsPageHeader, has_constants, page_header_of}
@@ -38,7 +38,7 @@ use Rattle.pfr_capsule.specs.declared.fail.CapsuleFail.TheVariants as causes
 use Rattle.pfr_capsule.specs.declared.page_header.PageHeader.{PageHeader}
 use Rattle.pfr_capsule.specs.declared.pages.Pages.{Pages}
 use Rattle.pfr_capsule.specs.declared.signed.Signed.{Signed}
-use Rattle.pfr_capsule.proofs.Tests.{passed_part, passed_unit, passed_test, passed_none, passed_last, passed_last_none}
+use Rattle.pfr_flash.proofs.JudgingLemmas.{passed_part, passed_unit, passed_test, passed_none, passed_last, passed_last_none}
 use Rattle.pfr_capsule.proofs.MapsLaw.{none_copied, copied_none, none_outside, outside_none, none_uncovered, uncovered_none, none_incoherent, incoherent_none}
 
 -- ---- the header

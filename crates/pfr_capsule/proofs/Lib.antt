@@ -3,9 +3,6 @@ pub mod LeastLaws
 pub mod IndexLaws
 pub mod PageLaws
 pub mod PageBytesLaws
-pub mod Fields
-pub mod Tests
-pub mod AnswerLemmas
 pub mod Parts
 pub mod PagesRead
 pub mod MapsLaw

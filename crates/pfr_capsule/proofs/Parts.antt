@@ -18,7 +18,7 @@ use Rattle.pfr_manifest.specs.declared.fail.ManifestFail.{ManifestFail}
 use Rattle.pfr_manifest.specs.declared.manifest.Manifest.{Manifest}
 use Rattle.pfr_capsule.specs.Answer.{Answers}
 use Rattle.pfr_capsule.specs.Judge.{judge_header, judge_numbers}
-use Rattle.pfr_capsule.specs.Judging.{◌>>=◌, ◌>>◌, require, by_manifest}
+use Rattle.pfr_flash.specs.Judging.{◌>>=◌, ◌>>◌, require, by_manifest}
 use Rattle.pfr_capsule.specs.PageHeader.{page_header_of}
 use Rattle.pfr_capsule.specs.Signed.{IsSigned, IsCapsuleChain, IsInnerChain}
 use Rattle.pfr_capsule.specs.SignedJudge.{judge_capsule_chain, judge_inner_chain, judge_signed}

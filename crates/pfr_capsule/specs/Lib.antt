@@ -1,5 +1,4 @@
 pub mod Answer
-pub mod Judging
 pub mod Signed
 pub mod SignedJudge
 pub mod PageHeader

@@ -1,6 +1,6 @@
 // The page-block header of a capsule.
 ghost use Rattle.std.specs.Prelude.{◌≡◌, ◌+◌, ◌≤◌, length};
-ghost use Rattle.pfr_chain.specs.Fields.{number_at};
+ghost use Rattle.pfr_flash.specs.Numbers.{number_at};
 ghost use Rattle.pfr_capsule.specs.PageHeader.{page_header_of, has_constants};
 
 use byteorder::{ByteOrder, LittleEndian};
@@ -21,7 +21,7 @@ pub struct PageHeader {
 }
 
 // the number in the four bytes at a place, the lowest first
-#[tactic(auto, using(crate::proofs::Fields::slice_is), unfolding(pfr_chain::specs::Fields::number_at))]
+#[tactic(auto, using(crate::proofs::Fields::slice_is), unfolding(pfr_flash::specs::Numbers::little_at))]
 fn number(bytes: &[u8; HEADER], at: usize) -> u32
     requires { at + 4 ≤ 128 }
     ensures { result ≡ number_at bytes.now at }
