@@ -10,3 +10,5 @@ pub mod RegionBytesLaw
 pub mod GoodLaw
 pub mod GoodFacts
 pub mod MovedLaw
+pub mod LyingLaw
+pub mod ServesLaw

@@ -188,6 +188,11 @@ module _ (a b nv : List ℕ) (p q len len' : ℕ) (bank : Bank) (accepts : Accep
     found = refl;
   }
 
+  -- the capsule that is good there is that one
+  pub capsule_moved : good_moved.capsule ≡ found_there
+  unfolding good_moved
+  capsule_moved = refl
+
   pub manifest_moved : found_there.manifest ≡ g.capsule.manifest
   unfolding parts_there found_there
   manifest_moved = ap (λ (c : CapsuleState). c.manifest) (sym g.found)

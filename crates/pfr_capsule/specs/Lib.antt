@@ -8,3 +8,4 @@ pub mod PageBytes
 pub mod CapsuleState
 pub mod Good
 pub mod Judge
+pub mod Lying

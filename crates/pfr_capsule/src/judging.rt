@@ -4,11 +4,11 @@ ghost use Rattle.pfr_flash.specs.FlashState.{now, size_of};
 ghost use Rattle.pfr_flash.specs.Layout.{IsBankSize, IsValidLayout};
 ghost use Rattle.pfr_flash.specs.Reading.{EndsAt, failed_by};
 ghost use Rattle.pfr_manifest.specs.Regions.{IsRegion};
-ghost use Rattle.pfr_capsule.specs.Answer.{Answers, IsFound};
+ghost use Rattle.pfr_flash.specs.Answer.{Answers, IsFound};
+ghost use Rattle.pfr_capsule.specs.Answer.{capsule_failure};
 ghost use Rattle.pfr_capsule.specs.Judge.{judge_numbers, judge_header, judge_maps, judge_pages, judge_capsule};
 ghost use Rattle.pfr_capsule.specs.Maps.{count_before};
 ghost use Rattle.pfr_capsule.specs.Pages.{HasIndex};
-ghost use Rattle.pfr_capsule.specs.SignedJudge.{HasSigned};
 
 use crate::capsule::Capsule;
 use crate::fail::CapsuleFail;
@@ -153,10 +153,8 @@ pub fn judged<F: Flash, E: Engine>(
     requires valid { IsValidLayout layout.now (size_of (F.device flash.old)) }
     ensures exact { Answers capsule_failure result
         (judge_capsule (now (F.device flash.old)) place len bank layout.now fuses.now (E.accepts engine.now)) }
-    ensures signed { OnOk result (HasSigned (now (F.device flash.old)) place len bank layout.now fuses.now (E.accepts engine.now)) }
     ensures pages { IfOk result (λ c. HasIndex (now (F.device flash.old)) c.pages) }
     ensures regions { IfOk result (λ c. All (IsRegion layout.now (size_of (F.device flash.old))) c.manifest.regions) }
-    ensures within { IfOk result (λ c. c.length ≤ len) }
     ensures ends { EndsAt (failed_by capsule_failure result) (F.device flash.old) (F.device flash.new) }
 {
     let signed = signed_at(flash, place, len, bank, layout, fuses, engine)?;
