@@ -23,7 +23,7 @@ ends_group group page (next ∷ others) = not (next / group == page / group)
 unfoldable pub page_deeds : (ℕ → List ℕ) → ℕ → (ℕ → List Deed) → List ℕ → List Deed
 page_deeds content group mark [] = []
 page_deeds content group mark (page ∷ pages) =
-    called Bank (strokes page (content page)) ++ (if ends_group group page pages then mark (page / group) else []) ++ page_deeds content group mark pages
+    called Bank (strokes page (content page)) ++ ((if ends_group group page pages then mark (page / group) else []) ++ page_deeds content group mark pages)
 
 -- A pass over pages: the bank is read first. A page's number divided by `group` is the number of its group.
 abbrev pub pass : (ℕ → List ℕ) → ℕ → (ℕ → List Deed) → List ℕ → List Deed
