@@ -46,8 +46,8 @@ what a capsule holds. Places and sizes of areas are hexadecimal, numbers of byte
   job log of B: blank|W bytes that aren't 0xff
   fault: ..                        what stands here hasn't the form that it is to have
 
-A region's digest is right or wrong for the image's own bytes, and in a capsule for what its pages give. With --store a root hash
-is told to be the store's or not, an SVN below the floor, and a cancelled key.
+A region's digest is right or wrong for the image's own bytes, and in a capsule for what its pages give. With --store a root
+hash is told to be the store's or not, an SVN below the floor, and a cancelled key.
 
 The exit code is 0, or 1 where a file can't be read or isn't any of these, or 2 where the words are wrong.
 """

@@ -115,7 +115,8 @@ class Examples(unittest.TestCase):
         folder = "tiny" if form == 1 else "tiny-form2"
         name = "bmc" if types == (3, 4) else "pch"
         bank = example("%s/%s" % (folder, name))
-        said = ["form %d, 1024 bytes, %s-%s (%d)" % (form, name, each, kind) for each, kind in zip(("manifest", "capsule"), types)]
+        kinds = zip(("manifest", "capsule"), types)
+        said = ["form %d, 1024 bytes, %s-%s (%d)" % (form, name, each, kind) for each, kind in kinds]
         active = block_lines(bank, 0, 0, said[0], 5, root) + tiny_manifest(bank, " right")
         capsule = block_lines(bank, 0x8000, 0, said[1], 6, root)
         body = block_lines(bank, 0x8400, 0, said[0], 5, root) + tiny_manifest(bank, "") + TINY_PAGES.split("\n")
@@ -198,7 +199,8 @@ class Made(unittest.TestCase):
             made = maker.certificate(small_description(form), "pch", "capsule", 200)["cert"]
             first, lines = lines_of(made)
             self.assertEqual(first, "it: signed pch-capsule-cancel of 1152 bytes")
-            self.assertEqual(lines[0], "block at 0x0: form %d, 1024 bytes, pch-capsule-cancel (258), content of 128 bytes" % form)
+            block = "block at 0x0: form %d, 1024 bytes, pch-capsule-cancel (258), content of 128 bytes"
+            self.assertEqual(lines[0], block % form)
             self.assertEqual(lines[-1], "certificate cancels key id 200 for pch-capsule")
             self.assertFalse([line for line in lines if "key id" in line and "certificate" not in line])
 
@@ -208,11 +210,13 @@ class Made(unittest.TestCase):
         store = maker.with_floor(maker.provision(description), "bmc", 7)
         store = maker.with_cancelled(maker.with_cancelled(store, 3, 9), 3, 255)
         lines = lines_of(store)[1]
-        for line in ("floor of bmc: 7", "floor of pch: 0", "cancelled for bmc-manifest: 9 255", "cancelled for bmc-capsule: none"):
+        cancelled = ("cancelled for bmc-manifest: 9 255", "cancelled for bmc-capsule: none")
+        for line in ("floor of bmc: 7", "floor of pch: 0") + cancelled:
             self.assertIn(line, lines)
         text = "\n".join(lines_of(maker.make(description)["bmc"], store)[1])
         self.assertEqual(text.count("manifest svn 6 (below the floor)"), 2)
-        self.assertEqual(text.count("key id 9, permissions 0x%08x, cancelled" % description["bmc"]["manifest_key"]["permissions"]), 2)
+        permissions = description["bmc"]["manifest_key"]["permissions"]
+        self.assertEqual(text.count("key id 9, permissions 0x%08x, cancelled" % permissions), 2)
 
     def test_profile_1_and_spent_slots(self):
         store = maker.place(maker.blank(maker.STORE), 0x800, b"\x7f")
@@ -236,11 +240,13 @@ class BadlyFormed(unittest.TestCase):
 
     def test_manifests(self):
         bank = dict(small_description(1, 256, 30)["bmc"], regions=[], smbus=[])
-        self.assertIn("fault: the manifest's magic is 0x00000007", self.signed_manifest(maker.manifest_bytes(bank, magic=7)))
-        self.assertIn("fault: a definition of type 9 stands at 32", self.signed_manifest(maker.manifest_bytes(bank, extra=b"\x09")))
-        self.assertIn("fault: region 0 passes the end", self.signed_manifest(maker.manifest_bytes(bank, extra=b"\x01", tail=b"")))
-        hashed = maker.manifest_bytes(bank, extra=b"\x01\x01\x05\x00" + bytes(12))
-        self.assertIn("fault: region 0 has the hash info 5", self.signed_manifest(hashed))
+        for overrides, said in (
+            ({"magic": 7}, "fault: the manifest's magic is 0x00000007"),
+            ({"extra": b"\x09"}, "fault: a definition of type 9 stands at 32"),
+            ({"extra": b"\x01", "tail": b""}, "fault: region 0 passes the end"),
+            ({"extra": b"\x01\x01\x05\x00" + bytes(12)}, "fault: region 0 has the hash info 5"),
+        ):
+            self.assertIn(said, self.signed_manifest(maker.manifest_bytes(bank, **overrides)))
         self.assertIn("fault: a manifest has at least 32 bytes, not 5", self.signed_manifest(b"12345"))
 
     def test_blocks(self):
@@ -290,7 +296,8 @@ class BadlyFormed(unittest.TestCase):
         for _ in range(400):
             data = rng.choice(files)
             for _ in range(rng.randrange(1, 4)):
-                data = maker.place(data, rng.randrange(min(len(data), rng.choice((64, 1600, 1 << 20)))), bytes([rng.randrange(256)]))
+                front = min(len(data), rng.choice((64, 1600, 1 << 20)))
+                data = maker.place(data, rng.randrange(front), bytes([rng.randrange(256)]))
             inspect.file_lines("it", data[: rng.choice((len(data), rng.randrange(len(data))))], inspect.Store(store))
 
 
