@@ -263,7 +263,13 @@ pub struct Hidden {
     bytes: [u8; 4],
 }
 """,
-    "low/specs/Value.antt": "-- Values.\nuse Rattle.std.specs.Prelude.{List, ℕ}\n\npub record Value : Type 0 where\n  pub bytes : List ℕ\n",
+    "low/specs/Value.antt": """\
+-- Values.
+use Rattle.std.specs.Prelude.{List, ℕ}
+
+pub record Value : Type 0 where
+  pub bytes : List ℕ
+""",
     "low/src/lib.rt": "//! Low.\nmod kinds;\nmod sizes;\n\npub use kinds::Kind;\npub use sizes::Size;\n",
     "high/specs/Top.antt": """\
 -- What is promised.
