@@ -1,5 +1,5 @@
 -- A pass over pages: its operations, how it is put together, and how a loop over pages does it.
-use Rattle.std.proofs.Common.{◌≡◌, ◌≢◌, ◌∙◌, ℕ, zero, suc, ◌+◌, ◌-◌, ◌/◌, ◌≤◌, ◌<◌, ◌==◌, Bool, true, false, not, if◌then◌else◌, refl, sym, ap, subst, arith, List, [], ◌∷◌, ◌++◌, append_assoc, ◌⊎◌, inl, inr, Result, Ok, Err}
+use Rattle.std.proofs.Common.{◌≡◌, ◌∙◌, ℕ, zero, suc, ◌+◌, ◌-◌, ◌/◌, ◌≤◌, ◌<◌, ◌==◌, Bool, true, false, not, if◌then◌else◌, refl, sym, ap, subst, arith, List, [], ◌∷◌, ◌++◌, append_assoc, ◌⊎◌, inl, inr, Ok, Err}
 use Rattle.std.proofs.lemmas.List.{append-nil}
 use Rattle.std.proofs.lemmas.Bool.Decides.{nat_tests}
 use Rattle.pfr_flash.specs.Operation.{Operation}
@@ -9,7 +9,6 @@ use Rattle.pfr_strokes.specs.Strokes.{strokes, strokes_of}
 use Rattle.pfr_strokes.specs.Replaced.{pages_below}
 use Rattle.pfr_strokes.specs.Deeds.{Deed, Asks, called, ends_group, page_deeds, pass, marked_by, unmarked, side_ops}
 use Rattle.pfr_strokes.specs.Passes.{Pair, at_side, DidAll, StoppedAt}
-use Rattle.pfr_strokes.specs.declared.side.Side.{Side}
 use Rattle.pfr_strokes.specs.declared.side.Side.TheVariants.{Bank, Store}
 use Rattle.pfr_strokes.proofs.DeedsLaws.{side_ops-append, ops_called, none_called}
 use Rattle.pfr_strokes.proofs.PassesLemmas.{Did-none, DidAll-then, Stopped-then, Stopped-first, OnlyAt, called_did, called_stopped, asked_did, AsksLast, asked_stopped}

@@ -3,7 +3,7 @@ use Rattle.std.proofs.Common.{◌≡◌, ◌∙◌, ℕ, refl, sym, ap, subst, L
 use Rattle.std.proofs.lemmas.List.{append-nil}
 use Rattle.pfr_flash.specs.FlashState.{FlashState, now}
 use Rattle.pfr_flash.specs.Operation.{Operation, play}
-use Rattle.pfr_flash.specs.Plan.{IsPart, with_ops, Follows}
+use Rattle.pfr_flash.specs.Plan.{IsPart, Follows}
 use Rattle.pfr_flash.specs.declared.flash.FlashFail.{FlashFail}
 use Rattle.pfr_flash.proofs.FollowsLemmas.{FailsWorking-later}
 use Rattle.pfr_flash.proofs.MovedLemmas.{Worked-refl, Worked-trans}
