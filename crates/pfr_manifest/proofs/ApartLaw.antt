@@ -1,10 +1,10 @@
 -- Pages that the bus may write share no byte with what the trust in a bank's image and its recovery stand on.
-use Rattle.std.proofs.Common.{◌≡◌, ◌∙◌, sym, ap, subst, ℕ, ◌+◌, ◌-◌, ◌*◌, ◌<◌, ◌≤◌, ◌⊎◌, inl, inr, ⊎_elim, Bool, true, false, List, length, get_or, map, filter, All, arith}
+use Rattle.std.proofs.Common.{◌≡◌, ◌∙◌, sym, ap, subst, ℕ, ◌+◌, ◌-◌, ◌*◌, ◌<◌, ◌≤◌, ◌⊎◌, inl, inr, ⊎_elim, true, false, length, get_or, All, arith}
 use Rattle.std.proofs.lemmas.Bool.{cases_lt}
 use Rattle.std.proofs.lemmas.List.Elements.{All-from_get_or, All-filter, All-get_or, All-weaker, filter_passes}
 use Rattle.pfr_flash.specs.Layout.{AreApart, IsApart}
 use Rattle.pfr_flash.specs.Operation.{Operation}
-use Rattle.pfr_flash.specs.Range.{place_of, len_of, IsWithin, Leaves}
+use Rattle.pfr_flash.specs.Range.{IsWithin, Leaves}
 use Rattle.pfr_flash.specs.declared.layout.Layout.{Layout}
 use Rattle.pfr_manifest.specs.declared.manifest.Manifest.{Manifest}
 use Rattle.pfr_manifest.specs.declared.region.Region.{Region}

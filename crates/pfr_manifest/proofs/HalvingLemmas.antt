@@ -1,10 +1,14 @@
 -- Search by halves in a table of stretches.
-use Rattle.std.proofs.Common.{◌≡◌, ℕ, suc, ◌+◌, ◌-◌, ◌*◌, ◌/◌, ◌^◌, ◌<◌, ◌≤◌, List, length, get_or, ⊎_elim, add-one, sym, ap, ◌∙◌, arith}
+use Rattle.std.proofs.Common.{◌≡◌, ◌≢◌, Bool, true, false, ◌&&◌, nat_le, nat_lt, refl, ℕ, ◌+◌, ◌-◌, ◌*◌, ◌/◌, ◌^◌, ◌<◌, ◌≤◌, List, length, get_or, ⊎_elim, add-one, sym, ap, ◌∙◌, arith}
 use Rattle.std.proofs.Math.Nat.{mul-le-mul_left, pow-suc, pow-le-pow_right}
-use Rattle.std.proofs.lemmas.Bool.{cases_lt}
+use Rattle.std.specs.List.{list_any}
+use Rattle.std.proofs.lemmas.Bool.{cases_lt, lt-ltb, ltb-true}
+use Rattle.std.proofs.lemmas.Bool.Decides.{nat_tests}
+use Rattle.std.proofs.lemmas.List.Elements.{All-from_get_or}
+use Rattle.std.proofs.lemmas.List.Folds.{list_any_none, list_any_at}
 use Rattle.std.proofs.lemmas.List.{get_or_default}
 use Rattle.pfr_manifest.specs.declared.stretch.Stretch.{Stretch}
-use Rattle.pfr_manifest.specs.Stretches.{IsTable}
+use Rattle.pfr_manifest.specs.Stretches.{IsTable, lets_write}
 
 -- the ends rise with the stretches
 ends_rise : (stretches : List Stretch) → IsTable stretches → (i j : ℕ) (d : Stretch) → i ≤ j → j < length stretches → (get_or stretches i d).end ≤ (get_or stretches j d).end
@@ -74,3 +78,41 @@ seven_looks looks count few cost = ⊎_elim (λ less. omega arith) (λ more. abs
   where
     over : 8 ≤ looks → ⊥
     over more = let p : 2 ^ 8 ≤ 2 ^ looks = pow-le-pow_right (omega arith) more in omega arith
+
+-- ---- the first stretch that ends behind a page's begin tells whether the bus may write the page
+ended_lets_none : (page : ℕ) (stretch : Stretch) → stretch.end ≤ 4096 * page → lets_write page stretch ≡ false
+ended_lets_none page stretch h = no_room stretch.writable (nat_le stretch.start (4096 * page))
+  where
+    no_room : (writable starts : Bool) → (writable && (starts && nat_le (4096 * page + 4096) stretch.end)) ≡ false
+    no_room writable starts = grind (arith, nat_tests)
+
+later_lets_none : (page : ℕ) (stretch : Stretch) → 4096 * page < stretch.start → lets_write page stretch ≡ false
+later_lets_none page stretch h = no_room stretch.writable (nat_le (4096 * page + 4096) stretch.end)
+  where
+    no_room : (writable ends : Bool) → (writable && (nat_le stretch.start (4096 * page) && ends)) ≡ false
+    no_room writable ends = grind (arith, nat_tests)
+
+module _ (stretches : List Stretch) (page first : ℕ) (d : Stretch) (is : IsTable stretches)
+    (below : (k : ℕ) (d : Stretch) → k < first → (get_or stretches k d).end ≤ 4096 * page) (above : (k : ℕ) (d : Stretch) → first ≤ k → k < length stretches → 4096 * page < (get_or stretches k d).end) where
+  -- the others let the bus write nothing of the page
+  other_lets_none : (k : ℕ) → k < length stretches → k ≢ first → lets_write page (get_or stretches k d) ≡ false
+  other_lets_none k h other = ⊎_elim (λ less. ended_lets_none page (get_or stretches k d) (below k d less)) (λ more. later more) (cases_lt k first)
+    where
+      later : first ≤ k → lets_write page (get_or stretches k d) ≡ false
+      later more =
+          let past : first < k = ⊎_elim (λ less. less) (λ less. absurd (other (omega arith))) (cases_lt first k) in
+          later_lets_none page (get_or stretches k d) (omega (arith, is.in_order first k d past h, above first d (omega arith) (omega arith)))
+
+  by_first : (has : Bool) → nat_lt first (length stretches) ≡ has → (lets : Bool) → lets_write page (get_or stretches first d) ≡ lets → list_any (lets_write page) stretches ≡ (has && lets)
+  by_first false e lets f = list_any_none (lets_write page) stretches (All-from_get_or (λ (s : Stretch). lets_write page s ≡ false) stretches d (λ k h. other_lets_none k h (λ (same : k ≡ first). let t = lt-ltb first (length stretches) (omega arith) in cc)))
+  by_first true e true f = list_any_at (lets_write page) stretches first d (ltb-true first (length stretches) e) f
+  by_first true e false f = list_any_none (lets_write page) stretches (All-from_get_or (λ (s : Stretch). lets_write page s ≡ false) stretches d (λ k h. at k h))
+    where
+      at : (k : ℕ) → k < length stretches → lets_write page (get_or stretches k d) ≡ false
+      at k h = ⊎_elim (λ less. other_lets_none k h (λ (same : k ≡ first). omega arith)) (λ more. ⊎_elim (λ less. other_lets_none k h (λ (same : k ≡ first). omega arith)) (λ less. same (omega arith)) (cases_lt first k)) (cases_lt k first)
+        where
+          same : k ≡ first → lets_write page (get_or stretches k d) ≡ false
+          same e = ap (λ (n : ℕ). lets_write page (get_or stretches n d)) e ∙ f
+
+  pub first_tells : list_any (lets_write page) stretches ≡ (nat_lt first (length stretches) && lets_write page (get_or stretches first d))
+  first_tells = by_first (nat_lt first (length stretches)) refl (lets_write page (get_or stretches first d)) refl

@@ -1,8 +1,7 @@
 -- Tables of stretches, and which pages are writable by them.
-use Rattle.std.proofs.Common.{◌≡◌, ℕ, zero, suc, ◌+◌, ◌*◌, ◌<◌, ◌≤◌, Bool, true, ◌&&◌, ◌||◌, nat_le, List, [], ◌∷◌, length, get_or, map, Any, All, refl, ap, ⊎_elim, arith}
+use Rattle.std.proofs.Common.{◌≡◌, ℕ, zero, suc, ◌+◌, ◌*◌, ◌<◌, ◌≤◌, Bool, true, ◌||◌, nat_le, List, [], ◌∷◌, length, get_or, map, Any, All, refl, ap, arith}
 use Rattle.std.specs.Bool.{Decides}
 use Rattle.std.specs.List.{AllPairs, list_any}
-use Rattle.std.proofs.lemmas.Bool.{cases_lt}
 use Rattle.std.proofs.lemmas.Bool.Decides.{Decides-and, Decides-or}
 use Rattle.std.proofs.lemmas.List.{get_or-map, length-map}
 use Rattle.std.proofs.lemmas.List.Elements.{All-nil, All-cons, All-head, All-tail, All-map, All-weaker}
@@ -15,7 +14,7 @@ use Rattle.pfr_manifest.specs.declared.stretch.Stretch.{Stretch}
 use Rattle.pfr_manifest.specs.Access.{IsPageWithin, IsWritable, writable_in}
 use Rattle.pfr_manifest.specs.Manifest.{IsManifestOf}
 use Rattle.pfr_manifest.specs.Regions.{IsRegion, IsInOrder, is_writable}
-use Rattle.pfr_manifest.specs.Stretches.{stretch_of, stretches_of, IsOfPages, IsTable, is_page_within}
+use Rattle.pfr_manifest.specs.Stretches.{stretch_of, stretches_of, IsOfPages, IsTable, is_page_within, lets_write}
 
 -- ---- the regions of a manifest are a table
 abbrev pub IsSome : Region → Type 0
@@ -84,9 +83,8 @@ Decides-any p P each xs = (
 
 pub Decides-writable : (m : Manifest) (layout : Layout) (page : ℕ) → Decides (writable_in m layout page) (IsWritable m layout page)
 Decides-writable m layout page =
-    let test : Stretch → Bool = λ stretch. stretch.writable && is_page_within page stretch.start stretch.end in
     let staging : ℕ = layout.staging_at + layout.area_len in
-    Decides-or (list_any test (stretches_of m)) (is_page_within page layout.staging_at staging)
-    (rw (list_any-map test stretch_of m.regions) (Decides-any (λ region. test (stretch_of region)) (λ region. (is_writable region ≡ true) × IsPageWithin page region.start region.end)
+    Decides-or (list_any (lets_write page) (stretches_of m)) (is_page_within page layout.staging_at staging)
+    (rw (list_any-map (lets_write page) stretch_of m.regions) (Decides-any (λ region. lets_write page (stretch_of region)) (λ region. (is_writable region ≡ true) × IsPageWithin page region.start region.end)
     (λ region. Decides-and (is_writable region) (is_page_within page region.start region.end) (Decides-true (is_writable region)) (Decides-within page region.start region.end)) m.regions))
     (Decides-within page layout.staging_at staging)

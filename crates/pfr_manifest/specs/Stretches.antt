@@ -30,8 +30,11 @@ pub record IsTable (stretches : List Stretch) : Type 0 where
 abbrev pub is_page_within : ℕ → ℕ → ℕ → Bool
 is_page_within page from upto = nat_le from (4096 * page) && nat_le (4096 * page + 4096) upto
 
--- The bus may write the page: it lies in a stretch that the bus may write, or in the staging area.
+-- the stretch lets the bus write the page
+abbrev pub lets_write : ℕ → Stretch → Bool
+lets_write page stretch = stretch.writable && is_page_within page stretch.start stretch.end
+
+-- The bus may write the page: a stretch lets it, or it lies in the staging area.
 abbrev pub writable_by : List Stretch → Layout → ℕ → Bool
 writable_by stretches layout page =
-    list_any (λ stretch. stretch.writable && is_page_within page stretch.start stretch.end) stretches
-    || is_page_within page layout.staging_at (layout.staging_at + layout.area_len)
+    list_any (lets_write page) stretches || is_page_within page layout.staging_at (layout.staging_at + layout.area_len)

@@ -1,9 +1,10 @@
 // The stretches that the filter of the bus looks up.
-ghost use Rattle.std.specs.Prelude.{◌≡◌, ◌==◌, ℕ, ◌+◌, ◌*◌, ◌-◌, ◌^◌, ◌<◌, ◌≤◌, length, slice_index_or};
+ghost use Rattle.std.specs.Prelude.{◌≡◌, ◌==◌, ◌&&◌, ℕ, ◌+◌, ◌*◌, ◌<◌, ◌≤◌, nat_lt, length, slice_index_or};
 ghost use Rattle.std.specs.Bool.{Decides};
+ghost use Rattle.std.specs.List.{list_any};
 ghost use Rattle.pfr_flash.specs.declared.layout.Layout.{Layout};
 ghost use Rattle.pfr_manifest.specs.Access.{IsWritable};
-ghost use Rattle.pfr_manifest.specs.Stretches.{stretches_of, IsTable, writable_by};
+ghost use Rattle.pfr_manifest.specs.Stretches.{stretches_of, IsTable, lets_write, writable_by};
 ghost use Rattle.pfr_manifest.specs.declared.stretch.Stretch.{Stretch};
 
 use crate::manifest::Manifest;
@@ -79,6 +80,9 @@ impl RegionTable {
         ensures within { result ≤ length self.now }
         ensures below { (k : ℕ) (d : Stretch) → k < result → (slice_index_or self.now k d).end ≤ at }
         ensures behind { (k : ℕ) (d : Stretch) → result ≤ k → k < length self.now → at < (slice_index_or self.now k d).end }
+        // Where a page begins there, that stretch tells whether one of them lets the bus write it.
+        ensures page { (page : ℕ) (d : Stretch) → 4096 * page ≡ at →
+            list_any (lets_write page) self.now ≡ (nat_lt result (length self.now) && lets_write page (slice_index_or self.now result d)) }
         ensures cost { steps.new ≤ steps.old + 7 }
     {
         let mut low = 0;

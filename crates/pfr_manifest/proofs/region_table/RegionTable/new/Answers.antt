@@ -1,7 +1,6 @@
-use Rattle.std.proofs.Common.{◌≡◌, List, map, arith}
+use Rattle.std.proofs.Common.{◌≡◌, map, arith}
 use Rattle.std.proofs.lemmas.Grind.{common_steps}
 use Rattle.pfr_manifest.specs.Stretches.{stretch_of}
-use Rattle.pfr_manifest.specs.declared.stretch.Stretch.{Stretch}
 use Rattle.pfr_manifest.proofs.StretchLemmas.{Decides-writable}
 use Rattle.pfr_manifest.proofs.region_table.RegionTable.new.Goals as goal
 
