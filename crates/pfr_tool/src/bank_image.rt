@@ -1,7 +1,6 @@
 // A bank's image, and its capsule.
 ghost use Rattle.std.specs.Prelude.{◌≡◌, ◌↔◌, ◌≤◌, length, vec_len, IsOk, OnOk, IfOk};
 ghost use Rattle.pfr_description.specs.Banks.{bank_of};
-ghost use Rattle.pfr_description.specs.Sound.{IsSound};
 ghost use Rattle.pfr_made.specs.Trust.{IsWorthy};
 ghost use Rattle.pfr_flash.specs.Layout.{IsValidLayout};
 ghost use Rattle.pfr_made.specs.Capsules.{signed_capsule};
@@ -216,7 +215,8 @@ pub fn make_bank(
     ensures judged { Judged result (judge_bank desc.now bank image.now staged.now) }
 
     // With the store of the same description it is trusted by any engine that accepts the rows, and its recovery area is good.
-    ensures worth { IsSound desc.now → IfOk result (λ made. IsWorthy desc.now bank made.flash made.rows) }
+    ensures worth { IfOk result (λ made. IsWorthy desc.now bank made.flash made.rows) }
 {
+    desc.sound();
     make_image(alloc, desc, bank, image, staged)
 }
