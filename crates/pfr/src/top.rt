@@ -1,7 +1,7 @@
 // The top call.
 ghost use Rattle.std.specs.Prelude.{◌≡◌, ◌≤◌, true, Some, None, IfSome};
 ghost use Rattle.pfr_report.specs.Texts.{AllText};
-ghost use Rattle.pfr_shelf.specs.Causes.{Rose};
+ghost use Rattle.pfr_flash.specs.FlashState.{Rose};
 ghost use Rattle.pfr.specs.Benches.{HasRun};
 ghost use Rattle.pfr.specs.Checks.{CheckAnswers};
 ghost use Rattle.pfr.specs.Faults.{IsFaultless};

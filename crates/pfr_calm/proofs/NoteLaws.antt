@@ -1,7 +1,7 @@
 -- Each step keeps its promises about releases, locks and faults.
 use Rattle.std.proofs.Common.{◌≡◌, ◌∙◌, refl, ap, ℕ, ◌≤◌, arith, List, length, take, Result, Ok, Err, inr}
 use Rattle.std.proofs.lemmas.List.{take-append-le, take_all}
-use Rattle.pfr_flash.specs.Operation.{Operation, play}
+use Rattle.pfr_flash.specs.Operation.{play_first, Operation, play}
 use Rattle.pfr_flash.specs.FlashState.{upto as state_upto}
 use Rattle.pfr_flash.specs.declared.names.Bank.{Bank}
 use Rattle.pfr_flash.specs.declared.names.Bank.TheVariants as bank
@@ -20,7 +20,7 @@ use Rattle.pfr_report.specs.declared.note.What.{What}
 use Rattle.pfr_report.specs.declared.note.What.TheVariants as what
 use Rattle.pfr_calm.specs.Story.{Past, Story, Move, after, counts_of, device_of, image_at, image_of, past_at}
 use Rattle.pfr_calm.specs.World.{World, story_of, state_at, AllMoved}
-use Rattle.pfr_calm.specs.Spans.{upto, count_at}
+use Rattle.pfr_calm.specs.Spans.{count_at}
 use Rattle.pfr_calm.specs.Turn.{next_item, Turn}
 use Rattle.pfr_calm.specs.Promises.{added, IsDue, IsFaultLock, FaultsHaveCauses, ReleasesTrusted, LocksHaveCauses, DistrustsWithCause}
 use Rattle.pfr_calm.proofs.Traces.{Begins, Precedes}
@@ -29,7 +29,10 @@ use Rattle.pfr_calm.proofs.StretchLaws.{Between, MayProvision, works, refused}
 use Rattle.pfr_calm.proofs.StepTraces.{MayTurn, Turn-known, Turn-traced}
 
 -- ---- what a device held at a moment, by its count then
-pub upto_begins : (a b : Past) → Begins a b → upto b (length a.ops) ≡ image_of a
+abbrev pub past_upto : Past → ℕ → List ℕ
+past_upto past count = play_first count past.start past.ops
+
+pub upto_begins : (a b : Past) → Begins a b → past_upto b (length a.ops) ≡ image_of a
 upto_begins a b p =
     let front : take (length a.ops) b.ops ≡ a.ops =
     ap (λ (ops : List Operation). take (length a.ops) ops) p.ops
@@ -38,14 +41,14 @@ upto_begins a b p =
 
 -- the bank's bytes then, and the store's
 pub bank_then : (which : Bank) (at story : Story) (counts : Counts) → counts ≡ counts_of at → Precedes at story
-    → upto (past_at (device_of which) story) (count_at which counts) ≡ image_at (device_of which) at
+    → past_upto (past_at (device_of which) story) (count_at which counts) ≡ image_at (device_of which) at
 bank_then bank.Bmc at story counts e p = rw e (upto_begins at.bmc story.bmc p.bmc)
 bank_then bank.Pch at story counts e p = rw e (upto_begins at.pch story.pch p.pch)
 
-pub store_then : (at story : Story) (counts : Counts) → counts ≡ counts_of at → Precedes at story → upto story.nv counts.nv ≡ image_at device.Nv at
+pub store_then : (at story : Story) (counts : Counts) → counts ≡ counts_of at → Precedes at story → past_upto story.nv counts.nv ≡ image_at device.Nv at
 store_then at story counts e p = rw e (upto_begins at.nv story.nv p.nv)
 
-pub past_state : (which : Bank) (w : World) (k : ℕ) → state_upto (state_at (device_of which) w) k ≡ upto (past_at (device_of which) (story_of w)) k
+pub past_state : (which : Bank) (w : World) (k : ℕ) → state_upto (state_at (device_of which) w) k ≡ past_upto (past_at (device_of which) (story_of w)) k
 past_state bank.Bmc w k = refl
 past_state bank.Pch w k = refl
 

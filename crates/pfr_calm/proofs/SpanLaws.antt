@@ -23,7 +23,8 @@ use Rattle.pfr_report.specs.declared.note.What.TheVariants as what
 use Rattle.pfr_calm.specs.Story.{Past, Story, Says, Does, counts_of, past_at, device_of, with_op, operated, noted, image_at}
 use Rattle.pfr_calm.specs.World.{World}
 use Rattle.pfr_calm.specs.Standing.{same_bank}
-use Rattle.pfr_calm.specs.Spans.{opens_after, closes, ended, opens_from, ended_from, upto, count_at, IsSpan, AllSpans, ReleasedSpans}
+use Rattle.pfr_calm.proofs.NoteLaws.{past_upto}
+use Rattle.pfr_calm.specs.Spans.{opens_after, closes, ended, opens_from, ended_from, count_at, IsSpan, AllSpans, ReleasedSpans}
 use Rattle.pfr_calm.proofs.Traces.{Keeps}
 use Rattle.pfr_calm.proofs.Facts.{Setting, Fact, IsGood}
 
@@ -53,7 +54,7 @@ module _ (accepts : Acceptance) where
   -- what is so is a span: the trust lasts throughout
   lasting : (which : Bank) (mine nv : Past) (begin end : Counts) → count_at which begin ≤ count_at which end → begin.nv ≤ end.nv
       → count_at which end ≤ length mine.ops → end.nv ≤ length nv.ops
-      → Lasts which (upto mine (count_at which begin)) (upto nv begin.nv) (between (count_at which begin) (count_at which end) mine.ops) (between begin.nv end.nv nv.ops)
+      → Lasts which (past_upto mine (count_at which begin)) (past_upto nv begin.nv) (between (count_at which begin) (count_at which end) mine.ops) (between begin.nv end.nv nv.ops)
       → IsSpan accepts which mine nv begin end
   lasting which mine nv begin end forth forth_store done done_store is = record {
     forth = forth;
@@ -82,14 +83,14 @@ module _ (accepts : Acceptance) where
         sym (take-take begin.nv end.nv later.ops p.forth_store)
         ∙ ap (λ (ops : List Operation). take begin.nv ops) f
         ∙ take-take begin.nv end.nv nv.ops p.forth_store in
-        let u : upto more (count_at which begin) ≡ upto mine (count_at which begin) =
+        let u : past_upto more (count_at which begin) ≡ past_upto mine (count_at which begin) =
         ap (λ (xs : List ℕ). play xs (take (count_at which begin) more.ops)) s ∙ ap (λ (ops : List Operation). play mine.start ops) b in
-        let v : upto later begin.nv ≡ upto nv begin.nv =
+        let v : past_upto later begin.nv ≡ past_upto nv begin.nv =
         ap (λ (xs : List ℕ). play xs (take begin.nv later.ops)) t ∙ ap (λ (ops : List Operation). play nv.start ops) c in
         let x : between (count_at which begin) (count_at which end) more.ops ≡ between (count_at which begin) (count_at which end) mine.ops =
         ap (λ (ops : List Operation). drop (count_at which begin) ops) e in
         let y : between begin.nv end.nv later.ops ≡ between begin.nv end.nv nv.ops = ap (λ (ops : List Operation). drop begin.nv ops) f in
-        let was : Lasts which (upto mine (count_at which begin)) (upto nv begin.nv) (between (count_at which begin) (count_at which end) mine.ops) (between begin.nv end.nv nv.ops) =
+        let was : Lasts which (past_upto mine (count_at which begin)) (past_upto nv begin.nv) (between (count_at which begin) (count_at which end) mine.ops) (between begin.nv end.nv nv.ops) =
         record { trusted = p.trusted; image_left = p.image; store_left = p.store } in
         lasting which more later begin end p.forth p.forth_store (omega (arith, p.done, m)) (omega (arith, p.done_store, n)) (rw (u, v, x, y) was)
 

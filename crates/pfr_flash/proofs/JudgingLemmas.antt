@@ -3,7 +3,7 @@ use Rattle.std.proofs.Common.{◌≡◌, ℕ, ◌≤◌, Bool, true, false, not,
 use Rattle.std.specs.Bool.{Decides}
 use Rattle.std.proofs.lemmas.Bool.{le-leb, leb-true}
 use Rattle.std.proofs.lemmas.Bool.Decides.{Decides-eqb}
-use Rattle.pfr_flash.specs.Judging.{◌>>=◌, ◌>>◌, require, require_none, known}
+use Rattle.pfr_flash.specs.Judging.{◌>>=◌, ◌>>◌, require, require_none, known, told_as}
 
 -- a judgement that ends well went on past its first test, and the rest ended well
 pub passed : {P Y E : Type 0} (cause : E) (test : Bool) (rest : Result Y E) (y : Y) → Decides test P → (require cause test >> rest) ≡ Ok y → P × (rest ≡ Ok y)
@@ -38,6 +38,11 @@ passed_last cause false h = cc
 pub passed_last_none : {E : Type 0} (cause : ℕ → E) (found : Option ℕ) → require_none cause found ≡ Ok tt → found ≡ None
 passed_last_none cause None h = refl
 passed_last_none cause (Some n) h = cc
+
+-- a judgement that is told as another's ends well where it does itself
+pub told_ok : {A E F : Type 0} (tell : E → F) (r : Result A E) (x : A) → told_as tell r ≡ Ok x → r ≡ Ok x
+told_ok tell (Ok y) x h = let e : y ≡ x = cc in rw e refl
+told_ok tell (Err e) x h = cc
 
 -- a test whose fact holds is passed
 pub goes_on : {P Y E : Type 0} (cause : E) (test : Bool) (rest : Result Y E) → Decides test P → P → (require cause test >> rest) ≡ rest

@@ -12,6 +12,7 @@ pub mod MemLemmas
 pub mod MovedLemmas
 pub mod ReadingLemmas
 pub mod EndsLemmas
+pub mod AnswerLemmas
 pub mod RangeLemmas
 pub mod PlanLemmas
 pub mod FuseLemmas

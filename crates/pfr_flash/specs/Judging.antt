@@ -25,3 +25,8 @@ known cause None = Err cause
 abbrev pub require_none : {E : Type 0} → (ℕ → E) → Option ℕ → Result (Unit {0}) E
 require_none cause None = Ok tt
 require_none cause (Some number) = Err (cause number)
+
+-- what another judgement found, whose causes are told as causes of this one
+abbrev pub told_as : {A E F : Type 0} → (E → F) → Result A E → Result A F
+told_as cause (Ok x) = Ok x
+told_as cause (Err other) = Err (cause other)

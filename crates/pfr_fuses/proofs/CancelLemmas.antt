@@ -4,7 +4,8 @@ use Rattle.std.specs.Prelude.{◌↔◌, ◌≢◌}
 use Rattle.std.proofs.lemmas.Bool.{cases_eq}
 use Rattle.pfr_flash.specs.Bytes.{bytes_at}
 use Rattle.pfr_flash.specs.FlashState.{FlashState, now, size_of}
-use Rattle.pfr_flash.specs.FuseRow.{IsCleared, MayClear, with_cleared}
+use Rattle.pfr_flash.specs.FuseRow.{IsCleared, with_cleared}
+use Rattle.pfr_flash.specs.Losing.{AddsAtMost, OnlyLoses}
 use Rattle.pfr_flash.specs.Plan.{Follows}
 use Rattle.pfr_flash.specs.Range.{AllWithin, IsWithin, SameOutside}
 use Rattle.pfr_flash.specs.declared.names.Bank.{Bank}
@@ -12,19 +13,21 @@ use Rattle.pfr_flash.specs.declared.names.Bank.TheVariants.{Bmc, Pch}
 use Rattle.pfr_flash.specs.declared.names.ContentType.{ContentType}
 use Rattle.pfr_flash.specs.declared.names.ContentType.TheVariants.{PchManifest, PchCapsule, BmcManifest, BmcCapsule}
 use Rattle.pfr_flash.specs.declared.flash.FlashFail.{FlashFail}
+use Rattle.pfr_flash.proofs.ClearingLemmas.{clearing-within, clearing-programs, clearing-part}
+use Rattle.pfr_flash.proofs.CutLemmas.{AddsAtMost-plan}
 use Rattle.pfr_flash.proofs.FollowsLemmas.{Follows-now, Follows-outside, DoesPart-now}
-use Rattle.pfr_flash.proofs.FuseLemmas.{IsCleared-program}
+use Rattle.pfr_flash.proofs.FuseLemmas.{MayClear, IsCleared-program}
+use Rattle.pfr_flash.proofs.LosingLemmas.{AllLose-programs, OnlyLoses-plan}
 use Rattle.pfr_flash.proofs.RangeLemmas.{length-now}
 use Rattle.pfr_fuses.specs.FuseMap.{IsSigning, IsBit, IsCancelBit, IsCancelled, profile_of, row_at}
 use Rattle.pfr_fuses.specs.FusesState.{FusesState, floor_row, row_of}
 use Rattle.pfr_fuses.specs.FusesOf.{RowStands, row_fuses, fuses_of}
 use Rattle.pfr_fuses.specs.Changes.{Cancels, CancelsAtMost, SameProvision, StaysButRow, cancellation, with_cancelled, with_row}
-use Rattle.pfr_fuses.specs.Growth.{NeverGoesBack, OnlyLoses, KeepsProvision, AddsAtMost, Adds}
+use Rattle.pfr_fuses.specs.Growth.{NeverGoesBack, KeepsProvision, Adds}
 use Rattle.pfr_fuses.specs.declared.profile.Profile.TheVariants.{Two}
-use Rattle.pfr_fuses.proofs.ClearingLemmas.{clearing-within, clearing-programs, clearing-part, row_bit-two, row_bit-stays}
+use Rattle.pfr_fuses.proofs.ClearingLemmas.{row_bit-two, row_bit-stays}
 use Rattle.pfr_fuses.proofs.ExactLemmas.{ChangedAt, fuses_of-but_row, row_kept, row-cleared}
-use Rattle.pfr_fuses.proofs.GrowthLemmas.{profile-outside, NeverGoesBack-programs, KeepsProvision-plan, Adds-within, AddsAtMost-plan, slots-outside}
-use Rattle.pfr_fuses.proofs.LosingLemmas.{AllLose-programs, OnlyLoses-plan}
+use Rattle.pfr_fuses.proofs.GrowthLemmas.{profile-outside, NeverGoesBack-programs, KeepsProvision-plan, Adds-within, slots-outside}
 use Rattle.pfr_fuses.proofs.StaysLemmas.{rows_apart, row_behind_floors, row_in_sector, floor_bits-outside, row_bits-outside, FloorStands-same, RowStands-same}
 
 -- ---- what is kept
@@ -192,14 +195,14 @@ module _ (type : ContentType) (id : ℕ) (old new : FlashState) (fuses after : F
 
   pub cancel-grows : NeverGoesBack old new
   cancel-grows = NeverGoesBack-programs (row_at Two type) 32 (cancellation type id) old new size follows.worked.moved.start follows.part
-      (clearing-programs (row_at Two type) 32 id (omega arith) (omega (arith, (row_in_sector type signing).1))) within (inl (omega (arith, (row_in_sector type signing).0)))
+      (clearing-programs 32768 (row_at Two type) 32 id (omega arith) (omega (arith, (row_in_sector type signing).1))) within (inl (omega (arith, (row_in_sector type signing).0)))
 
   pub cancel-provision : KeepsProvision old new
   cancel-provision = KeepsProvision-plan (row_at Two type) 32 (cancellation type id) old new size follows.worked.moved.start follows.part (omega (arith, (row_in_sector type signing).0)) within
 
   pub cancel-loses : OnlyLoses 0 32768 old new
-  cancel-loses = OnlyLoses-plan 0 32768 (omega arith) (cancellation type id) old new size follows.worked.moved.start follows.part
-      (AllLose-programs 0 32768 (cancellation type id) (clearing-programs (row_at Two type) 32 id (omega arith) (omega (arith, (row_in_sector type signing).1))))
+  cancel-loses = OnlyLoses-plan 32768 0 32768 (omega arith) (cancellation type id) old new size follows.worked.moved.start follows.part
+      (AllLose-programs 32768 0 32768 (cancellation type id) (clearing-programs 32768 (row_at Two type) 32 id (omega arith) (omega (arith, (row_in_sector type signing).1))))
 
   pub cancel-count : AddsAtMost 1 old new
   cancel-count = AddsAtMost-plan 1 (cancellation type id) old new follows.part (omega arith)

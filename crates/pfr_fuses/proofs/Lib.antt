@@ -14,4 +14,3 @@ pub mod RootSlotLemmas
 pub mod BlankLemmas
 pub mod ProvisionLemmas
 pub mod ExactLemmas
-pub mod LosingLemmas

@@ -4,6 +4,7 @@ use Rattle.std.specs.Int.Bits.{and_zero_r}
 use Rattle.std.proofs.lemmas.List.{ext_get_or, drop_at, take_at, append-nil}
 use Rattle.pfr_flash.specs.Bytes.{blank, bytes_at, written, and_bytes, continued}
 use Rattle.pfr_flash.specs.FlashState.{FlashState, now, upto, size_of, op_count_of}
+use Rattle.pfr_flash.specs.Losing.{AddsAtMost, OnlyLoses}
 use Rattle.pfr_flash.specs.Operation.{Operation, Erase, Program, applied, play, IsTorn}
 use Rattle.pfr_flash.specs.Plan.{IsPart, Follows}
 use Rattle.pfr_flash.specs.Range.{IsWithin, AllWithin, SameOutside}
@@ -13,8 +14,10 @@ use Rattle.pfr_flash.specs.declared.names.ContentType.{ContentType}
 use Rattle.pfr_flash.specs.declared.names.ContentType.TheVariants.{PchManifest, PchCapsule, BmcManifest, BmcCapsule}
 use Rattle.pfr_flash.specs.declared.flash.FlashFail.{FlashFail}
 use Rattle.pfr_flash.proofs.BytesLemmas.{length-blank, get_or-blank, get_or-written_inside, length-bytes_at, get_or-bytes_at, bytes_at-written, and_bytes-ones, continued-whole}
+use Rattle.pfr_flash.proofs.CutLemmas.{part_step, part_end, at_each, AddsAtMost-plan}
 use Rattle.pfr_flash.proofs.FollowsLemmas.{Follows-now, DoesPart-now}
 use Rattle.pfr_flash.proofs.FuseLemmas.{applied-byte}
+use Rattle.pfr_flash.proofs.LosingLemmas.{OnlyLoses-plan}
 use Rattle.pfr_flash.proofs.PlayLemmas.{length-applied}
 use Rattle.pfr_flash.proofs.RangeLemmas.{SameOutside-applied, SameOutside-torn, SameOutside-wider, then_outside, bytes_at-outside, length-now, IsTorn-within}
 use Rattle.pfr_fuses.specs.RootSlot.{provision_in}
@@ -23,11 +26,10 @@ use Rattle.pfr_fuses.specs.FuseMap.{IsSigning, IsCancelBit, profile_of, floor_at
 use Rattle.pfr_fuses.specs.FusesState.{FusesState, floor_row, row_of}
 use Rattle.pfr_fuses.specs.FusesOf.{Stands, FloorStands, RowStands, floor_fuses, row_fuses, fuses_with, fuses_of}
 use Rattle.pfr_fuses.specs.Changes.{AreRows, IsMigrating, migrated, migration}
-use Rattle.pfr_fuses.specs.Growth.{Grows, NeverGoesBack, OnlyLoses, KeepsProvision, AllAre, Adds, AddsAtMost}
+use Rattle.pfr_fuses.specs.Growth.{Grows, NeverGoesBack, KeepsProvision, AllAre, Adds}
 use Rattle.pfr_fuses.specs.declared.profile.Profile.{Profile}
 use Rattle.pfr_fuses.specs.declared.profile.Profile.TheVariants.{One, Two}
-use Rattle.pfr_fuses.proofs.GrowthLemmas.{part_step, part_end, at_each, profile-outside, slots-outside, IsProvisionedBy-same, KeepsProvision-plan, AddsAtMost-plan}
-use Rattle.pfr_fuses.proofs.LosingLemmas.{OnlyLoses-plan}
+use Rattle.pfr_fuses.proofs.GrowthLemmas.{profile-outside, slots-outside, IsProvisionedBy-same, KeepsProvision-plan}
 use Rattle.pfr_fuses.proofs.StandsLemmas.{floor_narrow, row_narrow, floor_stands, row_stands, fuses_of-found, fuses_of-ok}
 use Rattle.pfr_fuses.proofs.StaysLemmas.{floor_bits-outside, row_bits-outside, floor_fuses-outside, row_fuses-outside, FloorStands-same, RowStands-same}
 
@@ -429,7 +431,7 @@ module _ (old new : FlashState) (fuses after : FusesState) (result : Result (Uni
   migrate-provision = KeepsProvision-plan 2048 30720 (migration fuses) old new size follows.worked.moved.start follows.part (omega arith) (behind_slots fuses rows)
 
   pub migrate-loses : OnlyLoses 0 4096 old new
-  migrate-loses = OnlyLoses-plan 0 4096 (omega arith) (migration fuses) old new size follows.worked.moved.start follows.part
+  migrate-loses = OnlyLoses-plan 32768 0 4096 (omega arith) (migration fuses) old new size follows.worked.moved.start follows.part
       (inr (inl (omega arith)), (inr (inl (omega arith)), (inl (omega arith), tt)))
 
   pub migrate-count : AddsAtMost 3 old new

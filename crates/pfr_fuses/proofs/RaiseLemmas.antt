@@ -5,7 +5,8 @@ use Rattle.std.proofs.lemmas.Bool.{cases_Bool, cases_eq, cases_lt}
 use Rattle.std.proofs.lemmas.Bool.Decides.{nat_tests}
 use Rattle.pfr_flash.specs.Bytes.{bytes_at}
 use Rattle.pfr_flash.specs.FlashState.{FlashState, now, size_of}
-use Rattle.pfr_flash.specs.FuseRow.{IsCleared, IsHighest, MayClear, fuse_at, with_cleared}
+use Rattle.pfr_flash.specs.FuseRow.{IsCleared, IsHighest, clearing, fuse_at, with_cleared}
+use Rattle.pfr_flash.specs.Losing.{AddsAtMost, OnlyLoses}
 use Rattle.pfr_flash.specs.Operation.{Operation, play}
 use Rattle.pfr_flash.specs.Plan.{IsPart, Follows}
 use Rattle.pfr_flash.specs.Range.{AllWithin, IsWithin, SameOutside}
@@ -14,21 +15,23 @@ use Rattle.pfr_flash.specs.declared.names.Bank.TheVariants.{Bmc, Pch}
 use Rattle.pfr_flash.specs.declared.names.ContentType.{ContentType}
 use Rattle.pfr_flash.specs.declared.names.ContentType.TheVariants.{PchManifest, PchCapsule, BmcManifest, BmcCapsule}
 use Rattle.pfr_flash.specs.declared.flash.FlashFail.{FlashFail}
+use Rattle.pfr_flash.proofs.ClearingLemmas.{clearing-within, clearing-programs, clearing-part, MayClear-refl}
+use Rattle.pfr_flash.proofs.CutLemmas.{AllPrograms, part_end, AddsAtMost-plan}
 use Rattle.pfr_flash.proofs.FollowsLemmas.{Follows-now, Follows-outside, DoesPart-now}
-use Rattle.pfr_flash.proofs.FuseLemmas.{IsCleared-program}
+use Rattle.pfr_flash.proofs.FuseLemmas.{MayClear, IsCleared-program}
+use Rattle.pfr_flash.proofs.LosingLemmas.{AllLose-programs, OnlyLoses-plan}
 use Rattle.pfr_flash.proofs.RangeLemmas.{length-now}
 use Rattle.pfr_fuses.specs.FuseMap.{IsBit, IsFloorBit, IsFloor, profile_of, floor_at}
 use Rattle.pfr_fuses.specs.FusesState.{FusesState, floor_row, row_of, floor_of}
 use Rattle.pfr_fuses.specs.FusesOf.{FloorStands, floor_fuses, fuses_of}
-use Rattle.pfr_fuses.specs.Changes.{Raises, SameProvision, StaysButFloor, clearing, raise_plan, raised, with_floor}
-use Rattle.pfr_fuses.specs.Growth.{NeverGoesBack, OnlyLoses, KeepsProvision, AddsAtMost, Adds}
+use Rattle.pfr_fuses.specs.Changes.{Raises, SameProvision, StaysButFloor, raise_plan, raised, with_floor}
+use Rattle.pfr_fuses.specs.Growth.{NeverGoesBack, KeepsProvision, Adds}
 use Rattle.pfr_fuses.specs.declared.profile.Profile.TheVariants.{Two}
-use Rattle.pfr_fuses.proofs.ClearingLemmas.{clearing-within, clearing-programs, clearing-part, MayClear-refl, floor_bit-two, floor_bit-stays}
+use Rattle.pfr_fuses.proofs.ClearingLemmas.{floor_bit-two, floor_bit-stays}
 use Rattle.pfr_fuses.proofs.ExactLemmas.{ChangedAt, fuses_of-but_floor, floor_kept, floor-cleared}
 use Rattle.pfr_fuses.proofs.FloorLemmas.{floor_in-above, floor_in-highest}
-use Rattle.pfr_fuses.proofs.GrowthLemmas.{AllPrograms, part_end, profile-outside, NeverGoesBack-programs, KeepsProvision-plan, Adds-within, AddsAtMost-plan, slots-outside}
+use Rattle.pfr_fuses.proofs.GrowthLemmas.{profile-outside, NeverGoesBack-programs, KeepsProvision-plan, Adds-within, slots-outside}
 use Rattle.pfr_fuses.proofs.KeptLemmas.{raise_plan-none}
-use Rattle.pfr_fuses.proofs.LosingLemmas.{AllLose-programs, OnlyLoses-plan}
 use Rattle.pfr_fuses.proofs.StandsLemmas.{kept_floor}
 use Rattle.pfr_fuses.proofs.StaysLemmas.{floors_apart, row_behind_floors, floor_in_sector, floor_bits-outside, row_bits-outside, FloorStands-same, RowStands-same}
 
@@ -46,7 +49,7 @@ raise-within floor bank to most = raise_cases (λ plan. AllWithin (floor_at Two 
 
 pub raise-programs : (floor : ℕ) (bank : Bank) (to : ℕ) → to ≤ 127 → AllPrograms 32768 (raise_plan floor bank to)
 raise-programs floor bank to most =
-    raise_cases (λ plan. AllPrograms 32768 plan) floor bank to (λ le. tt) (λ lt. clearing-programs (floor_at Two bank) 16 (to - 1) (omega arith) (omega (arith, (floor_in_sector bank).1)))
+    raise_cases (λ plan. AllPrograms 32768 plan) floor bank to (λ le. tt) (λ lt. clearing-programs 32768 (floor_at Two bank) 16 (to - 1) (omega arith) (omega (arith, (floor_in_sector bank).1)))
 
 raise-part : (image : List ℕ) (floor : ℕ) (bank : Bank) (to : ℕ) (added : List Operation) → length image ≡ 32768 → to ≤ 127 → IsPart image (raise_plan floor bank to) added
     → MayClear (floor_at Two bank) 16 (to - 1) image (play image added)
@@ -249,8 +252,8 @@ module _ (bank : Bank) (to : ℕ) (old new : FlashState) (fuses after : FusesSta
       (omega (arith, (floor_in_sector bank).0)) (raise-within (floor_of fuses bank) bank to most)
 
   pub raise-loses : OnlyLoses 0 32768 old new
-  raise-loses = OnlyLoses-plan 0 32768 (omega arith) (raise_plan (floor_of fuses bank) bank to) old new size follows.worked.moved.start follows.part
-      (AllLose-programs 0 32768 (raise_plan (floor_of fuses bank) bank to) (raise-programs (floor_of fuses bank) bank to most))
+  raise-loses = OnlyLoses-plan 32768 0 32768 (omega arith) (raise_plan (floor_of fuses bank) bank to) old new size follows.worked.moved.start follows.part
+      (AllLose-programs 32768 0 32768 (raise_plan (floor_of fuses bank) bank to) (raise-programs (floor_of fuses bank) bank to most))
 
   pub raise-count : AddsAtMost 1 old new
   raise-count = AddsAtMost-plan 1 (raise_plan (floor_of fuses bank) bank to) old new follows.part

@@ -1,10 +1,8 @@
 pub mod RegionLemmas
-pub mod Pieces
 pub mod AnswerLemmas
 pub mod EntryLemmas
 pub mod LoopLemmas
 pub mod Numbers
-pub mod Tests
 pub mod PartLaws
 pub mod SpellingLaws
 pub mod ReadingLaw

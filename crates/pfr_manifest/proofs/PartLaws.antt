@@ -7,18 +7,19 @@ use Rattle.pfr_manifest.specs.declared.manifest.Manifest.{Manifest}
 use Rattle.pfr_manifest.specs.declared.region.Region.{Region}
 use Rattle.pfr_manifest.specs.declared.region.RegionHash.{RegionHash}
 use Rattle.pfr_manifest.specs.declared.rule.Rule.{Rule}
-use Rattle.pfr_manifest.specs.Fields.{number_at}
+use Rattle.pfr_flash.specs.Numbers.{number_at}
 use Rattle.pfr_manifest.specs.Regions.{IsRegion, is_static, is_writable, last_start, last_end}
 use Rattle.pfr_manifest.specs.Spelling.{magic}
 use Rattle.pfr_manifest.specs.Judge.{judge_header, judge_definition, judge_region, judge_rule, header_at, region_at, rule_at, hash_at, region_size, is_clear}
-use Rattle.pfr_manifest.proofs.Tests.{Decides-clear, passed_test, passed_last}
+use Rattle.pfr_flash.proofs.JudgingLemmas.{passed_test, passed_last}
+use Rattle.pfr_manifest.proofs.RegionLemmas.{Decides-clear}
 
 pub header_holds : (header : List ℕ) (count : ℕ) (m : Manifest) → judge_header header count ≡ Ok m →
-    (32 ≤ count) × (number_at header 0 4 ≡ magic) × (slice_index header 4 ≤ 127) × (number_at header 28 4 ≡ count) × (0 < count) × (count % 128 ≡ 0) × (m ≡ header_at header)
+    (32 ≤ count) × (number_at header 0 ≡ magic) × (slice_index header 4 ≤ 127) × (number_at header 28 ≡ count) × (0 < count) × (count % 128 ≡ 0) × (m ≡ header_at header)
 unfolding judge_header
 header_holds header count m h = grind (arith, nat_tests)
 
-pub header_ends : (header : List ℕ) (count : ℕ) → 32 ≤ count → number_at header 0 4 ≡ magic → slice_index header 4 ≤ 127 → number_at header 28 4 ≡ count → count % 128 ≡ 0 → judge_header header count ≡ Ok (header_at header)
+pub header_ends : (header : List ℕ) (count : ℕ) → 32 ≤ count → number_at header 0 ≡ magic → slice_index header 4 ≤ 127 → number_at header 28 ≡ count → count % 128 ≡ 0 → judge_header header count ≡ Ok (header_at header)
 unfolding judge_header
 header_ends header count a b d e f = grind (arith, nat_tests)
 

@@ -1,15 +1,15 @@
 // What may stand at a place behind a manifest's header.
 ghost use Rattle.std.specs.Prelude.{◌≡◌, ◌<◌, ◌≤◌, length, IfOk, IfErr};
-ghost use Rattle.pfr_manifest.specs.Answer.{IsFound};
+ghost use Rattle.pfr_flash.specs.Answer.{IsFound};
+ghost use Rattle.pfr_manifest.specs.Answer.{manifest_failure};
 ghost use Rattle.pfr_manifest.specs.Judge.{HasRoom, region_len, region_size, hash_at, region_at, rule_at, is_clear_of, is_clear, judge_definition, judge_region, judge_rule, judge_entry, judge_tail};
 
 use crate::fail::ManifestFail;
-use crate::fields::{bytes_at, number, short_number};
 use crate::manifest::Manifest;
 use crate::region::{Region, RegionHash};
 use crate::regions::Regions;
 use crate::rule::Rule;
-use pfr_flash::Layout;
+use pfr_flash::{Layout, array_at, number_at, short_number_at};
 
 /// The longest definition.
 pub const LONGEST: usize = 64;
@@ -34,7 +34,7 @@ fn region_size(entry: &[u8]) -> usize
     requires { 16 ≤ length entry.now }
     ensures { result ≡ region_size entry.now }
 {
-    match short_number(entry, 2) {
+    match short_number_at(entry, 2) {
         1 => 48,
         2 => 64,
         _ => 16,
@@ -48,10 +48,10 @@ fn hash_of(entry: &[u8]) -> Option<RegionHash>
     requires whole { region_size entry.now ≤ length entry.now }
     ensures { result ≡ hash_at entry.now }
 {
-    match short_number(entry, 2) {
+    match short_number_at(entry, 2) {
         0 => Some(RegionHash::None),
-        1 => Some(RegionHash::Sha256(bytes_at(entry, 16))),
-        2 => Some(RegionHash::Sha384(bytes_at(entry, 16))),
+        1 => Some(RegionHash::Sha256(array_at(entry, 16))),
+        2 => Some(RegionHash::Sha384(array_at(entry, 16))),
         _ => None,
     }
 }
@@ -63,9 +63,9 @@ fn region_of(entry: &[u8], hash: RegionHash) -> Region
 {
     Region {
         mask: entry[1],
-        reserved: bytes_at(entry, 4),
-        start: number(entry, 8),
-        end: number(entry, 12),
+        reserved: array_at(entry, 4),
+        start: number_at(entry, 8),
+        end: number_at(entry, 12),
         hash,
     }
 }
@@ -76,11 +76,11 @@ fn rule_of(entry: &[u8]) -> Rule
     ensures { result ≡ rule_at entry.now }
 {
     Rule {
-        reserved: bytes_at(entry, 1),
+        reserved: array_at(entry, 1),
         bus: entry[5],
         rule: entry[6],
         address: entry[7],
-        commands: bytes_at(entry, 8),
+        commands: array_at(entry, 8),
     }
 }
 
@@ -89,7 +89,7 @@ fn rule_of(entry: &[u8]) -> Rule
 fn definition(entry: &[u8], place: u32, manifest: &Manifest) -> Result<Region, ManifestFail>
     ensures exact { result ≡ judge_definition entry.now place manifest.now }
     ensures room { IfOk result (λ region. (region_len region ≤ length entry.now) × (length manifest.now.regions < 64)) }
-    ensures found { IfErr result IsFound }
+    ensures found { IfErr result (IsFound manifest_failure) }
 {
     if !manifest.rules.is_empty() || entry.len() < 16 || entry.len() < region_size(entry) {
         return Err(ManifestFail::EntryType(place));
@@ -127,7 +127,7 @@ fn check_region(
     bank: u32,
 ) -> Result<(), ManifestFail>
     ensures exact { result ≡ judge_region region.now before.now layout.now bank }
-    ensures found { IfErr result IsFound }
+    ensures found { IfErr result (IsFound manifest_failure) }
 {
     let k = before.len();
     if region.is_static() && region.is_writable() {
@@ -153,7 +153,7 @@ fn check_region(
 fn rule_definition(entry: &[u8], place: u32, manifest: &Manifest) -> Result<Rule, ManifestFail>
     ensures exact { result ≡ judge_rule entry.now place manifest.now }
     ensures room { IfOk result (λ rule. (40 ≤ length entry.now) × (length manifest.now.rules < 64)) }
-    ensures found { IfErr result IsFound }
+    ensures found { IfErr result (IsFound manifest_failure) }
 {
     if entry.len() < RULE {
         return Err(ManifestFail::EntryType(place));
@@ -177,7 +177,7 @@ impl Entry {
         requires { 0 < length entry.now }
         ensures exact { result ≡ judge_entry entry.now place manifest.now layout.now bank }
         ensures room { IfOk result (λ found. HasRoom found (length entry.now) manifest.now) }
-        ensures found { IfErr result IsFound }
+        ensures found { IfErr result (IsFound manifest_failure) }
     {
         match entry[0] {
             0xFF => Ok(Entry::Tail),
@@ -196,7 +196,7 @@ impl Entry {
 #[tactic(auto, unfolding(crate::specs::Judge::judge_tail))]
 pub fn check_tail(tail: &[u8]) -> Result<(), ManifestFail>
     ensures exact { result ≡ judge_tail tail.now }
-    ensures found { IfErr result IsFound }
+    ensures found { IfErr result (IsFound manifest_failure) }
 {
     if tail.len() >= 128 || !tail.iter().all(|byte| *byte == 0xFF) {
         return Err(ManifestFail::Tail);

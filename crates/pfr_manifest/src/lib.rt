@@ -3,7 +3,6 @@
 
 mod entry;
 mod fail;
-mod fields;
 mod manifest;
 mod reading;
 mod region;

@@ -9,7 +9,7 @@ use Rattle.pfr_manifest.specs.declared.fail.ManifestFail.TheVariants as manifest
 use Rattle.pfr_capsule.specs.Answer as capsules
 use Rattle.pfr_capsule.specs.declared.fail.CapsuleFail.{CapsuleFail}
 use Rattle.pfr_capsule.specs.declared.fail.CapsuleFail.TheVariants as capsule
-use Rattle.pfr_auth.specs.Answer.{failure_of}
+use Rattle.pfr_auth.specs.Answer.{active_failure}
 use Rattle.pfr_auth.specs.declared.fail.ActiveFail.{ActiveFail}
 use Rattle.pfr_auth.specs.declared.fail.ActiveFail.TheVariants as active
 
@@ -134,7 +134,7 @@ capsule_text cause = capsule_kind cause ++ numbered (capsule_word cause) (capsul
 
 -- it is found in the bytes, and is no failure of the device
 abbrev pub IsFound : ActiveFail → Type 0
-IsFound cause = failure_of cause ≡ None
+IsFound cause = active_failure cause ≡ None
 
 -- both causes of a bank without a good image are such
 pub record AreFound (active : ActiveFail) (recovery : CapsuleFail) : Type 0 where

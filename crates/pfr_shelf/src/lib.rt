@@ -8,6 +8,8 @@ mod host;
 mod mem_shelf;
 mod mem_sink;
 mod outside;
+mod reading;
+mod whole;
 mod write;
 
 pub use failure::Access;
