@@ -6,7 +6,7 @@ use Rattle.pfr_engine.specs.Acceptance.{Acceptance}
 use Rattle.pfr_engine.specs.declared.engine.Ask.{Ask}
 use Rattle.pfr_engine.specs.declared.engine.Curve.{Curve}
 use Rattle.pfr_chain.specs.Chain.{IsBlock1, IsChain}
-use Rattle.pfr_chain.specs.Fields.{number_at}
+use Rattle.pfr_flash.specs.Numbers.{number_at}
 use Rattle.pfr_chain.specs.Form1.{IsRoot, IsSigned, IsKey, IsBlock0Entry, IsForm1}
 use Rattle.pfr_chain.specs.Keys.{any, public_key_at, signature_at, MaySign}
 use Rattle.pfr_chain.specs.Types.{is_certificate}

@@ -19,7 +19,7 @@ use Rattle.pfr_made.specs.Capsules.{capsule_body}
 use Rattle.pfr_made.specs.Judge.{IsPlaced, before, fit_capsule, fit_manifest, is_bank_size, judge_image, judge_place, judge_places, of_bank, of_manifest, require_fit, require_image}
 use Rattle.pfr_made.specs.Made.{active_image, judge_bank, judge_fits, judge_given}
 use Rattle.pfr_made.specs.Manifests.{manifest_length}
-use Rattle.pfr_made.specs.Regions.{judge_entries}
+use Rattle.pfr_made.specs.Entries.{judge_entries}
 
 -- all that a bank's description, image and staged file obey
 pub record IsMakeable (desc : Description) (bank : Bank) (image staged : List ℕ) : Type 0 where

@@ -7,7 +7,8 @@ ghost use Rattle.pfr_made.specs.Capsules.{signed_capsule};
 ghost use Rattle.pfr_made.specs.Images.{active_of, signed_manifest};
 ghost use Rattle.pfr_made.specs.Judge.{IsPlaced, Judged, judge_image, of_manifest, require_fit};
 ghost use Rattle.pfr_made.specs.Made.{active_image, with_areas, flash_of, rows_of, judge_given, judge_fits, judge_bank};
-ghost use Rattle.pfr_made.specs.Regions.{IsInside, judge_entries};
+ghost use Rattle.pfr_made.specs.Entries.{judge_entries};
+ghost use Rattle.pfr_made.specs.Regions.{IsInside};
 ghost use Rattle.std.specs.List.{All};
 
 use crate::capsule::signed_capsule;
