@@ -32,8 +32,8 @@ module _ (image : List ℕ) (place len : ℕ) (bank : Bank) (layout : Layout) (f
       record {
         within = omega (arith, capsule_begins, capsule_ends);
         signed_manifest = record { low = omega (arith, capsule_begins); high = omega (arith, capsule_begins, inner_begins, fills) };
-        erase_map = record { low = omega (arith, capsule_begins, inner_begins); high = omega (arith, capsule_begins, inner_begins, fills) };
-        copy_map = record { low = omega (arith, capsule_begins, inner_begins); high = omega (arith, capsule_begins, inner_begins, fills) };
+        erase = record { low = omega (arith, capsule_begins, inner_begins); high = omega (arith, capsule_begins, inner_begins, fills) };
+        copy = record { low = omega (arith, capsule_begins, inner_begins); high = omega (arith, capsule_begins, inner_begins, fills) };
         payload = record { low = omega (arith, capsule_begins, inner_begins); high = omega (arith, capsule_begins, inner_begins, fills, payload) };
       }
 

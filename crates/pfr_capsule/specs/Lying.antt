@@ -13,6 +13,6 @@ pub record LiesIn (from len at count : ℕ) : Type 0 where
 pub record LiesAt (image : List ℕ) (place len : ℕ) (capsule : CapsuleState) : Type 0 where
   pub within : capsule.length ≤ len
   pub signed_manifest : LiesIn place capsule.length capsule.signed_manifest.at capsule.signed_manifest.len
-  pub erase_map : LiesIn place capsule.length capsule.pages.erase_at (capsule.pages.bits / 8)
-  pub copy_map : LiesIn place capsule.length capsule.pages.copy_at (capsule.pages.bits / 8)
+  pub erase : LiesIn place capsule.length capsule.pages.erase_at (capsule.pages.bits / 8)
+  pub copy : LiesIn place capsule.length capsule.pages.copy_at (capsule.pages.bits / 8)
   pub payload : LiesIn place capsule.length capsule.pages.payload_at (4096 * count_before (copy_map image capsule.pages) capsule.pages.bits)

@@ -13,7 +13,7 @@ loop-n-init g c = record {
 
 pub returns-in_err-page-clause-ends : goal.returns-in_err-page-clause-ends
 returns-in_err-page-clause-ends g c =
-    let p = err_from_is_err_and c.from_residual-in_err-page.result c.from_residual-in_err-page.ensures.1 in
+    let p = err_from_is_err_and c.from_residual.result c.from_residual.ensures.1 in
     rw (p.1, p.2) (then_ends c.loop-n.invariant.ends c.in_err-page.ensures.ends)
 
 pub returns-in_err-feed_page-clause-ends : goal.returns-in_err-feed_page-clause-ends

@@ -12,7 +12,7 @@ loop-k-init g c = record { ends = EndsAt-refl _; exact = refl }
 
 pub returns-in_err-is_coherent-clause-ends : goal.returns-in_err-is_coherent-clause-ends
 returns-in_err-is_coherent-clause-ends g c =
-    let p = err_from_is_err_and c.from_residual-in_err-is_coherent.result c.from_residual-in_err-is_coherent.ensures.1 in
+    let p = err_from_is_err_and c.from_residual.result c.from_residual.ensures.1 in
     rw (p.1, p.2) (then_ends c.loop-k.invariant.ends c.in_err-is_coherent.ensures.ends)
 
 pub returns-then-not-branch-clause-exact : goal.returns-then-not-branch-clause-exact
