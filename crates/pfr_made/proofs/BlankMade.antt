@@ -1,7 +1,5 @@
 -- The regions that are blank in the image that is hashed.
-use Rattle.std.proofs.Common.{◌≡◌, ℕ, ◌+◌, ◌-◌, ◌≤◌, ◌<◌, inl, Bool, true, false, if◌then◌else◌, nat_le, nat_lt, not, ◌&&◌, List, [], ◌∷◌, length, replicate, All, Ok, refl, sym, ap, ◌∙◌, arith, is_some, ◌%◌}
-use Rattle.std.specs.Prelude.{◌==◌}
-use Rattle.std.proofs.lemmas.Bool.{leb-true, ltb-true}
+use Rattle.std.proofs.Common.{◌≡◌, ℕ, ◌+◌, ◌-◌, ◌≤◌, ◌<◌, inl, Bool, true, false, if◌then◌else◌, List, [], ◌∷◌, length, replicate, All, Ok, refl, sym, ap, ◌∙◌, arith}
 use Rattle.std.proofs.lemmas.List.{length-replicate}
 use Rattle.std.proofs.lemmas.List.Elements.{All-nil, All-cons}
 use Rattle.pfr_flash.specs.Bytes.{bytes_at, written}

@@ -1,5 +1,5 @@
 -- Digests and numbers are made of bytes.
-use Rattle.std.proofs.Common.{ℕ, zero, suc, ◌<◌, List, ◌++◌, arith}
+use Rattle.std.proofs.Common.{ℕ, zero, suc, ◌<◌, List, arith}
 use Rattle.std.specs.Int.{byte_at, bytes_high_first, bytes_low_first, to_be_bytes, w32, w64}
 use Rattle.std.specs.Prelude.{slice_index}
 use Rattle.byteorder.specs.Endian.{little_bytes}

@@ -60,7 +60,7 @@ module _ (layout : Layout) (size : ℕ) where
     unfolding region_of
     region_hashed region is = record {
       not_both = λ (static : has_hash (hash_of region.hash (bytes_of active region)) ≡ true).
-        is.not_both (has_hash_of region.hash (bytes_of [] region) ∙ sym (has_hash_of region.hash (bytes_of active region)) ∙ static);
+          is.not_both (has_hash_of region.hash (bytes_of [] region) ∙ sym (has_hash_of region.hash (bytes_of active region)) ∙ static);
       start_aligned = is.start_aligned;
       end_aligned = is.end_aligned;
       some = is.some;

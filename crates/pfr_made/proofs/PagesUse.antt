@@ -1,7 +1,6 @@
 -- What the description says of a page: each page of a region has the region's use, and a page with another use than Keep lies in a region.
-use Rattle.std.proofs.Common.{◌≡◌, ◌∙◌, ap, sym, subst, refl, ℕ, zero, suc, ◌+◌, ◌*◌, ◌%◌, ◌<◌, ◌≤◌, Bool, true, false, not, ◌==◌, ◌&&◌, nat_le, nat_lt, is_some, if◌then◌else◌, List, [], ◌∷◌, ◌++◌, length, get_or, map, Any, inl, inr, Result, Ok, Err, arith}
+use Rattle.std.proofs.Common.{◌≡◌, ◌∙◌, ap, sym, subst, refl, ℕ, zero, suc, ◌*◌, ◌%◌, ◌<◌, ◌≤◌, Bool, true, false, ◌&&◌, nat_le, nat_lt, if◌then◌else◌, List, [], ◌∷◌, ◌++◌, length, get_or, map, Any, inl, inr, Ok, arith}
 use Rattle.std.proofs.lemmas.Bool.{cases_Bool, and_parts, and_from, le-leb, leb-true, lt-ltb, le-ltb, ltb-true}
-use Rattle.std.proofs.lemmas.Bool.Decides.{nat_tests}
 use Rattle.pfr_flash.specs.declared.layout.Layout.{Layout}
 use Rattle.pfr_flash.specs.Judging.{◌>>◌, require}
 use Rattle.pfr_manifest.specs.Judge.{judge_region}
@@ -44,8 +43,7 @@ regions_ordered before (region ∷ others) layout size h =
     let p = passed_unit (judge_next before made layout size) (judge_regions (before ++ made ∷ []) (map outline others) layout size) tt h in
     let q = passed_test TooMany (nat_lt (length before) 64) (judge_region made before layout size) tt p.0 in
     let is = region_holds made before layout size q.1 in
-    let rest = regions_ordered (before ++ made ∷ []) others layout size p.1 in
-    (
+    let rest = regions_ordered (before ++ made ∷ []) others layout size p.1 in (
       record { start_aligned = is.0.start_aligned; end_aligned = is.0.end_aligned; some = is.0.some; inside = is.0.inside },
       is.1,
       subst (λ (from : ℕ). AreOrdered from size others) (last_end-push before made) rest,

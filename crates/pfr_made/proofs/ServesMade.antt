@@ -6,7 +6,6 @@ use Rattle.sha2.specs.Sha256.{sha256}
 use Rattle.sha2.specs.Sha512.{sha384}
 use Rattle.pfr_flash.specs.Bytes.{blank, bytes_at}
 use Rattle.pfr_manifest.specs.Hashes.{HasHash}
-use Rattle.pfr_manifest.specs.Regions.{has_hash}
 use Rattle.pfr_capsule.specs.Good.{Serves}
 use Rattle.pfr_capsule.specs.Maps.{IsCovered}
 use Rattle.pfr_capsule.specs.PageBytes.{IsCoherent, page_bytes, region_bytes}

@@ -1,5 +1,5 @@
 // Judges what a manifest would have of a description.
-ghost use Rattle.std.specs.Prelude.{◌≡◌, OnOk, map};
+ghost use Rattle.std.specs.Prelude.{◌≡◌, [], OnOk, map};
 ghost use Rattle.std.specs.List.{All};
 ghost use Rattle.pfr_manifest.specs.Judge.{is_clear_of, is_clear};
 ghost use Rattle.pfr_manifest.specs.Regions.{last_start, last_end};
