@@ -55,7 +55,7 @@ fn read_top(alloc: Global, top: &Table) -> Result<Description, DescFail>
 /// `Err(NoMemory)` says nothing of the text.
 #[tactic(auto, unfolding(crate::specs::Whole::judge_description))]
 pub fn read_description(alloc: Global, text: &[u8]) -> Result<Description, DescFail>
-    ensures { Reads result (judge_description text.now) }
+    ensures exact { Reads result (judge_description text.now) }
 {
     let top = document(alloc, text)?;
     read_top(alloc, &top)
