@@ -14,7 +14,7 @@ use Rattle.pfr_chain.specs.declared.form.Form as chain_forms
 use Rattle.pfr_chain.specs.declared.public_key.PublicKey as chain
 use Rattle.pfr_chain.specs.declared.signature.Signature.{Signature}
 use Rattle.pfr_made.specs.Blocks.{block0_bytes, block_in, signed_bytes}
-use Rattle.pfr_made.specs.Chained.{made_chain}
+use Rattle.pfr_made.proofs.Chained.{made_chain}
 use Rattle.pfr_made.specs.Fields.{number_bytes}
 use Rattle.pfr_made.specs.Form1.{key_bytes, signature_bytes, signed_key, marks_on_key, head_bytes, key_entry, block0_entry, block_of}
 use Rattle.pfr_made.specs.Marks.{marks_of}

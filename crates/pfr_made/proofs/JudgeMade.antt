@@ -73,11 +73,6 @@ place_told bank part h =
       layout = judged_valid part.layout part.size (passed_layout bank (judge_layout part.layout part.size) p.1);
     }
 
-pub places_told : (desc : Description) (bank : Bank) → judge_places desc ≡ Ok tt → IsPlaced (bank_of desc bank)
-unfolding judge_places bank_of
-places_told desc Bmc h = place_told Bmc desc.bmc (passed_before (judge_place Bmc desc.bmc) (judge_place Pch desc.pch) h).0
-places_told desc Pch h = place_told Pch desc.pch (passed_before (judge_place Bmc desc.bmc) (judge_place Pch desc.pch) h).1
-
 pub bank_told : (desc : Description) (bank : Bank) (image staged : List ℕ) → judge_bank desc bank image staged ≡ Ok tt → IsMakeable desc bank image staged
 unfolding judge_given judge_fits judge_image fit_manifest fit_capsule
 bank_told desc bank image staged h =

@@ -39,3 +39,4 @@ pub mod ServesMade
 pub mod StoreMade
 pub mod TrustMade
 pub mod WorthMade
+pub mod Chained

@@ -41,11 +41,6 @@ entries_judged part judged =
       rules = leb-true (length part.smbus) 64 (passed_last TooMany (nat_le (length part.smbus) 64) q.1);
     }
 
--- what the manifest holds is what the description says
-pub manifest_svn : (part : BankDescription) (active : List ℕ) → (manifest_of part active).svn ≡ part.svn
-unfolding manifest_of
-manifest_svn part active = refl
-
 pub manifest_regions : (part : BankDescription) (active : List ℕ) → (manifest_of part active).regions ≡ map (region_of active) part.regions
 unfolding manifest_of
 manifest_regions part active = refl
