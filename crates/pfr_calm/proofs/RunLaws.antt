@@ -344,11 +344,12 @@ pub Reached-keeps : (did : Item → World → World → Type 0) (P : World → T
 Reached-keeps did P keeps [] old new r p = subst P (sym r) p
 Reached-keeps did P keeps (i ∷ items) old new (mid, d, r) p = Reached-keeps did P keeps items mid new r (keeps i old mid d p)
 
--- what holds of each item besides
-pub Reached-with : (did Q : Item → World → World → Type 0) → ((i : Item) (a b : World) → did i a b → Q i a b)
-    → (items : List Item) (old new : World) → Reached did items old new → Reached (λ i a b. did i a b × Q i a b) items old new
-Reached-with did Q holds [] old new r = r
-Reached-with did Q holds (i ∷ items) old new (mid, d, r) = (mid, (d, holds i old mid d), Reached-with did Q holds items mid new r)
+-- what holds of each item besides, where the devices hold bytes
+pub Reached-with : (accepts : Acceptance) (tears : List (List ℕ)) (Q : Item → World → World → Type 0) → ((i : Item) (a b : World) → HaveBytes b → Did accepts tears i a b → Q i a b)
+    → (items : List Item) (old new : World) → HaveBytes new → Reached (Did accepts tears) items old new → Reached (λ i a b. Did accepts tears i a b × Q i a b) items old new
+Reached-with accepts tears Q holds [] old new held r = r
+Reached-with accepts tears Q holds (i ∷ items) old new held (mid, d, r) =
+    (mid, (d, holds i old mid ((Reached-later accepts tears items mid new r).bytes held) d), Reached-with accepts tears Q holds items mid new held r)
 
 -- ---- what is left can be done
 with_arm_arms : (w : ArmWhat) (nth : ℕ) (tear : List ℕ) (d : FlashState) (n : ℕ) → cond (is_counted w) 1 0 + n ≤ d.arms → n ≤ (with_arm w nth tear d).arms

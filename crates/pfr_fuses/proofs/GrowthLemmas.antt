@@ -1,7 +1,6 @@
 -- Fuses at each count of operations.
 use Rattle.std.proofs.Common.{◌≡◌, ℕ, ◌+◌, ◌-◌, ◌*◌, ◌≤◌, ◌<◌, List, [], ◌∷◌, length, take, get_or, refl, sym, ap, ◌∙◌, subst, arith, ◌⊎◌, inl, inr}
 use Rattle.std.proofs.lemmas.Bool.{cases_lt}
-use Rattle.std.proofs.lemmas.List.{append-nil}
 use Rattle.pfr_flash.specs.Operation.{Operation, play}
 use Rattle.pfr_flash.specs.FlashState.{FlashState, now, upto, size_of, op_count_of}
 use Rattle.pfr_flash.specs.Moved.{Extends}
@@ -67,11 +66,6 @@ NeverGoesBack-programs from len plan old new size start h programs within apart 
         Grows-clears (upto new m) (upto new n) (same_profile n above ∙ sym (same_profile m low))
         (subst (λ (a : List ℕ). OnlyClears a (upto new n)) (sym (at_place m low))
         (subst (λ (b : List ℕ). OnlyClears (play (now old) (take (m - op_count_of old) h.added)) b) (sym (at_place n above)) clears))
-
--- nor does one that does no operation
-pub NeverGoesBack-none : (old new : FlashState) → size_of old ≡ 32768 → new.start ≡ old.start → new.ops ≡ old.ops → NeverGoesBack old new
-NeverGoesBack-none old new size start ops =
-    NeverGoesBack-programs 0 0 [] old new size start (record { added = []; is = ops ∙ sym (append-nil old.ops); part = tt }) tt tt (inr (omega arith))
 
 -- two calls, or runs of calls, in a row
 pub NeverGoesBack-trans : (a b c : FlashState) → c.start ≡ b.start → Extends b.ops c.ops → NeverGoesBack a b → NeverGoesBack b c → NeverGoesBack a c

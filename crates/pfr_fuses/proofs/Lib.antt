@@ -1,3 +1,4 @@
+pub mod AnswerLemmas
 pub mod FloorLemmas
 pub mod SlotLemmas
 pub mod StandsLemmas

@@ -108,7 +108,7 @@ pub record IsUsedUp (old new : List ℕ) : Type 0 where
 abbrev pub LeavesProvision : FlashState → FlashState → RootSlot → Type 0
 LeavesProvision old new what = IsProvisionedWith (now new) what ⊎ (IsUsedUp (now old) (now new) ⊎ (now new ≡ now old))
 
--- Why it answered a refusal, and what it left: unless the device failed, nothing changed but the count of bytes that were asked for.
+-- Why it answered a refusal, and what it left. Unless the device failed, nothing changed but the count of bytes that were asked for.
 abbrev pub ProvisionFails : FlashState → FlashState → RootSlot → ℕ → ℕ → FuseFail → Type 0
 ProvisionFails old new what bmc_size pch_size cause =
     MatchOption (fuse_failure cause) (IsBarred (now old) what bmc_size pch_size cause × EndsAt None old new) (λ f. FailsWorking f old new × LeavesProvision old new what)

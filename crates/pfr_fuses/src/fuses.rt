@@ -98,6 +98,7 @@ pub fn load<F: Flash>(nv: &mut F) -> Result<Fuses, FuseFail>
         Answers fuse_failure result (Err SlotsSpent) }
     ensures exact { Answers fuse_failure result
         (fuses_of (now (F.device nv.old))) }
+    // Only bytes are asked for, up to the first read that fails, and no fault of one is passed over.
     ensures ends { EndsAt (failed_by fuse_failure result) (F.device nv.old) (F.device nv.new) }
 {
     loaded(nv)

@@ -145,6 +145,7 @@ pub fn provision<F: Flash>(
         × OnOk result (IsProvisionedBy (now (F.device nv.new)) number)
         × Adds (IsWithin (256 * number) 256) (F.device nv.old) (F.device nv.new) }
     ensures found { OnOk result (CanProvision (now (F.device nv.old)) what.now bmc_size pch_size) }
+    // At a refusal that is no failure of the device nothing changed but the count of bytes that were asked for.
     ensures err { IfErr result (ProvisionFails (F.device nv.old) (F.device nv.new) what.now bmc_size pch_size) }
     ensures fuses { KeepsFuses (now (F.device nv.old)) (now (F.device nv.new)) }
     // No operation touches a byte behind the slots, and there are two at most.

@@ -9,3 +9,6 @@ pub mod ReadingLaw
 pub mod FindingLaw
 pub mod HashLemmas
 pub mod SameLemmas
+pub mod StretchLemmas
+pub mod ApartLaw
+pub mod HalvingLemmas

@@ -4,7 +4,9 @@ use Rattle.std.specs.List.{list_all}
 use Rattle.pfr_flash.specs.declared.layout.Layout.{Layout}
 use Rattle.pfr_flash.specs.Bytes.{bytes_at}
 use Rattle.pfr_flash.specs.Numbers.{little_at, number_at}
-use Rattle.pfr_manifest.specs.Regions.{is_writable, is_static, last_start, last_end}
+use Rattle.pfr_manifest.specs.Regions.{is_static, last_start, last_end}
+use Rattle.pfr_manifest.specs.Stretches.{stretch_of}
+use Rattle.pfr_manifest.specs.declared.stretch.Stretch.{Stretch}
 use Rattle.pfr_manifest.specs.Spelling.{magic}
 use Rattle.pfr_flash.specs.Judging.{◌>>=◌, ◌>>◌, require, known}
 use Rattle.pfr_manifest.specs.declared.manifest.Manifest.{Manifest}
@@ -77,24 +79,29 @@ judge_definition entry place m = do
   hash ← known (HashInfo (length m.regions)) (hash_at entry)
   Ok (region_at entry hash)
 
-abbrev pub is_clear_of : Region → ℕ → ℕ → Bool
-is_clear_of region at len = nat_le region.end at || nat_le (at + len) region.start
+-- it shares no byte with an area, or with any area of a layout
+abbrev pub is_clear_of : Stretch → ℕ → ℕ → Bool
+is_clear_of stretch at len = nat_le stretch.end at || nat_le (at + len) stretch.start
 
-abbrev pub is_clear : Region → Layout → Bool
-is_clear region layout =
-    is_clear_of region layout.manifest_at layout.manifest_len
-    && is_clear_of region layout.recovery_at layout.area_len
-    && is_clear_of region layout.staging_at layout.area_len
+abbrev pub is_clear : Stretch → Layout → Bool
+is_clear stretch layout =
+    is_clear_of stretch layout.manifest_at layout.manifest_len
+    && is_clear_of stretch layout.recovery_at layout.area_len
+    && is_clear_of stretch layout.staging_at layout.area_len
+
+-- Region k of a bank may lie there, with a hash or without one, behind a region from one place up to another.
+unfoldable pub judge_stretch : Stretch → ℕ → Bool → ℕ → ℕ → Layout → ℕ → Result (Unit {0}) ManifestFail
+judge_stretch stretch k hashed last_start last_end layout size = do
+  require (WritableHashed k) (not (hashed && stretch.writable))
+  require (Align k) (stretch.start % 4096 == 0 && stretch.end % 4096 == 0)
+  require (Range k) (nat_lt stretch.start stretch.end && nat_le stretch.end size && is_clear stretch layout)
+  require (Order k) (nat_le last_start stretch.start)
+  require (Overlap k) (nat_le last_end stretch.start)
 
 -- the numbers of a region, behind other regions
-unfoldable pub judge_region : Region → List Region → Layout → ℕ → Result (Unit {0}) ManifestFail
-judge_region region before layout size = do
-  let k : ℕ = length before
-  require (WritableHashed k) (not (is_static region && is_writable region))
-  require (Align k) (region.start % 4096 == 0 && region.end % 4096 == 0)
-  require (Range k) (nat_lt region.start region.end && nat_le region.end size && is_clear region layout)
-  require (Order k) (nat_le (last_start before) region.start)
-  require (Overlap k) (nat_le (last_end before) region.start)
+abbrev pub judge_region : Region → List Region → Layout → ℕ → Result (Unit {0}) ManifestFail
+judge_region region before layout size =
+    judge_stretch (stretch_of region) (length before) (is_static region) (last_start before) (last_end before) layout size
 
 -- a rule's definition at a place, behind the entries of m
 unfoldable pub judge_rule : List ℕ → ℕ → Manifest → Result Rule ManifestFail

@@ -2,7 +2,7 @@
 ghost use Rattle.std.specs.Prelude.{◌≡◌, ◌<◌, ◌≤◌, length, IfOk, IfErr};
 ghost use Rattle.pfr_flash.specs.Answer.{IsFound};
 ghost use Rattle.pfr_manifest.specs.Answer.{manifest_failure};
-ghost use Rattle.pfr_manifest.specs.Judge.{HasRoom, region_len, region_size, hash_at, region_at, rule_at, is_clear_of, is_clear, judge_definition, judge_region, judge_rule, judge_entry, judge_tail};
+ghost use Rattle.pfr_manifest.specs.Judge.{HasRoom, region_len, region_size, hash_at, region_at, rule_at, judge_definition, judge_region, judge_rule, judge_entry, judge_tail};
 
 use crate::fail::ManifestFail;
 use crate::manifest::Manifest;
@@ -102,24 +102,8 @@ fn definition(entry: &[u8], place: u32, manifest: &Manifest) -> Result<Region, M
     Ok(region_of(entry, hash))
 }
 
-/// Whether a region shares no byte with an area.
-fn is_clear_of(region: &Region, at: u32, len: u32) -> bool
-    ensures { result ≡ is_clear_of region.now at len }
-{
-    region.end <= at || at as u64 + len as u64 <= region.start as u64
-}
-
-/// Whether a region shares no byte with the areas of a layout.
-fn is_clear(region: &Region, layout: &Layout) -> bool
-    ensures { result ≡ is_clear region.now layout.now }
-{
-    is_clear_of(region, layout.manifest_at, layout.manifest_len)
-        && is_clear_of(region, layout.recovery_at, layout.area_len)
-        && is_clear_of(region, layout.staging_at, layout.area_len)
-}
-
 /// The numbers of a region, behind other regions.
-#[tactic(auto, unfolding(crate::specs::Judge::judge_region))]
+#[tactic(auto, unfolding(crate::specs::Judge::judge_stretch))]
 fn check_region(
     region: &Region,
     before: &Regions,
@@ -129,23 +113,10 @@ fn check_region(
     ensures exact { result ≡ judge_region region.now before.now layout.now bank }
     ensures found { IfErr result (IsFound manifest_failure) }
 {
-    let k = before.len();
-    if region.is_static() && region.is_writable() {
-        return Err(ManifestFail::WritableHashed(k));
-    }
-    if region.start % 4096 != 0 || region.end % 4096 != 0 {
-        return Err(ManifestFail::Align(k));
-    }
-    if region.start >= region.end || region.end > bank || !is_clear(region, layout) {
-        return Err(ManifestFail::Range(k));
-    }
-    if region.start < before.last_start() {
-        return Err(ManifestFail::Order(k));
-    }
-    if region.start < before.last_end() {
-        return Err(ManifestFail::Overlap(k));
-    }
-    Ok(())
+    let last = (before.last_start(), before.last_end());
+    region
+        .stretch()
+        .judge(before.len(), region.is_static(), last, layout, bank)
 }
 
 /// The definition of a rule at a place, behind the entries that were read.

@@ -6,7 +6,8 @@ use Rattle.pfr_chain.specs.declared.fail.ChainFail.{ChainFail}
 use Rattle.pfr_chain.specs.declared.fail.ChainFail.TheVariants as chain
 use Rattle.pfr_manifest.specs.declared.fail.ManifestFail.{ManifestFail}
 use Rattle.pfr_manifest.specs.declared.fail.ManifestFail.TheVariants as manifest
-use Rattle.pfr_capsule.specs.Answer as capsules
+use Rattle.pfr_flash.specs.Answer as answers
+use Rattle.pfr_capsule.specs.Answer.{capsule_failure}
 use Rattle.pfr_capsule.specs.declared.fail.CapsuleFail.{CapsuleFail}
 use Rattle.pfr_capsule.specs.declared.fail.CapsuleFail.TheVariants as capsule
 use Rattle.pfr_auth.specs.Answer.{active_failure}
@@ -139,4 +140,4 @@ IsFound cause = active_failure cause ≡ None
 -- both causes of a bank without a good image are such
 pub record AreFound (active : ActiveFail) (recovery : CapsuleFail) : Type 0 where
   pub first : IsFound active
-  pub second : capsules.IsFound recovery
+  pub second : answers.IsFound capsule_failure recovery

@@ -1,5 +1,5 @@
 -- The script of a text.
-use Rattle.std.specs.Prelude.{◌≡◌, ℕ, ◌+◌, ◌==◌, Bool, true, nat_lt, if◌then◌else◌, List, [], ◌∷◌, length, Result, Ok, Err}
+use Rattle.std.specs.Prelude.{◌≡◌, ℕ, ◌+◌, ◌==◌, Bool, true, nat_lt, if◌then◌else◌, List, [], ◌∷◌, length, Option, Some, None, MatchOption, Result, Ok, Err}
 use Rattle.pfr_flash.specs.Judging.{◌>>=◌, ◌>>◌, require}
 use Rattle.pfr_engine.specs.Words.{words_in}
 use Rattle.pfr_engine.specs.Rows.{lines_in}

@@ -5,6 +5,8 @@
 mod failure;
 mod fault;
 mod host;
+#[cfg(test)]
+mod host_tests;
 mod mem_shelf;
 mod mem_sink;
 mod outside;

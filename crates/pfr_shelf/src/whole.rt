@@ -1,12 +1,11 @@
 // Files of the host, each replaced as a whole.
 use std::alloc::{AllocError, AllocGlobal, Global};
-use std::fs;
 use std::fs::{File, Metadata, OpenOptions, Permissions};
-use std::io;
 use std::io::{ErrorKind, Write};
 use std::os::unix::fs::{MetadataExt, OpenOptionsExt, PermissionsExt, fchown};
 use std::path::{Path, PathBuf};
 use std::rt::Files;
+use std::{fs, io};
 
 // How many links may lead from one to the next, as Linux has it.
 const MOST_LINKS: u32 = 40;

@@ -9,7 +9,7 @@ loop-k-init g c = record { ends = EndsAt-refl _; exact = refl }
 
 pub returns-in_err-is_hashed-clause-ends : goal.returns-in_err-is_hashed-clause-ends
 returns-in_err-is_hashed-clause-ends g c =
-    let p = err_from_is_err_and c.from_residual-in_err-is_hashed.result c.from_residual-in_err-is_hashed.ensures.1 in
+    let p = err_from_is_err_and c.from_residual.result c.from_residual.ensures.1 in
     rw (p.1, p.2) (then_ends c.loop-k.invariant.ends c.in_err-is_hashed.ensures.ends)
 
 pub returns-then-not-branch-clause-exact : goal.returns-then-not-branch-clause-exact
