@@ -65,9 +65,10 @@ fn each_byte_of_the_manifest(rt: HostRuntime) -> Result<(), Fail> {
     let mut manifest = [0; LENGTH];
     manifest.copy_from_slice(&bytes[1024..1280]);
     let mut flash = bank_with(&rt, alloc, bytes, 2048)?;
-    want_rule(&rt, &mut flash, &manifest, &desc.bmc.layout)?;
+    let layout = &desc.bank(Bank::Bmc).layout;
+    want_rule(&rt, &mut flash, &manifest, layout)?;
     for at in 0..LENGTH {
-        want_rules(&rt, &mut flash, &manifest, at, &desc.bmc.layout)?;
+        want_rules(&rt, &mut flash, &manifest, at, layout)?;
     }
     Ok(())
 }

@@ -2,10 +2,10 @@
 
 use crate::fixtures::{put_recovery, run_script, shelf_of, small_shelf, turn};
 use crate::signing::{BLOCK, MANIFEST_KEY, put, sign_again};
-use crate::small::small_platform;
+use crate::small::{changed_behind, small_platform, small_text};
 use pfr_flash::Flash;
 use pfr_shelf::{MemShelf, Shelf};
-use pfr_tool::{Description, Form, PageUse, RegionDescription};
+use pfr_tool::{Description, Form, read_description};
 use std::alloc::Global;
 use std::process::Abort;
 use std::test::Fail;
@@ -122,10 +122,12 @@ fn change_manifest(
     Ok(())
 }
 
-fn version_of(alloc: Global, svn: u8) -> Result<Description, Fail> {
-    let mut desc = small_platform(alloc, Form::One)?;
-    desc.bmc.svn = svn;
-    Ok(desc)
+// The small platform, whose BMC's firmware has this security version.
+fn version_of(rt: &impl Abort, alloc: Global, svn: u8) -> Result<Description, Fail> {
+    let text = small_text(alloc, Form::One)?;
+    let line = format!(in alloc; "svn = {}\n", svn)?;
+    let text = changed_behind(rt, alloc, text.as_str(), "[bmc]", "svn = 3\n", line.as_str())?;
+    Ok(read_description(alloc, text.as_bytes())?)
 }
 
 #[test]
@@ -134,41 +136,44 @@ fn versions(rt: HostRuntime) -> Result<(), Fail> {
     for (active, recovery, floor, cause, line) in VERSIONS {
         let mut shelf = small_shelf(alloc, Form::One)?;
         change_manifest(&rt, alloc, &mut shelf, 256, 4, &[active])?;
-        put_recovery(alloc, &mut shelf, &version_of(alloc, recovery)?)?;
+        put_recovery(alloc, &mut shelf, &version_of(&rt, alloc, recovery)?)?;
         turn(alloc, &mut shelf, "nv", 0x7000, floor)?;
         reports(&rt, alloc, &mut shelf, cause, line)?;
     }
     Ok(())
 }
 
-// A region without a hash.
-fn region(start: u32, end: u32) -> RegionDescription {
-    RegionDescription {
-        start,
-        end,
-        mask: 0x0b,
-        hash: None,
-        pages: PageUse::Keep,
-    }
+// A region of the BMC's bank, without a hash.
+fn region(alloc: Global, start: u32, end: u32) -> Result<String, Fail> {
+    Ok(format!(in alloc; "[[bmc.regions]]\nstart = {}\nend = {}\nmask = 11\nhash = \"none\"\npages = \"keep\"\n", start, end)?)
 }
 
 // So many regions of this length from 0x10000 on, that begin so many bytes apart, around the bank's areas.
-fn regions_of(
-    alloc: Global,
-    count: u32,
-    length: u32,
-    apart: u32,
-) -> Result<Vec<RegionDescription>, Fail> {
-    let mut regions = Vec::new(alloc);
+fn regions_of(alloc: Global, count: u32, length: u32, apart: u32) -> Result<String, Fail> {
+    let mut regions = String::new(alloc);
     let mut start: u32 = 0x1_0000;
     for _ in 0..count {
-        regions.push(region(start, start.saturating_add(length)))?;
+        let next = region(alloc, start, start.saturating_add(length))?;
+        regions.push_str(next.as_str())?;
         start = start.saturating_add(apart);
         if start == 0x4_0000 {
             start = 0xc_0000;
         }
     }
     Ok(regions)
+}
+
+// The small platform, whose BMC's bank has these regions in place of its own, and no rule.
+fn platform_with(rt: &impl Abort, alloc: Global, regions: &str) -> Result<Description, Fail> {
+    let text = small_text(alloc, Form::One)?;
+    let Some((before, rest)) = text.split_once("[[bmc.regions]]") else {
+        panic!(rt; "no regions");
+    };
+    let Some((_, behind)) = rest.split_once("[pch]") else {
+        panic!(rt; "no bank behind the regions");
+    };
+    let text = format!(in alloc; "{}{}[pch]{}", before, regions, behind)?;
+    Ok(read_description(alloc, text.as_bytes())?)
 }
 
 // How many regions of which length, how far apart, bytes that are put into the manifest of this length, and the cause.
@@ -215,9 +220,8 @@ fn definitions(rt: HostRuntime) -> Result<(), Fail> {
     let alloc = rt.alloc();
     let small = small_platform(alloc, Form::One)?;
     for (count, region, apart, length, at, part, cause, line) in DEFINITIONS {
-        let mut desc = small_platform(alloc, Form::One)?;
-        desc.bmc.regions = regions_of(alloc, count, region, apart)?;
-        desc.bmc.smbus = Vec::new(alloc);
+        let regions = regions_of(alloc, count, region, apart)?;
+        let desc = platform_with(&rt, alloc, regions.as_str())?;
         let mut shelf = shelf_of(alloc, &desc)?;
         change_manifest(&rt, alloc, &mut shelf, length, at, part)?;
         put_recovery(alloc, &mut shelf, &small)?;

@@ -1,19 +1,22 @@
 -- What the description says of a page: each page of a region has the region's use, and a page with another use than Keep lies in a region.
-use Rattle.std.proofs.Common.{◌≡◌, ◌∙◌, ap, sym, refl, ℕ, zero, suc, ◌+◌, ◌*◌, ◌%◌, ◌<◌, ◌≤◌, Bool, true, false, not, ◌==◌, ◌&&◌, nat_le, nat_lt, is_some, if◌then◌else◌, List, [], ◌∷◌, length, get_or, map, Any, inl, inr, Result, Ok, Err, arith}
+use Rattle.std.proofs.Common.{◌≡◌, ◌∙◌, ap, sym, subst, refl, ℕ, zero, suc, ◌*◌, ◌%◌, ◌<◌, ◌≤◌, Bool, true, false, ◌&&◌, nat_le, nat_lt, if◌then◌else◌, List, [], ◌∷◌, ◌++◌, length, get_or, map, Any, inl, inr, Ok, arith}
 use Rattle.std.proofs.lemmas.Bool.{cases_Bool, and_parts, and_from, le-leb, leb-true, lt-ltb, le-ltb, ltb-true}
-use Rattle.std.proofs.lemmas.Bool.Decides.{nat_tests}
 use Rattle.pfr_flash.specs.declared.layout.Layout.{Layout}
-use Rattle.pfr_manifest.specs.Judging.{◌>>◌}
-use Rattle.pfr_manifest.specs.declared.fail.ManifestFail.{ManifestFail}
-use Rattle.pfr_manifest.proofs.Tests.{passed_test, passed_last}
+use Rattle.pfr_flash.specs.Judging.{◌>>◌, require}
+use Rattle.pfr_manifest.specs.Judge.{judge_region}
+use Rattle.pfr_manifest.specs.Regions.{last_end}
+use Rattle.pfr_manifest.specs.declared.fail.ManifestFail.TheVariants.{Svn, TooMany}
+use Rattle.pfr_manifest.proofs.PartLaws.{region_holds}
+use Rattle.pfr_manifest.proofs.RegionLemmas.{last_end-push}
+use Rattle.pfr_flash.proofs.JudgingLemmas.{passed_unit, passed_test}
 use Rattle.pfr_manifest.specs.declared.region.Region.{Region}
 use Rattle.pfr_capsule.specs.Maps.{IsPageOf}
 use Rattle.pfr_description.specs.Described.{BankDescription}
 use Rattle.pfr_description.specs.declared.region.PageUse.{PageUse}
 use Rattle.pfr_description.specs.declared.region.RegionDescription.{RegionDescription}
+use Rattle.pfr_made.specs.Entries.{outline, judge_next, judge_regions, judge_entries}
 use Rattle.pfr_made.specs.Manifests.{region_of}
 use Rattle.pfr_made.specs.Pages.{has_bit, has_byte, use_of}
-use Rattle.pfr_made.specs.Regions.{is_clear, is_writable, judge_region, judge_regions, judge_entries}
 use Rattle.pfr_made.specs.declared.page_map.PageMap.TheVariants as maps
 
 -- ---- what the judgement tells of the regions' places
@@ -28,48 +31,31 @@ abbrev pub AreOrdered : ℕ → ℕ → List RegionDescription → Type 0
 AreOrdered from size [] = Unit {0}
 AreOrdered from size (region ∷ others) = IsWhole size region × (from ≤ region.start) × AreOrdered region.end size others
 
-align_tells : (start end : ℕ) → (start % 4096 == 0 && end % 4096 == 0) ≡ true → (start % 4096 ≡ 0) × (end % 4096 ≡ 0)
-align_tells start end h = grind (arith, nat_tests)
-
-range_tells : (start end size : ℕ) (clear : Bool) → (nat_lt start end && nat_le end size && clear) ≡ true → (start < end) × (end ≤ size)
-range_tells start end size clear h = grind (arith, nat_tests)
-
-passed_judgement : (first rest : Result (Unit {0}) ManifestFail) → (first >> rest) ≡ Ok tt → (first ≡ Ok tt) × (rest ≡ Ok tt)
-passed_judgement (Ok x) rest h = (refl, h)
-passed_judgement (Err cause) rest h = absurd cc
-
 not_second : (a b : Bool) → b ≡ false → (a && b) ≡ false
 not_second true b h = h
 not_second false b h = refl
 
-region_whole : (k : ℕ) (region : RegionDescription) (last_start last_end : ℕ) (layout : Layout) (size : ℕ) → judge_region k region last_start last_end layout size ≡ Ok tt
-    → IsWhole size region × (last_end ≤ region.start)
-unfolding judge_region
-region_whole k region last_start last_end layout size h =
-    let a = passed_test _ (nat_lt k 64) _ tt h in
-    let b = passed_test _ (not (is_some region.hash && is_writable region)) _ tt a.1 in
-    let c = passed_test _ (region.start % 4096 == 0 && region.end % 4096 == 0) _ tt b.1 in
-    let d = passed_test _ (nat_lt region.start region.end && nat_le region.end size && is_clear region layout) _ tt c.1 in
-    let e = passed_test _ (nat_le last_start region.start) _ tt d.1 in
-    let f = passed_last _ (nat_le last_end region.start) e.1 in
-    let aligned = align_tells region.start region.end c.0 in
-    let range = range_tells region.start region.end size (is_clear region layout) d.0 in
-    (record { start_aligned = aligned.0; end_aligned = aligned.1; some = range.0; inside = range.1 }, leb-true last_end region.start f)
-
-regions_ordered : (k last_start last_end : ℕ) (regions : List RegionDescription) (layout : Layout) (size : ℕ) → judge_regions k last_start last_end regions layout size ≡ Ok tt → AreOrdered last_end size regions
-unfolding judge_regions
-regions_ordered k last_start last_end [] layout size h = tt
-regions_ordered k last_start last_end (region ∷ others) layout size h =
-    let p = passed_judgement (judge_region k region last_start last_end layout size) _ h in
-    let here = region_whole k region last_start last_end layout size p.0 in
-    (here.0, here.1, regions_ordered (k + 1) region.start region.end others layout size p.1)
+regions_ordered : (before : List Region) (regions : List RegionDescription) (layout : Layout) (size : ℕ) → judge_regions before (map outline regions) layout size ≡ Ok tt → AreOrdered (last_end before) size regions
+unfolding judge_regions judge_next region_of
+regions_ordered before [] layout size h = tt
+regions_ordered before (region ∷ others) layout size h =
+    let made : Region = outline region in
+    let p = passed_unit (judge_next before made layout size) (judge_regions (before ++ made ∷ []) (map outline others) layout size) tt h in
+    let q = passed_test TooMany (nat_lt (length before) 64) (judge_region made before layout size) tt p.0 in
+    let is = region_holds made before layout size q.1 in
+    let rest = regions_ordered (before ++ made ∷ []) others layout size p.1 in (
+      record { start_aligned = is.0.start_aligned; end_aligned = is.0.end_aligned; some = is.0.some; inside = is.0.inside },
+      is.1,
+      subst (λ (from : ℕ). AreOrdered from size others) (last_end-push before made) rest,
+    )
 
 pub entries_ordered : (part : BankDescription) → judge_entries part ≡ Ok tt → AreOrdered 0 part.size part.regions
 unfolding judge_entries
 entries_ordered part h =
-    let a = passed_test _ (nat_le part.svn 127) _ tt h in
-    let b = passed_judgement (judge_regions 0 0 0 part.regions part.layout part.size) _ a.1 in
-    regions_ordered 0 0 0 part.regions part.layout part.size b.0
+    let regions = judge_regions [] (map outline part.regions) part.layout part.size in
+    let a = passed_test Svn (nat_le part.svn 127) (regions >> require TooMany (nat_le (length part.smbus) 64)) tt h in
+    let b = passed_unit regions (require TooMany (nat_le (length part.smbus) 64)) tt a.1 in
+    regions_ordered [] part.regions part.layout part.size b.0
 
 -- ---- one region of them
 pub region_at : (from size : ℕ) (regions : List RegionDescription) (k : ℕ) (d : RegionDescription) → AreOrdered from size regions → k < length regions

@@ -4,7 +4,9 @@ ghost use Rattle.pfr_manifest.specs.Spelling.{hash_info};
 ghost use Rattle.pfr_made.specs.Images.{is_blank, blanked};
 ghost use Rattle.pfr_made.specs.Manifests.{hash_of};
 ghost use Rattle.pfr_made.specs.Pages.{has_bit, has_byte};
-ghost use Rattle.pfr_made.specs.Regions.{bytes_of, is_writable, IsInside};
+ghost use Rattle.pfr_manifest.specs.Regions.{is_static, is_writable};
+ghost use Rattle.pfr_made.specs.Entries.{outline};
+ghost use Rattle.pfr_made.specs.Regions.{bytes_of, IsInside};
 
 use pfr_description::{HashKind, PageUse, RegionDescription};
 use pfr_made::PageMap;
@@ -26,9 +28,18 @@ pub fn has_byte(region: &RegionDescription, at: u32) -> bool
     region.start <= at && at < region.end
 }
 
+/// Whether a manifest has a digest of it.
+#[tactic(auto, using(pfr_made::proofs::ManifestMadeRegions::has_hash_of), unfolding(pfr_made::specs::Manifests::region_of))]
+pub fn is_static(region: &RegionDescription) -> bool
+    ensures { result ≡ is_static (outline region.now) }
+{
+    region.hash.is_some()
+}
+
 /// Whether the bank's bus may write it.
+#[tactic(auto, unfolding(pfr_made::specs::Manifests::region_of))]
 pub fn is_writable(region: &RegionDescription) -> bool
-    ensures { result ≡ is_writable region.now }
+    ensures { result ≡ is_writable (outline region.now) }
 {
     (region.mask >> 1) & 1 == 1
 }
