@@ -7,7 +7,7 @@ import re
 import shlex
 from dataclasses import dataclass, field
 
-ESCAPE = re.compile(r"\\(?:n|t|\\|x[0-9a-fA-F]{2})")
+ESCAPE = re.compile(r"\\(?:n|r|t|\\|x[0-9a-fA-F]{2})")
 HOLE = re.compile(r"\{(\*?)([a-z_0-9]+)\}")
 
 
@@ -37,7 +37,7 @@ def plain(text):
     def one(found):
         mark = found.group()[1:]
         if mark[0] != "x":
-            return {"n": "\n", "t": "\t", "\\": "\\"}[mark]
+            return {"n": "\n", "r": "\r", "t": "\t", "\\": "\\"}[mark]
         return bytes.fromhex(mark[1:]).decode("utf-8", "surrogateescape")
 
     return ESCAPE.sub(one, text)
