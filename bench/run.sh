@@ -1,6 +1,7 @@
 #!/usr/bin/env bash
-# Times `run` with the script `power` on an ordinary day's platform against sha256sum over as many bytes as the run hashes,
-# and prints the ratio and the peak memory. It is no part of the gate, and asks nothing of the figures.
+# Times `run` with the script `power` on an ordinary day's platform against sha256sum over as many bytes as the run hashes
+# and cp of the three images that it stores, in one run and in turn, and prints the ratio to both together and the peak
+# memory. It is no part of the gate, and asks nothing of the figures.
 #
 #     bench/run.sh [program]
 #
@@ -9,7 +10,7 @@
 set -u
 top="$(cd "$(dirname "$0")/.." && pwd)" || exit 1
 
-for tool in python3 sha256sum; do
+for tool in python3 sha256sum cp sync; do
     if ! command -v "$tool" >/dev/null; then
         echo "bench: skipped, since there is no $tool"
         exit 0

@@ -561,10 +561,8 @@ def drawn_image(rng, size):
     return b"".join(pieces)
 
 
-def drawn_layout(rng, pages):
-    """A layout, and the spans of pages that its areas leave free, each as its first and the one behind its last."""
-    area = rng.randrange(1, (pages - 2) // 2)
-    manifest = rng.randrange(1, min(4, pages - 2 * area) + 1)
+def drawn_layout(rng, pages, area, manifest):
+    """A layout with areas of so many pages, and the spans of pages that they leave free: the first and the one behind."""
     free = pages - 2 * area - manifest
     cuts = sorted(rng.randrange(free + 1) for _ in range(3))
     names = [("manifest_at", manifest), ("recovery_at", area), ("staging_at", area)]
@@ -578,23 +576,22 @@ def drawn_layout(rng, pages):
     return layout, spans + [(at, pages)]
 
 
-def drawn_region(rng, start, end):
+def drawn_region(rng, start, end, kinds):
     """A region from one page to another. One with a hash can't be written and isn't kept."""
     kind = rng.choice(("none", "sha256", "sha384"))
     mask = rng.randrange(256) if kind == "none" else rng.randrange(256) & ~2
-    pages = rng.choice(("copy", "erase", "keep") if kind == "none" else ("copy", "copy", "erase"))
+    pages = rng.choice([each for each in kinds if kind == "none" or each != "keep"])
     return {"start": start * PAGE, "end": end * PAGE, "mask": mask, "hash": kind, "pages": pages}
 
 
-def drawn_regions(rng, spans):
-    """Regions in rising order within the free spans, with gaps and without; most are short where there are many."""
-    longest = rng.choice((1, 2, 8))
+def drawn_regions(rng, spans, longest, skipped, kinds):
+    """Regions of a few pages each, in rising order within the free spans. One span in so many as `skipped` stays free."""
     regions, places = [], [list(span) for span in spans if span[0] < span[1]]
     while places:
         start, last = places[0]
         end = min(last, start + rng.randrange(1, longest + 1))
-        if rng.randrange(3):
-            regions.append(drawn_region(rng, start, end))
+        if rng.randrange(skipped):
+            regions.append(drawn_region(rng, start, end, kinds))
         places[0][0] = end
         places = places[1:] if end == last else places
     return regions[:64]
@@ -629,16 +626,27 @@ def drawn_staged(rng, area_len):
     return {"staged": drawn_bytes(rng, length)}
 
 
+def drawn_flash(rng):
+    """A bank's size, its layout and its regions: as many regions as can be, or areas of any size and longer regions."""
+    if not rng.randrange(10):
+        layout, spans = drawn_layout(rng, 80, 2, 2)
+        return 80 * PAGE, layout, drawn_regions(rng, spans, 1, 100, ("erase", "erase", "keep"))
+    pages = 16 * rng.choice((1, 1, 2, 3, 4, 5))
+    area = rng.randrange(1, (pages - 2) // 2)
+    layout, spans = drawn_layout(rng, pages, area, rng.randrange(1, min(4, pages - 2 * area) + 1))
+    regions = drawn_regions(rng, spans, rng.choice((1, 2, 8)), 3, ("copy", "copy", "erase", "keep"))
+    return pages * PAGE, layout, regions
+
+
 def drawn_bank(rng, bank_name):
-    size = 65536 * rng.choice((1, 1, 2, 3, 4, 5))
-    layout, spans = drawn_layout(rng, size // PAGE)
+    size, layout, regions = drawn_flash(rng)
     bank = {"image": drawn_image(rng, size), "size": size, "svn": rng.choice((0, 127, rng.randrange(128)))}
     bank.update(bkc=rng.randrange(256), revision=drawn_digits(rng, 2), oem=drawn_digits(rng, 16))
     bank.update({name: layout[name] for name in LAYOUT})
     bank["manifest_key"] = drawn_key(rng, TYPES[bank_name, "manifest"])
     bank["capsule_key"] = drawn_key(rng, TYPES[bank_name, "capsule"])
     bank.update(drawn_staged(rng, layout["area_len"]))
-    bank["regions"] = drawn_regions(rng, spans)
+    bank["regions"] = regions
     bank["smbus"] = [drawn_rule(rng) for _ in range(rng.choice((0, 1, 5, 64)))]
     return shortened(rng, bank)
 

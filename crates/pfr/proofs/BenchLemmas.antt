@@ -1,7 +1,8 @@
 -- What a bench promises, by the laws of whole runs.
 use Rattle.std.proofs.Common.{◌≡◌, sym, refl, subst, ℕ, List, take, Option, Some, None}
 use Rattle.std.specs.Prelude.{IfSome}
-use Rattle.pfr_flash.specs.FlashState.{Rose}
+use Rattle.pfr_flash.specs.FlashState.{FlashState, Rose}
+use Rattle.pfr_flash.specs.Holding.{HoldsBytes}
 use Rattle.pfr_flash.specs.declared.names.Bank.{Bank}
 use Rattle.pfr_flash.specs.declared.names.Bank.TheVariants as bank
 use Rattle.pfr_flash.specs.declared.names.Counts.{Counts}
@@ -16,11 +17,13 @@ use Rattle.pfr_calm.specs.Story.{device_of}
 use Rattle.pfr_calm.specs.World.{World, story_of, state_at}
 use Rattle.pfr_calm.specs.Run.{Did}
 use Rattle.pfr_calm.specs.Spans.{ReleasedSpans}
-use Rattle.pfr_calm.specs.Promises.{ReleasesTrusted, LocksHaveCauses, FaultsHaveCauses, added}
+use Rattle.pfr_calm.specs.Promises.{FaultsAreNoted, ReleasesTrusted, LocksHaveCauses, FaultsHaveCauses, added}
+use Rattle.pfr_calm.proofs.Bytes.{HaveBytes, have_bytes}
+use Rattle.pfr_calm.proofs.FaultLaws.{Reached-faults_noted}
 use Rattle.pfr_calm.proofs.PowerLaws.{Turn-brings_up}
 use Rattle.pfr_calm.proofs.RunLaws.{IsFresh, Reached-spans, Reached-releases, Reached-causes, Reached-faults, Reached-with}
 use Rattle.pfr.specs.Benches.{fresh_of, end_of, StandsAs, HasRun}
-use Rattle.pfr.specs.Promises.{HasReleasedSpans, ReleasesTrustedBanks, HasDueLocks, BringsBanksUp, BringsUpIn, KeepsFuses, StaysProvisioned}
+use Rattle.pfr.specs.Promises.{TellsOfFaults, HasReleasedSpans, ReleasesTrustedBanks, HasDueLocks, BringsBanksUp, BringsUpIn, KeepsFuses, StaysProvisioned}
 use Rattle.pfr.specs.declared.finished.Bench.{Bench}
 
 -- ---- a world, but for the number of its items and the memory for notes
@@ -29,6 +32,17 @@ as_if w item spare = record { bmc = w.bmc; pch = w.pch; nv = w.nv; item = item; 
 
 looks : (there here : World) → StandsAs there here → here ≡ as_if there here.item here.notes.spare
 looks there here s = rw (← s.bmc, ← s.pch, ← s.nv, ← s.notes) refl
+
+-- what its devices held and were given are bytes
+held_at : (bench : Bench) (end : World) → StandsAs end (end_of bench) → HaveBytes end
+held_at bench end left = have_bytes end (record {
+  bmc = subst (λ (d : FlashState). HoldsBytes d) left.bmc bench.bmc.bytes;
+  pch = subst (λ (d : FlashState). HoldsBytes d) left.pch bench.pch.bytes;
+  nv = subst (λ (d : FlashState). HoldsBytes d) left.nv bench.nv.bytes;
+})
+
+told_as : (old w : World) (item spare : ℕ) → FaultsAreNoted old w → FaultsAreNoted old (as_if w item spare)
+told_as old w item spare p calm = let none = p calm in record { bmc = none.bmc; pch = none.pch; nv = none.nv }
 
 spans_as : (accepts : Acceptance) (w : World) (item spare : ℕ) (which : Bank) → ReleasedSpans accepts which (story_of w) → ReleasedSpans accepts which (story_of (as_if w item spare))
 spans_as accepts w item spare bank.Bmc p = p
@@ -62,23 +76,29 @@ has_spans : (bench : Bench) → HasRun bench → HasReleasedSpans bench
 has_spans bench has which =
     let accepts = acceptance bench.engine in
     of_end (λ (w : World). ReleasedSpans (acceptance bench.engine) which (story_of w)) bench has (spans_as accepts has.run.end (end_of bench).item (end_of bench).notes.spare which
-    (Reached-spans accepts bench.script.tears (take has.count bench.script.items) (fresh_of bench) has.run.end (fresh_start bench has) has.run.reached which))
+    (Reached-spans accepts bench.script.tears (take has.count bench.script.items) (fresh_of bench) has.run.end (fresh_start bench has) has.run.reached (held_at bench has.run.end has.run.left) which))
 
 has_releases : (bench : Bench) → HasRun bench → ReleasesTrustedBanks bench
 has_releases bench has =
     let accepts = acceptance bench.engine in
     of_end (λ (w : World). ReleasesTrusted (acceptance bench.engine) (fresh_of bench) w) bench has (releases_as accepts (fresh_of bench) has.run.end (end_of bench).item (end_of bench).notes.spare
-    (Reached-releases accepts bench.script.tears (take has.count bench.script.items) (fresh_of bench) has.run.end (fresh_start bench has) has.run.reached))
+    (Reached-releases accepts bench.script.tears (take has.count bench.script.items) (fresh_of bench) has.run.end (fresh_start bench has) has.run.reached (held_at bench has.run.end has.run.left)))
 
 has_locks : (bench : Bench) → HasRun bench → HasDueLocks bench
 has_locks bench has =
     let accepts = acceptance bench.engine in
     record {
       contents = of_end (λ (w : World). LocksHaveCauses (acceptance bench.engine) (fresh_of bench) w) bench has (locks_as accepts (fresh_of bench) has.run.end (end_of bench).item (end_of bench).notes.spare
-          (Reached-causes accepts bench.script.tears (take has.count bench.script.items) (fresh_of bench) has.run.end (fresh_start bench has) has.run.reached));
+          (Reached-causes accepts bench.script.tears (take has.count bench.script.items) (fresh_of bench) has.run.end (fresh_start bench has) has.run.reached (held_at bench has.run.end has.run.left)));
       faults = of_end (λ (w : World). FaultsHaveCauses (fresh_of bench) w) bench has (faults_as (fresh_of bench) has.run.end (end_of bench).item (end_of bench).notes.spare
-          (Reached-faults accepts bench.script.tears (take has.count bench.script.items) (fresh_of bench) has.run.end (fresh_start bench has) has.run.reached));
+          (Reached-faults accepts bench.script.tears (take has.count bench.script.items) (fresh_of bench) has.run.end (fresh_start bench has) has.run.reached (held_at bench has.run.end has.run.left)));
     }
+
+has_told : (bench : Bench) → HasRun bench → TellsOfFaults bench
+has_told bench has =
+    let accepts = acceptance bench.engine in
+    of_end (λ (w : World). FaultsAreNoted (fresh_of bench) w) bench has (told_as (fresh_of bench) has.run.end (end_of bench).item (end_of bench).notes.spare
+    (Reached-faults_noted accepts bench.script.tears (take has.count bench.script.items) (fresh_of bench) has.run.end has.run.reached))
 
 has_grown : (bench : Bench) → HasRun bench → KeepsFuses bench
 has_grown bench has = has.grown
@@ -86,16 +106,16 @@ has_grown bench has = has.grown
 has_provision : (bench : Bench) → HasRun bench → StaysProvisioned bench
 has_provision bench has = has.kept
 
-did_brings : (accepts : Acceptance) (tears : List (List ℕ)) (i : Item) (old new : World) → Did accepts tears i old new → BringsUpIn accepts i old new
-did_brings accepts tears (item.Event e) old new t = Turn-brings_up accepts e old new t
-did_brings accepts tears (item.Arm arm) old new is = tt
+did_brings : (accepts : Acceptance) (tears : List (List ℕ)) (i : Item) (old new : World) → HaveBytes new → Did accepts tears i old new → BringsUpIn accepts i old new
+did_brings accepts tears (item.Event e) old new held t = Turn-brings_up accepts e old new held t
+did_brings accepts tears (item.Arm arm) old new held is = tt
 
 brings_up : (bench : Bench) → BringsBanksUp bench
 brings_up bench items run =
     let accepts = acceptance bench.engine in
     record {
       end = run.end;
-      reached = Reached-with (Did accepts bench.script.tears) (BringsUpIn accepts) (λ i old new did. did_brings accepts bench.script.tears i old new did) items (fresh_of bench) run.end run.reached;
+      reached = Reached-with accepts bench.script.tears (BringsUpIn accepts) (λ i old new held did. did_brings accepts bench.script.tears i old new held did) items (fresh_of bench) run.end (held_at bench run.end run.left) run.reached;
       left = run.left;
     }
 
@@ -112,6 +132,9 @@ each_releases option has = of_each ReleasesTrustedBanks has_releases option has
 
 pub each_locks : (option : Option Bench) → IfSome option HasRun → IfSome option HasDueLocks
 each_locks option has = of_each HasDueLocks has_locks option has
+
+pub each_told : (option : Option Bench) → IfSome option HasRun → IfSome option TellsOfFaults
+each_told option has = of_each TellsOfFaults has_told option has
 
 pub each_grows : (option : Option Bench) → IfSome option HasRun → IfSome option KeepsFuses
 each_grows option has = of_each KeepsFuses has_grown option has

@@ -1,6 +1,6 @@
 -- What holds of each command.
 use Rattle.std.proofs.Common.{◌≡◌, ◌∙◌, refl, sym, inl, inr, ℕ, ◌≤◌, [], append-nil, Bool, true, Option, Some, None, arith}
-use Rattle.pfr_shelf.specs.Causes.{Rose}
+use Rattle.pfr_flash.specs.FlashState.{Rose}
 use Rattle.pfr_report.specs.Texts.{report}
 use Rattle.pfr.specs.Checks.{CheckOutput, ChecksFor}
 use Rattle.pfr.specs.Judging.{Keeps, Breaks, check_rows, run_rows, verdict}

@@ -1,6 +1,6 @@
 -- What holds of each command that makes files.
 use Rattle.std.proofs.Common.{◌≡◌, ◌∙◌, ap, refl, sym, inl, inr, ℕ, List, [], append-nil, Bool, true, Option, Some, None}
-use Rattle.pfr_shelf.specs.Causes.{Rose}
+use Rattle.pfr_flash.specs.FlashState.{Rose}
 use Rattle.pfr_shelf.specs.Failures.{Failure}
 use Rattle.pfr_shelf.specs.Files.{Files}
 use Rattle.pfr.specs.Judging.{FileRow, Finding, Keeps, Breaks, verdict}

@@ -32,7 +32,7 @@ use Rattle.pfr.specs.declared.load.Loaded.{Loaded}
 use Rattle.pfr.specs.declared.playing.Played.{Played}
 use Rattle.pfr.specs.declared.playing.Played.TheVariants.{Whole, Part}
 use Rattle.pfr.specs.declared.status.Role.TheVariants as role
-use Rattle.pfr_calm.proofs.NoteLaws.{Turn-moved}
+use Rattle.pfr_calm.proofs.StepTraces.{Turn-moved}
 
 -- the platform is taken apart
 pub played_parts : (start : PlatformState (List Row)) (script : ScriptState) (items : List Item) (bench : Bench) (w : World) → Plays script items start w

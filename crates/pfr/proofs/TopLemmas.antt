@@ -1,6 +1,6 @@
 -- A command, and then the line of its status.
 use Rattle.std.proofs.Common.{◌≡◌, ◌∙◌, ap, refl, sym, subst, inl, inr, ℕ, ◌≤◌, ◌⊎◌, List, [], ◌∷◌, ◌++◌, append_assoc, append-nil, Bool, true, Option, Some, None, Result, Ok, Err, arith}
-use Rattle.pfr_shelf.specs.Causes.{Rose}
+use Rattle.pfr_flash.specs.FlashState.{Rose}
 use Rattle.pfr_shelf.specs.Failures.{Failure}
 use Rattle.pfr_shelf.specs.Files.{Files}
 use Rattle.pfr_shelf.specs.Pieces.{AppendsPart, Writes}

@@ -4,7 +4,7 @@ use Rattle.pfr_flash.specs.declared.names.Bank.TheVariants.{Bmc, Pch}
 use Rattle.pfr_engine.specs.Accepting.{acceptance}
 use Rattle.pfr_report.specs.Verdicts.{verdict_text}
 use Rattle.pfr_machine.specs.Verdicts.{verdict_of}
-use Rattle.pfr_shelf.specs.Causes.{Rose}
+use Rattle.pfr_flash.specs.FlashState.{Rose}
 use Rattle.pfr_shelf.specs.Files.{Files}
 use Rattle.pfr_shelf.specs.Pieces.{AppendsPart}
 use Rattle.pfr.specs.Judging.{Keeps, RefusesFor, check_rows, verdict}

@@ -1,6 +1,6 @@
 -- What the files of a command say, in the order in which they are loaded.
 use Rattle.std.specs.Prelude.{◌≡◌, ◌==◌, ◌&&◌, ℕ, ◌%◌, ◌≤◌, nat_lt, nat_le, List, [], ◌∷◌, length, Bool, true, Option, Some, None, Result, Ok, Err, OnOk, IfErr, IsSomeAnd, ◌⊎◌, if◌then◌else◌}
-use Rattle.pfr_shelf.specs.Causes.{Rose}
+use Rattle.pfr_flash.specs.FlashState.{Rose}
 use Rattle.pfr_shelf.specs.Failures.{Failure, failing}
 use Rattle.pfr_shelf.specs.Files.{Files}
 use Rattle.pfr_shelf.specs.declared.failure.Access.TheVariants.{Load}

@@ -1,6 +1,6 @@
 -- What a command that makes files does, status by status.
 use Rattle.std.specs.Prelude.{◌≡◌, ◌≢◌, ◌⊎◌, ℕ, List, [], ◌∷◌, Bool, true, Option, Some, None, All}
-use Rattle.pfr_shelf.specs.Causes.{Rose}
+use Rattle.pfr_flash.specs.FlashState.{Rose}
 use Rattle.pfr_shelf.specs.Failures.{Failure, failing}
 use Rattle.pfr_shelf.specs.Files.{Files, put_file, SameBut}
 use Rattle.pfr_shelf.specs.declared.failure.Access.TheVariants.{Store}

@@ -9,7 +9,7 @@ use Rattle.pfr_script.specs.declared.item.Item.TheVariants as item
 use Rattle.pfr_calm.specs.World.{World, story_of}
 use Rattle.pfr_calm.specs.Run.{Did, Reached}
 use Rattle.pfr_calm.specs.Spans.{ReleasedSpans}
-use Rattle.pfr_calm.specs.Promises.{ReleasesTrusted, LocksHaveCauses, FaultsHaveCauses, BringsUpCalm}
+use Rattle.pfr_calm.specs.Promises.{FaultsAreNoted, ReleasesTrusted, LocksHaveCauses, FaultsHaveCauses, BringsUpCalm}
 use Rattle.pfr.specs.Benches.{fresh_of, end_of, StandsAs, IsRun}
 use Rattle.pfr.specs.declared.finished.Bench.{Bench}
 
@@ -25,6 +25,11 @@ ReleasesTrustedBanks bench = ReleasesTrusted (acceptance bench.engine) (fresh_of
 pub record HasDueLocks (bench : Bench) : Type 0 where
   pub contents : LocksHaveCauses (acceptance bench.engine) (fresh_of bench) (end_of bench)
   pub faults : FaultsHaveCauses (fresh_of bench) (end_of bench)
+
+-- No fault of a device was passed over: where no bank was locked for one, and no device's loss of power noted, no call of a
+-- device answered one.
+abbrev pub TellsOfFaults : Bench → Type 0
+TellsOfFaults bench = FaultsAreNoted (fresh_of bench) (end_of bench)
 
 -- No floor and no cancellation was ever taken back.
 abbrev pub KeepsFuses : Bench → Type 0

@@ -1,7 +1,7 @@
 -- What a run does, status by status.
 use Rattle.std.specs.Prelude.{◌≡◌, ◌⊎◌, ℕ, List, [], ◌++◌, take, Bool, true, Option, None, IsSomeAnd, IfSome}
 use Rattle.pfr_report.specs.Texts.{report}
-use Rattle.pfr_shelf.specs.Causes.{Rose}
+use Rattle.pfr_flash.specs.FlashState.{Rose}
 use Rattle.pfr_shelf.specs.Failures.{Failure}
 use Rattle.pfr_shelf.specs.Files.{Files}
 use Rattle.pfr_shelf.specs.Pieces.{AppendsPart}

@@ -1,7 +1,6 @@
 -- The stores of the images.
 use Rattle.std.specs.Prelude.{◌≡◌, ◌≢◌, ℕ, List, Bool, true, Option, Some}
-use Rattle.pfr_flash.specs.FlashState.{now}
-use Rattle.pfr_shelf.specs.Causes.{Rose}
+use Rattle.pfr_flash.specs.FlashState.{now, Rose}
 use Rattle.pfr_shelf.specs.Failures.{Failure, failing}
 use Rattle.pfr_shelf.specs.Files.{Files, put_file, SameBut}
 use Rattle.pfr_shelf.specs.declared.failure.Access.TheVariants.{Store}

@@ -1,7 +1,7 @@
 -- What the top call promises.
 use Rattle.std.specs.Prelude.{◌≡◌, ◌⊎◌, ℕ, List, [], ◌∷◌, ◌++◌, Bool, true, Option, Some, IsSomeAnd, map, String, Vec, string_bytes}
 use Rattle.std.specs.declared.alloc.Global.{Global}
-use Rattle.pfr_shelf.specs.Causes.{Rose}
+use Rattle.pfr_flash.specs.FlashState.{Rose}
 use Rattle.pfr_shelf.specs.Files.{Files}
 use Rattle.pfr_shelf.specs.Pieces.{AppendsPart}
 use Rattle.pfr_report.specs.Texts.{report}

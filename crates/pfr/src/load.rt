@@ -1,6 +1,6 @@
 // The files of a command, each judged before the next is loaded.
 ghost use Rattle.std.specs.Prelude.{◌≡◌, ◌∷◌, [], ◌≤◌, ◌%◌, List, ℕ, length, true, Some, IfOk, IfErr, IsTrue};
-ghost use Rattle.pfr_shelf.specs.Causes.{Rose};
+ghost use Rattle.pfr_flash.specs.FlashState.{Rose};
 ghost use Rattle.pfr.specs.Faults.{GoesFaultless};
 ghost use Rattle.pfr.specs.Judging.{Judge, Loads, HoldsRows, HoldsScript, RefusesFor, check_rows, engine_row, finding, image_fits, image_row, limit_of, run_rows, script_row};
 ghost use Rattle.pfr.specs.Loading.{AreLoaded, HaveSizes, IsLoaded, HasSizes};

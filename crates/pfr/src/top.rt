@@ -1,12 +1,12 @@
 // The top call.
 ghost use Rattle.std.specs.Prelude.{◌≡◌, ◌≤◌, true, Some, None, IfSome};
 ghost use Rattle.pfr_report.specs.Texts.{AllText};
-ghost use Rattle.pfr_shelf.specs.Causes.{Rose};
+ghost use Rattle.pfr_flash.specs.FlashState.{Rose};
 ghost use Rattle.pfr.specs.Benches.{HasRun};
 ghost use Rattle.pfr.specs.Checks.{CheckAnswers};
 ghost use Rattle.pfr.specs.Faults.{IsFaultless};
 ghost use Rattle.pfr.specs.Judging.{Keeps, Breaks, verdict};
-ghost use Rattle.pfr.specs.Promises.{HasReleasedSpans, ReleasesTrustedBanks, HasDueLocks, BringsBanksUp, KeepsFuses, StaysProvisioned};
+ghost use Rattle.pfr.specs.Promises.{HasReleasedSpans, ReleasesTrustedBanks, HasDueLocks, BringsBanksUp, KeepsFuses, StaysProvisioned, TellsOfFaults};
 ghost use Rattle.pfr.specs.Makes.{KeepsAllBut, MakingAnswers};
 ghost use Rattle.pfr.specs.Making.{cert_names, cert_rows, cert_stores, make_names, make_rows, make_stores, provision_names, provision_rows, provision_stores};
 ghost use Rattle.pfr.specs.Request.{CertRequest, CheckRequest, MakeRequest, ProvisionRequest, RunRequest};
@@ -118,6 +118,9 @@ pub fn pfr<S: Shelf, K: Sink>(
     // Each lock has its cause, and at a power-on banks are locked and released where they are to be.
     ensures locks { IfSome result.bench HasDueLocks }
     ensures causes { IfSome result.bench BringsBanksUp }
+
+    // No fault of a device was passed over.
+    ensures told { IfSome result.bench TellsOfFaults }
 
     // No floor and no cancellation goes back, and a provision stays.
     ensures grows { IfSome result.bench KeepsFuses }

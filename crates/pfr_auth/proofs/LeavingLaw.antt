@@ -2,8 +2,8 @@
 use Rattle.std.proofs.Common.{◌≡◌, ℕ, suc, ◌+◌, ◌-◌, ◌≤◌, ◌<◌, List, [], ◌∷◌, ◌++◌, get_or, take, drop, All, refl, sym, ap, ◌∙◌, subst, arith, ◌⊎◌, inl, inr}
 use Rattle.std.proofs.lemmas.List.{drop-take, take-append-drop, take-take}
 use Rattle.std.proofs.lemmas.List.Elements.{All-take}
-use Rattle.pfr_flash.specs.Operation.{Operation, applied, play}
-use Rattle.pfr_flash.specs.Range.{place_of, len_of}
+use Rattle.pfr_flash.specs.Operation.{Operation, applied, play, play_first}
+use Rattle.pfr_flash.specs.Range.{Leaves, place_of, len_of}
 use Rattle.pfr_flash.specs.declared.layout.Layout.{Layout}
 use Rattle.pfr_flash.specs.declared.names.Bank.{Bank}
 use Rattle.pfr_flash.specs.Names.{manifest_type}
@@ -19,8 +19,8 @@ use Rattle.pfr_manifest.specs.Access.{static_regions}
 use Rattle.pfr_manifest.specs.declared.manifest.Manifest.{Manifest}
 use Rattle.pfr_manifest.specs.declared.region.Region.{Region}
 use Rattle.pfr_auth.specs.Lasting.{SameAt, KeepsTrustedBytes, KeepsTrustedFuses}
-use Rattle.pfr_auth.specs.Leaving.{Leaves, LeavesImage, LeavesStore}
-use Rattle.pfr_auth.specs.Throughout.{IsTrustedBy, StaysTrusted, between, upto}
+use Rattle.pfr_auth.specs.Leaving.{LeavesImage, LeavesStore}
+use Rattle.pfr_auth.specs.Throughout.{IsTrustedBy, StaysTrusted, between}
 use Rattle.pfr_auth.specs.Trusted.{IsTrusted}
 use Rattle.pfr_auth.proofs.LastingLaw.{trust_lasts}
 
@@ -78,16 +78,16 @@ take_between ops begin n end low high =
     ∙ take-append-drop begin (take n ops)
 
 play_between : (image : List ℕ) (ops : List Operation) (begin n end : ℕ) → begin ≤ n → n ≤ end
-    → play (upto image ops begin) (take (n - begin) (between begin end ops)) ≡ upto image ops n
+    → play (play_first begin image ops) (take (n - begin) (between begin end ops)) ≡ play_first n image ops
 play_between image ops begin n end low high =
     sym (play-append image (take begin ops) (take (n - begin) (between begin end ops))) ∙ ap (λ (xs : List Operation). play image xs) (take_between ops begin n end low high)
 
 -- The bank is trusted at each count of its operations and of the store's from those where it was, as long as each leaves the bytes.
 pub trusted_between : StaysTrusted
 trusted_between accepts bank image nv ops store begin end first last t left left_fuses b n low high from upon =
-    let after = trusted_after (upto image ops begin) (upto nv store first) bank accepts t
+    let after = trusted_after (play_first begin image ops) (play_first first nv store) bank accepts t
     (take (b - begin) (between begin end ops)) (take (n - first) (between first last store))
     (All-take (LeavesImage (layout_of t.fuses.provision bank) t.manifest) (b - begin) (between begin end ops) left)
     (All-take (LeavesStore t.fuses bank) (n - first) (between first last store) left_fuses) in
-    subst (λ (later : List ℕ). IsTrustedBy t.manifest (upto image ops b) later bank accepts) (play_between nv store first n last from upon)
-    (subst (λ (later : List ℕ). IsTrustedBy t.manifest later (play (upto nv store first) (take (n - first) (between first last store))) bank accepts) (play_between image ops begin b end low high) after)
+    subst (λ (later : List ℕ). IsTrustedBy t.manifest (play_first b image ops) later bank accepts) (play_between nv store first n last from upon)
+    (subst (λ (later : List ℕ). IsTrustedBy t.manifest later (play (play_first first nv store) (take (n - first) (between first last store))) bank accepts) (play_between image ops begin b end low high) after)

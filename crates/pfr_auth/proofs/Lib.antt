@@ -1,4 +1,3 @@
-pub mod AnswerLemmas
 pub mod Parts
 pub mod RegionLemmas
 pub mod TrustedLaw

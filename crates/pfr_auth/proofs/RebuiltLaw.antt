@@ -8,7 +8,7 @@ use Rattle.pfr_flash.specs.declared.names.Bank.{Bank}
 use Rattle.pfr_engine.specs.Acceptance.{Acceptance}
 use Rattle.pfr_chain.specs.declared.judging.Chain.{Chain}
 use Rattle.pfr_chain.proofs.MovedLaw.{IsChain-moved, moved}
-use Rattle.pfr_chain.proofs.Parts.{same_part}
+use Rattle.pfr_flash.proofs.PartsLemmas.{same_part}
 use Rattle.pfr_fuses.specs.FusesState.{FusesState, row_of}
 use Rattle.pfr_fuses.specs.RootSlot.{layout_of}
 use Rattle.pfr_manifest.specs.Hashes.{bytes_of}

@@ -9,12 +9,12 @@ use Rattle.pfr_manifest.specs.Regions.{IsRegion, has_hash}
 use Rattle.pfr_manifest.specs.declared.region.Region.{Region}
 use Rattle.pfr_manifest.specs.declared.region.RegionHash.{RegionHash}
 use Rattle.pfr_manifest.specs.declared.region.RegionHash.TheVariants as hashes
-use Rattle.pfr_auth.specs.Judging.{◌>>◌, require}
+use Rattle.pfr_flash.specs.Judging.{◌>>◌, require}
 use Rattle.pfr_manifest.proofs.HashLemmas.{Decides-hash}
 use Rattle.pfr_auth.specs.Judge.{is_hashed, judge_regions}
 use Rattle.pfr_auth.specs.Regions.{IsHashed, IsInside}
 use Rattle.pfr_auth.specs.declared.fail.ActiveFail.TheVariants as causes
-use Rattle.pfr_auth.proofs.Parts.{passed_test}
+use Rattle.pfr_flash.proofs.JudgingLemmas.{passed_test}
 
 Decides-hashed : (image : List ℕ) (region : Region) → Decides (is_hashed image region) (IsHashed image region)
 unfolding is_hashed

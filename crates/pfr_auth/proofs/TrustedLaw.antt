@@ -21,32 +21,29 @@ use Rattle.pfr_manifest.specs.declared.fail.ManifestFail.{ManifestFail}
 use Rattle.pfr_manifest.specs.declared.manifest.Manifest.{Manifest}
 use Rattle.pfr_manifest.proofs.ReadingLaw.{judge_holds as manifest_holds}
 use Rattle.pfr_manifest.proofs.FindingLaw.{judge_ends as manifest_ends}
-use Rattle.pfr_auth.specs.Judging.{by_chain, by_manifest}
+use Rattle.pfr_flash.specs.Judging.{told_as}
 use Rattle.pfr_auth.specs.Judge.{judge_active, judge_regions, judge_signed}
 use Rattle.pfr_auth.specs.Regions.{IsHashed}
-use Rattle.pfr_auth.specs.Trusted.{IsSigned, IsSignedBy, IsTrusted, StandFor}
+use Rattle.pfr_auth.specs.Trusted.{IsSigned, IsTrusted, StandFor}
 use Rattle.pfr_auth.specs.declared.fail.ActiveFail.TheVariants as causes
-use Rattle.pfr_auth.proofs.Parts.{passed_part, passed_unit, passed_test, passed_chain, passed_manifest, signed_content}
+use Rattle.pfr_flash.proofs.JudgingLemmas.{passed_part, passed_unit, passed_test, told_ok}
+use Rattle.pfr_auth.proofs.Parts.{signed_content}
 use Rattle.pfr_auth.proofs.RegionLemmas.{regions_hold, regions_end}
 
 -- ---- the manifest that is signed
--- what a chain in the bank's manifest area signs are bytes, as all that a flash holds are
-abbrev pub SignsBytes : List ℕ → Bank → FusesState → Acceptance → Type 0
-SignsBytes image bank fuses accepts = (chain : Chain) → IsSignedBy image bank fuses accepts chain → AreBytes (bytes_at image chain.content_at chain.length)
-
-signed_holds : (image : List ℕ) (bank : Bank) (fuses : FusesState) (accepts : Acceptance) (m : Manifest) → SignsBytes image bank fuses accepts → judge_signed image bank fuses accepts ≡ Ok m →
+pub signed_holds : (image : List ℕ) (bank : Bank) (fuses : FusesState) (accepts : Acceptance) (m : Manifest) → AreBytes image → judge_signed image bank fuses accepts ≡ Ok m →
     IsSigned image bank fuses accepts m
 unfolding judge_signed
 signed_holds image bank fuses accepts m bytes h =
     let layout : Layout = layout_of fuses.provision bank in
     let judged = judge image layout.manifest_at layout.manifest_len (manifest_type bank) fuses.provision.root (row_of fuses (manifest_type bank)) accepts in
-    let a = passed_part (by_chain judged) _ m h in
+    let a = passed_part (told_as causes.Chain judged) _ m h in
     let content : List ℕ = bytes_at image a.0.content_at a.0.length in
-    let signed = chain_holds image layout.manifest_at layout.manifest_len (manifest_type bank) fuses.provision.root (row_of fuses (manifest_type bank)) accepts a.0 (passed_chain judged a.0 a.1) in
+    let signed = chain_holds image layout.manifest_at layout.manifest_len (manifest_type bank) fuses.provision.root (row_of fuses (manifest_type bank)) accepts a.0 (told_ok causes.Chain judged a.0 a.1) in
     record {
       chain = a.0;
       signed = signed;
-      spelled = manifest_holds content layout (length image) m (bytes a.0 signed) (passed_manifest (judge_manifest content layout (length image)) m a.2);
+      spelled = manifest_holds content layout (length image) m (AreBytes-bytes_at image a.0.content_at a.0.length bytes) (told_ok causes.Manifest (judge_manifest content layout (length image)) m a.2);
     }
 
 -- ---- only the provision, the floor and the row of the bank's manifests are looked at
@@ -72,7 +69,7 @@ IsSigned-same image bank accepts fuses other m provision row h = record {
 pub stands_whole : (nv : List ℕ) (fuses : FusesState) (bank : Bank) → fuses_of nv ≡ Ok fuses → StandFor nv fuses bank
 stands_whole nv fuses bank p = record { all = fuses; provisioned = p; provision = refl; floor = refl; row = refl }
 
--- ---- What is judged well is trusted, by this manifest, where that is found to be signed.
+-- ---- What is judged well is trusted, by this manifest, in an image of bytes.
 judged_parts : (image : List ℕ) (bank : Bank) (accepts : Acceptance) (fuses : FusesState) (m : Manifest) → judge_active image bank fuses accepts ≡ Ok m →
     (judge_signed image bank fuses accepts ≡ Ok m) × (floor_of fuses bank ≤ m.svn) × All (IsHashed image) m.regions
 unfolding judge_active
@@ -86,11 +83,11 @@ judged_parts image bank accepts fuses m j =
       subst (λ (x : Manifest). All (IsHashed image) x.regions) e (regions_hold image 0 a.0.regions d.0),
     )
 
-pub judged_trusted_by : (image nv : List ℕ) (bank : Bank) (accepts : Acceptance) (fuses : FusesState) (m : Manifest) → StandFor nv fuses bank
-    → IsValidLayout (layout_of fuses.provision bank) (length image) → IsSigned image bank fuses accepts m → judge_active image bank fuses accepts ≡ Ok m → (t : IsTrusted image nv bank accepts) × (t.manifest ≡ m)
-judged_trusted_by image nv bank accepts fuses m p l signed j =
+pub judged_trusted : (image nv : List ℕ) (bank : Bank) (accepts : Acceptance) (fuses : FusesState) (m : Manifest) → StandFor nv fuses bank
+    → IsValidLayout (layout_of fuses.provision bank) (length image) → AreBytes image → judge_active image bank fuses accepts ≡ Ok m → (t : IsTrusted image nv bank accepts) × (t.manifest ≡ m)
+judged_trusted image nv bank accepts fuses m p l bytes j =
     let k = judged_parts image bank accepts fuses m j in
-    let s : IsSigned image bank p.all accepts m = IsSigned-same image bank accepts fuses p.all m p.provision p.row signed in
+    let s : IsSigned image bank p.all accepts m = IsSigned-same image bank accepts fuses p.all m p.provision p.row (signed_holds image bank fuses accepts m bytes k.0) in
     let t : IsTrusted image nv bank accepts = record {
       fuses = p.all;
       manifest = m;
@@ -104,12 +101,6 @@ judged_trusted_by image nv bank accepts fuses m p l signed j =
     } in
     (t, refl)
 
--- the same, where what is signed are bytes
-pub judged_trusted : (image nv : List ℕ) (bank : Bank) (accepts : Acceptance) (fuses : FusesState) (m : Manifest) → StandFor nv fuses bank
-    → IsValidLayout (layout_of fuses.provision bank) (length image) → SignsBytes image bank fuses accepts → judge_active image bank fuses accepts ≡ Ok m → IsTrusted image nv bank accepts
-judged_trusted image nv bank accepts fuses m p l bytes j =
-    (judged_trusted_by image nv bank accepts fuses m p l (signed_holds image bank fuses accepts m bytes (judged_parts image bank accepts fuses m j).0) j).0
-
 -- ---- What is trusted is judged well.
 signed_ends : (image nv : List ℕ) (bank : Bank) (accepts : Acceptance) (t : IsTrusted image nv bank accepts) → judge_signed image bank t.fuses accepts ≡ Ok t.manifest
 signed_ends image nv bank accepts t =
@@ -117,7 +108,7 @@ signed_ends image nv bank accepts t =
     let content : List ℕ = bytes_at image t.chain.content_at t.chain.length in
     signed_content image bank t.fuses accepts layout (manifest_type bank) t.fuses.provision.root (row_of t.fuses (manifest_type bank)) refl refl refl refl t.chain
     (chain_ends image layout.manifest_at layout.manifest_len (manifest_type bank) t.fuses.provision.root (row_of t.fuses (manifest_type bank)) accepts t.chain t.signed)
-    ∙ ap (λ (r : Result Manifest ManifestFail). by_manifest r) (manifest_ends content layout (length image) t.manifest t.spelled)
+    ∙ ap (λ (r : Result Manifest ManifestFail). told_as causes.Manifest r) (manifest_ends content layout (length image) t.manifest t.spelled)
 
 pub trusted_judged : (image nv : List ℕ) (bank : Bank) (accepts : Acceptance) (t : IsTrusted image nv bank accepts) → judge_active image bank t.fuses accepts ≡ Ok t.manifest
 unfolding judge_active
@@ -133,7 +124,3 @@ trusted_found image nv bank accepts fuses p t =
     let e : t.fuses ≡ p.all = cc in
     judge_active-same image bank accepts fuses p.all p.provision p.floor p.row
     ∙ subst (λ (f : FusesState). judge_active image bank f accepts ≡ Ok t.manifest) e (trusted_judged image nv bank accepts t)
-
--- What is signed in an image of bytes is bytes: nothing else has to be shown for a judgement to mean trust.
-pub signs_bytes : (image : List ℕ) (bank : Bank) (fuses : FusesState) (accepts : Acceptance) → AreBytes image → SignsBytes image bank fuses accepts
-signs_bytes image bank fuses accepts h chain signed = AreBytes-bytes_at image chain.content_at chain.length h

@@ -12,16 +12,16 @@ use Rattle.pfr_manifest.specs.Hashes.{bytes_of, have_hash}
 use Rattle.pfr_manifest.specs.Judge.{judge_manifest}
 use Rattle.pfr_manifest.specs.declared.manifest.Manifest.{Manifest}
 use Rattle.pfr_manifest.specs.declared.region.Region.{Region}
-use Rattle.pfr_auth.specs.Judging.{◌>>=◌, ◌>>◌, require, by_chain, by_manifest}
+use Rattle.pfr_flash.specs.Judging.{◌>>=◌, ◌>>◌, require, told_as}
 use Rattle.pfr_auth.specs.declared.fail.ActiveFail.{ActiveFail}
-use Rattle.pfr_auth.specs.declared.fail.ActiveFail.TheVariants.{SvnFloor, RegionHash as WrongHash}
+use Rattle.pfr_auth.specs.declared.fail.ActiveFail.TheVariants.{Chain as OfChain, Manifest as OfManifest, SvnFloor, RegionHash as WrongHash}
 
 -- the manifest that is signed in a bank's manifest area
 unfoldable pub judge_signed : List ℕ → Bank → FusesState → Acceptance → Result Manifest ActiveFail
 judge_signed image bank fuses accepts = do
   let layout : Layout = layout_of fuses.provision bank
-  chain ← by_chain (judge image layout.manifest_at layout.manifest_len (manifest_type bank) fuses.provision.root (row_of fuses (manifest_type bank)) accepts)
-  by_manifest (judge_manifest (bytes_at image chain.content_at chain.length) layout (length image))
+  chain ← told_as OfChain (judge image layout.manifest_at layout.manifest_len (manifest_type bank) fuses.provision.root (row_of fuses (manifest_type bank)) accepts)
+  told_as OfManifest (judge_manifest (bytes_at image chain.content_at chain.length) layout (length image))
 
 -- whether a region of an image has its hash
 unfoldable pub is_hashed : List ℕ → Region → Bool

@@ -1,7 +1,7 @@
 -- Which operations leave the bytes that the trust in a bank's active image rests on.
-use Rattle.std.specs.Prelude.{ℕ, ◌+◌, ◌-◌, ◌≤◌, All, ◌⊎◌}
+use Rattle.std.specs.Prelude.{◌-◌, All}
 use Rattle.pfr_flash.specs.Operation.{Operation}
-use Rattle.pfr_flash.specs.Range.{place_of, len_of}
+use Rattle.pfr_flash.specs.Range.{Leaves}
 use Rattle.pfr_flash.specs.Names.{manifest_type}
 use Rattle.pfr_flash.specs.declared.layout.Layout.{Layout}
 use Rattle.pfr_flash.specs.declared.names.Bank.{Bank}
@@ -9,10 +9,6 @@ use Rattle.pfr_fuses.specs.FuseMap.{floor_at, floor_width, row_at, row_width}
 use Rattle.pfr_fuses.specs.FusesState.{FusesState}
 use Rattle.pfr_manifest.specs.Access.{static_regions}
 use Rattle.pfr_manifest.specs.declared.manifest.Manifest.{Manifest}
-
--- the operation touches none of so many bytes from a place on
-abbrev pub Leaves : ℕ → ℕ → Operation → Type 0
-Leaves from len op = (place_of op + len_of op ≤ from) ⊎ (from + len ≤ place_of op)
 
 -- of a bank: neither the manifest area nor a static region of its manifest
 pub record LeavesImage (layout : Layout) (manifest : Manifest) (op : Operation) : Type 0 where

@@ -1,6 +1,5 @@
 pub mod Answer
 pub mod Regions
-pub mod Judging
 pub mod Judge
 pub mod Trusted
 pub mod Areas

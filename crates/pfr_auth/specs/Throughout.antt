@@ -1,6 +1,6 @@
 -- A bank stays trusted throughout operations that leave the bytes its trust rests on.
 use Rattle.std.specs.Prelude.{◌≡◌, ℕ, ◌≤◌, List, take, drop, All}
-use Rattle.pfr_flash.specs.Operation.{Operation, play}
+use Rattle.pfr_flash.specs.Operation.{Operation, play_first}
 use Rattle.pfr_flash.specs.declared.names.Bank.{Bank}
 use Rattle.pfr_engine.specs.Acceptance.{Acceptance}
 use Rattle.pfr_fuses.specs.RootSlot.{layout_of}
@@ -12,10 +12,6 @@ use Rattle.pfr_auth.specs.Trusted.{IsTrusted}
 abbrev pub IsTrustedBy : Manifest → List ℕ → List ℕ → Bank → Acceptance → Type 0
 IsTrustedBy manifest image nv bank accepts = (t : IsTrusted image nv bank accepts) × (t.manifest ≡ manifest)
 
--- the bytes after so many of a device's operations
-abbrev pub upto : List ℕ → List Operation → ℕ → List ℕ
-upto start ops count = play start (take count ops)
-
 -- the operations from one count to another
 abbrev pub between : ℕ → ℕ → List Operation → List Operation
 between begin end ops = drop begin (take end ops)
@@ -24,8 +20,8 @@ between begin end ops = drop begin (take end ops)
 -- later counts touches a byte that this rests on, the bank is trusted at every count between, by the same manifest.
 abbrev pub StaysTrusted : Type 0
 StaysTrusted = (accepts : Acceptance) (bank : Bank) (start nv : List ℕ) (ops store : List Operation) (begin end first last : ℕ)
-    → (t : IsTrusted (upto start ops begin) (upto nv store first) bank accepts)
+    → (t : IsTrusted (play_first begin start ops) (play_first first nv store) bank accepts)
     → All (LeavesImage (layout_of t.fuses.provision bank) t.manifest) (between begin end ops)
     → All (LeavesStore t.fuses bank) (between first last store)
     → (b n : ℕ) → begin ≤ b → b ≤ end → first ≤ n → n ≤ last
-    → IsTrustedBy t.manifest (upto start ops b) (upto nv store n) bank accepts
+    → IsTrustedBy t.manifest (play_first b start ops) (play_first n nv store) bank accepts

@@ -2,14 +2,15 @@
 ghost use Rattle.std.specs.Prelude.{◌≡◌, ◌≤◌, ℕ, List, All, IfOk, Ok};
 ghost use Rattle.pfr_flash.specs.FlashState.{now, size_of};
 ghost use Rattle.pfr_flash.specs.Layout.{IsBankSize, IsValidLayout};
-ghost use Rattle.pfr_flash.specs.Reading.{OnlyReads};
+ghost use Rattle.pfr_flash.specs.Reading.{EndsAt, failed_by};
 ghost use Rattle.pfr_fuses.specs.RootSlot.{layout_of};
 ghost use Rattle.pfr_manifest.specs.Regions.{IsRegion};
-ghost use Rattle.pfr_capsule.specs.Answer.{Answers};
+ghost use Rattle.pfr_flash.specs.Answer.{Answers};
+ghost use Rattle.pfr_capsule.specs.Answer.{capsule_failure};
 ghost use Rattle.pfr_capsule.specs.Good.{IsGood, StandForBank};
-ghost use Rattle.pfr_capsule.specs.Judge.{judge_capsule};
+ghost use Rattle.pfr_capsule.specs.Lying.{LiesAt};
 ghost use Rattle.pfr_capsule.specs.Pages.{HasIndex};
-ghost use Rattle.pfr_auth.specs.Areas.{place_of};
+ghost use Rattle.pfr_auth.specs.Areas.{place_of, judge_area};
 
 use pfr_capsule::{Capsule, CapsuleFail};
 use pfr_chain::Engine;
@@ -58,15 +59,15 @@ pub fn capsule_at<F: Flash, E: Engine>(
     // A good capsule is found, unless the device fails.
     ensures only { let image = now (F.device flash.old) in
         (nv : List ℕ) → StandForBank nv fuses.now bank → (g : IsGood image (place_of layout.now area) layout.now.area_len nv bank (E.accepts engine.now)) →
-        Answers (F.device flash.old) (F.device flash.new) result (Ok g.capsule) }
+        Answers capsule_failure result (Ok g.capsule) }
     // Which cause it is: the first in order.
-    ensures exact { Answers (F.device flash.old) (F.device flash.new) result
-        (judge_capsule (now (F.device flash.old)) (place_of layout.now area) layout.now.area_len bank layout.now fuses.now (E.accepts engine.now)) }
-    // Its pages can be asked for, its regions lie in the bank, and it lies within the area.
+    ensures exact { Answers capsule_failure result
+        (judge_area area bank (now (F.device flash.old)) fuses.now (E.accepts engine.now)) }
+    // Its pages can be asked for, its regions lie in the bank, and it lies within the area with all its parts.
     ensures pages { IfOk result (λ c. HasIndex (now (F.device flash.old)) c.pages) }
     ensures regions { IfOk result (λ c. All (IsRegion layout.now (size_of (F.device flash.old))) c.manifest.regions) }
-    ensures within { IfOk result (λ c. c.length ≤ layout.now.area_len) }
-    ensures reads { OnlyReads (F.device flash.old) (F.device flash.new) }
+    ensures lies { IfOk result (LiesAt (now (F.device flash.old)) (place_of layout.now area) layout.now.area_len) }
+    ensures ends { EndsAt (failed_by capsule_failure result) (F.device flash.old) (F.device flash.new) }
 {
     let place = area.place(layout);
     Capsule::judge(flash, place, layout.area_len, bank, layout, fuses, engine)

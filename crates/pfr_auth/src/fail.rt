@@ -1,6 +1,6 @@
 // Why an active image isn't trusted.
 ghost use Rattle.std.specs.Prelude.{◌≡◌};
-ghost use Rattle.pfr_auth.specs.Answer.{failure_of};
+ghost use Rattle.pfr_auth.specs.Answer.{active_failure};
 ghost use Rattle.pfr_auth.specs.declared.fail.ActiveFail.TheVariants as causes;
 
 use pfr_chain::ChainFail;
@@ -26,7 +26,7 @@ pub enum ActiveFail {
 impl ActiveFail {
     /// The device's failure, where that is the cause.
     pub fn failure(&self) -> Option<FlashFail>
-        ensures { result ≡ failure_of self.now }
+        ensures { result ≡ active_failure self.now }
     {
         match self {
             ActiveFail::Flash(fail)

@@ -1,8 +1,9 @@
 // The hashes of a manifest's regions.
 ghost use Rattle.std.specs.Prelude.{◌≡◌, ◌≤◌, All, IfOk, Some};
 ghost use Rattle.pfr_flash.specs.FlashState.{now, size_of};
-ghost use Rattle.pfr_flash.specs.Reading.{OnlyReads, EndsAt, failed_by};
-ghost use Rattle.pfr_auth.specs.Answer.{Answers};
+ghost use Rattle.pfr_flash.specs.Reading.{EndsAt, failed_by};
+ghost use Rattle.pfr_flash.specs.Answer.{Answers};
+ghost use Rattle.pfr_auth.specs.Answer.{active_failure};
 ghost use Rattle.pfr_auth.specs.Judge.{is_hashed, judge_regions};
 ghost use Rattle.pfr_auth.specs.Regions.{IsInside};
 
@@ -29,8 +30,8 @@ fn is_hashed<F: Flash>(flash: &mut F, region: &Region) -> Result<bool, FlashFail
 /// Compares the hashes of the regions, in order.
 pub fn check_regions<F: Flash>(flash: &mut F, regions: &Regions) -> Result<(), ActiveFail>
     requires { All (IsInside (size_of (F.device flash.old))) regions.now }
-    ensures exact { Answers (F.device flash.old) (F.device flash.new) result (judge_regions (now (F.device flash.old)) 0 regions.now) }
-    ensures reads { OnlyReads (F.device flash.old) (F.device flash.new) }
+    ensures exact { Answers active_failure result (judge_regions (now (F.device flash.old)) 0 regions.now) }
+    ensures ends { EndsAt (failed_by active_failure result) (F.device flash.old) (F.device flash.new) }
 {
     for k in 0..regions.len() {
         if !is_hashed(flash, regions.get(k))? {

@@ -2,12 +2,12 @@
 ghost use Rattle.std.specs.Prelude.{◌≡◌, All, IfOk};
 ghost use Rattle.pfr_flash.specs.FlashState.{now, size_of};
 ghost use Rattle.pfr_flash.specs.Layout.{IsValidLayout};
-ghost use Rattle.pfr_flash.specs.Reading.{OnlyReads};
+ghost use Rattle.pfr_flash.specs.Reading.{EndsAt, failed_by};
 ghost use Rattle.pfr_fuses.specs.RootSlot.{layout_of};
 ghost use Rattle.pfr_manifest.specs.Regions.{IsRegion};
-ghost use Rattle.pfr_auth.specs.Answer.{Answers};
+ghost use Rattle.pfr_flash.specs.Answer.{Answers};
+ghost use Rattle.pfr_auth.specs.Answer.{active_failure};
 ghost use Rattle.pfr_auth.specs.Judge.{judge_signed, judge_active};
-ghost use Rattle.pfr_auth.specs.Trusted.{IsSigned};
 
 use crate::fail::ActiveFail;
 use crate::hashes::check_regions;
@@ -26,10 +26,9 @@ fn signed_manifest<F: Flash, E: Engine>(
 ) -> Result<Manifest, ActiveFail>
     requires layout { layout.now ≡ layout_of fuses.now.provision bank }
     requires valid { IsValidLayout layout.now (size_of (F.device flash.old)) }
-    ensures ok { IfOk result (IsSigned (now (F.device flash.old)) bank fuses.now (E.accepts engine.now)) }
-    ensures exact { Answers (F.device flash.old) (F.device flash.new) result (judge_signed (now (F.device flash.old)) bank fuses.now (E.accepts engine.now)) }
+    ensures exact { Answers active_failure result (judge_signed (now (F.device flash.old)) bank fuses.now (E.accepts engine.now)) }
     ensures regions { IfOk result (λ m. All (IsRegion layout.now (size_of (F.device flash.old))) m.regions) }
-    ensures reads { OnlyReads (F.device flash.old) (F.device flash.new) }
+    ensures ends { EndsAt (failed_by active_failure result) (F.device flash.old) (F.device flash.new) }
 {
     let ty = bank.manifest_type();
     let provision = fuses.provision();
@@ -57,9 +56,8 @@ pub fn judged<F: Flash, E: Engine>(
 ) -> Result<Manifest, ActiveFail>
     requires layout { layout.now ≡ layout_of fuses.now.provision bank }
     requires valid { IsValidLayout layout.now (size_of (F.device flash.old)) }
-    ensures ok { IfOk result (IsSigned (now (F.device flash.old)) bank fuses.now (E.accepts engine.now)) }
-    ensures exact { Answers (F.device flash.old) (F.device flash.new) result (judge_active (now (F.device flash.old)) bank fuses.now (E.accepts engine.now)) }
-    ensures reads { OnlyReads (F.device flash.old) (F.device flash.new) }
+    ensures exact { Answers active_failure result (judge_active (now (F.device flash.old)) bank fuses.now (E.accepts engine.now)) }
+    ensures ends { EndsAt (failed_by active_failure result) (F.device flash.old) (F.device flash.new) }
 {
     let manifest = signed_manifest(flash, bank, layout, fuses, engine)?;
     if u32::from(manifest.svn) < fuses.floor(bank) {

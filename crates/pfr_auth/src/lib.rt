@@ -4,9 +4,10 @@
 ghost use Rattle.std.specs.Prelude.{◌≡◌, ℕ, List, IfOk, Ok};
 ghost use Rattle.pfr_flash.specs.FlashState.{now, size_of};
 ghost use Rattle.pfr_flash.specs.Layout.{IsBankSize, IsValidLayout};
-ghost use Rattle.pfr_flash.specs.Reading.{OnlyReads};
+ghost use Rattle.pfr_flash.specs.Reading.{EndsAt, failed_by};
 ghost use Rattle.pfr_fuses.specs.RootSlot.{layout_of};
-ghost use Rattle.pfr_auth.specs.Answer.{Answers};
+ghost use Rattle.pfr_flash.specs.Answer.{Answers};
+ghost use Rattle.pfr_auth.specs.Answer.{active_failure};
 ghost use Rattle.pfr_auth.specs.Judge.{judge_active};
 ghost use Rattle.pfr_auth.specs.Lasting.{KeepsTrustedBytes, KeepsTrustedFuses};
 ghost use Rattle.pfr_auth.specs.Throughout.{IsTrustedBy, StaysTrusted};
@@ -50,10 +51,10 @@ pub fn active<F: Flash, E: Engine>(
     // What is trusted is found to be, unless the device fails.
     ensures only { let image = now (F.device flash.old) in
         (nv : List ℕ) → StandFor nv fuses.now bank → (t : IsTrusted image nv bank (E.accepts engine.now)) →
-        Answers (F.device flash.old) (F.device flash.new) result (Ok t.manifest) }
+        Answers active_failure result (Ok t.manifest) }
     // Which cause it is: the first in order.
-    ensures exact { Answers (F.device flash.old) (F.device flash.new) result (judge_active (now (F.device flash.old)) bank fuses.now (E.accepts engine.now)) }
-    ensures reads { OnlyReads (F.device flash.old) (F.device flash.new) }
+    ensures exact { Answers active_failure result (judge_active (now (F.device flash.old)) bank fuses.now (E.accepts engine.now)) }
+    ensures ends { EndsAt (failed_by active_failure result) (F.device flash.old) (F.device flash.new) }
 {
     judging::judged(flash, bank, layout, fuses, engine)
 }

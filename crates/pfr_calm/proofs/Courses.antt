@@ -4,7 +4,7 @@ use Rattle.pfr_flash.specs.declared.flash.FlashFail.TheVariants.{Fault, Lost}
 use Rattle.pfr_flash.specs.declared.names.Device.{Device}
 use Rattle.pfr_calm.specs.World.{World, story_of}
 use Rattle.pfr_calm.specs.Goes.{Ran, Stopped}
-use Rattle.pfr_calm.specs.Course.{Stretch, Shown, Crosses, Faults, LosesPower, CrossesOrFaults, Ends, goes_on_if, Steps, Halts, lost}
+use Rattle.pfr_calm.specs.Course.{Stretch, Crosses, Faults, LosesPower, CrossesOrFaults, Ends, goes_on_if, Steps, Halts, lost}
 use Rattle.pfr_calm.proofs.Sequence.{Ran-refl}
 
 -- nothing is left
@@ -38,9 +38,6 @@ pub Steps-lost : (s : Stretch) (ss : List Stretch) (old new : World) → LosesPo
 Steps-lost s ss old new p = inr (inr p)
 
 -- ---- stretches from where their work stopped
-pub Crosses-ran : (s : Stretch) (old new : World) → Ran (s.plan (story_of old)) old new → Shown s.checks (story_of old) → Crosses s old new
-Crosses-ran s old new p shown = record { ran = p; shown = shown }
-
 pub Faults-stopped : (s : Stretch) (which : Device) (old mid new : World) → s.calls which ≡ true
     → Stopped (s.plan (story_of old)) which Fault old mid → s.stops (story_of old) (story_of mid)
     → Ran (s.on_fault which) mid new → Faults s old new

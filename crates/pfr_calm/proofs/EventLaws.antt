@@ -61,7 +61,7 @@ module _ (P : What → Type 0) (losses : (which : Device) (at : Counts) → P (w
   steps_only : (ss : List Stretch) (old new : World) → AllSayOnly P ss → Steps ss old new → AddsOnly P (story_of old) (story_of new)
   steps_only [] old new o p = ran_only [] old new tt p.is
   steps_only (s ∷ ss) old new o (inl (mid, c, q)) =
-      only_then P (story_of old) (story_of mid) (story_of new) (ran_only (s.plan (story_of old)) old mid (o.0.plan (story_of old)) c.ran.is) (steps_only ss mid new o.1 q)
+      only_then P (story_of old) (story_of mid) (story_of new) (ran_only (s.plan (story_of old)) old mid (o.0.plan (story_of old)) c.is) (steps_only ss mid new o.1 q)
   steps_only (s ∷ ss) old new o (inr (inl (mid, f, q))) =
       only_then P (story_of old) (story_of mid) (story_of new) (faults_only s old mid o.0 f) (on_only s.goes_on ss mid new (λ a b r. steps_only ss a b o.1 r) q)
   steps_only (s ∷ ss) old new o (inr (inr f)) = loses_only s old new o.0 f

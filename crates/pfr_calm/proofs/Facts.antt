@@ -19,6 +19,7 @@ use Rattle.pfr_calm.specs.Promises.{IsDue, IsAgainst, IsTrustedWith}
 use Rattle.pfr_calm.specs.Authentication.{authentication_of}
 use Rattle.pfr_calm.specs.declared.authentication.Authentication.{Authentication}
 use Rattle.pfr_calm.specs.declared.authentication.Authentication.TheVariants.{Unprovisioned, SlotsSpent, BadLayout, Untrusted, Trusted}
+use Rattle.pfr_calm.proofs.Bytes.{HaveBytes}
 use Rattle.pfr_calm.proofs.Traces.{AllGood, KnowsNoOperation, image_noted}
 use Rattle.pfr_calm.proofs.Findings.{Found, unset, spent, misplaced, distrusted as called_untrusted, trusted, RecoveryFound, against_of, not_trusted}
 
@@ -31,6 +32,8 @@ pub record Setting : Type 1 where
   pub Fits : List ℕ → Type 0
   pub Works : List Note → Type 0
   pub IsSwitched : Type 0
+  -- at the later end the devices hold bytes
+  pub held : HaveBytes last
 
 abbrev pub LockFact : Setting → LockWhy → Bank → Story → Type 0
 LockFact s why.FlashFault b story = Rose (state_at (device_of b) s.first).faults (state_at (device_of b) s.last).faults
@@ -114,16 +117,19 @@ says_nv [] story p = refl
 says_nv (Says w ∷ moves) story p = says_nv moves (noted w story) p
 says_nv (Does which op ∷ moves) story p = absurd p
 
--- ---- faults and losses never fall
+-- ---- from one world to a later one
+-- Faults and losses never fall, and where the later one holds bytes, so did this one.
 pub record IsLater (a b : World) : Type 0 where
   pub faults : (which : Device) → (state_at which a).faults ≤ (state_at which b).faults
   pub losses : (which : Device) → (state_at which a).losses ≤ (state_at which b).losses
+  pub bytes : HaveBytes b → HaveBytes a
 
 pub IsLater-refl : (a : World) → IsLater a a
-IsLater-refl a = record { faults = λ which. omega arith; losses = λ which. omega arith }
+IsLater-refl a = record { faults = λ which. omega arith; losses = λ which. omega arith; bytes = λ h. h }
 
 pub IsLater-trans : (a b c : World) → IsLater a b → IsLater b c → IsLater a c
 IsLater-trans a b c p q = record {
   faults = λ which. omega (arith, p.faults which, q.faults which);
   losses = λ which. omega (arith, p.losses which, q.losses which);
+  bytes = λ h. p.bytes (q.bytes h);
 }

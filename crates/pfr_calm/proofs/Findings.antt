@@ -1,5 +1,6 @@
 -- What a bank is found to be has its reason, and the reasons exclude one another.
 use Rattle.std.proofs.Common.{◌≡◌, ◌∙◌, ap, sym, subst, refl, ℕ, List, [], ◌∷◌, ◌++◌, length, Option, Some, None, Result, Ok, Err, inl, inr, ◌⊎◌}
+use Rattle.pfr_flash.specs.Bytes.{AreBytes}
 use Rattle.pfr_flash.specs.Layout.{IsValidLayout, judge_layout}
 use Rattle.pfr_flash.proofs.LayoutLemmas.{judged_valid, valid_judged}
 use Rattle.pfr_flash.specs.declared.names.Bank.{Bank}
@@ -16,19 +17,22 @@ use Rattle.pfr_fuses.specs.declared.fuse_fail.FuseFail.TheVariants as fuse
 use Rattle.pfr_fuses.proofs.StandsLemmas.{fuses_of-ok, fuses_of-err}
 use Rattle.pfr_manifest.specs.declared.manifest.Manifest.{Manifest}
 use Rattle.pfr_capsule.specs.CapsuleState.{CapsuleState}
+use Rattle.pfr_capsule.specs.Good.{StandForBank}
 use Rattle.pfr_capsule.specs.Judge.{judge_capsule}
 use Rattle.pfr_capsule.specs.declared.fail.CapsuleFail.{CapsuleFail}
-use Rattle.pfr_capsule.proofs.GoodLaw.{good_judged}
+use Rattle.pfr_capsule.proofs.GoodLaw.{good_judged, judged_good}
+use Rattle.pfr_auth.specs.Areas.{judge_area}
+use Rattle.pfr_auth.specs.declared.areas.Area.TheVariants.{Recovery}
 use Rattle.pfr_auth.specs.Judge.{judge_active}
 use Rattle.pfr_auth.specs.Trusted.{IsTrusted}
 use Rattle.pfr_auth.specs.declared.fail.ActiveFail.{ActiveFail}
-use Rattle.pfr_auth.proofs.TrustedLaw.{trusted_judged}
+use Rattle.pfr_auth.proofs.TrustedLaw.{judged_trusted, stands_whole, trusted_judged}
 use Rattle.pfr_report.specs.Texts.{IsNoted}
 use Rattle.pfr_report.specs.declared.note.LockWhy.{LockWhy}
 use Rattle.pfr_report.specs.declared.note.What.{What}
 use Rattle.pfr_report.specs.declared.note.What.TheVariants as what
 use Rattle.pfr_report.specs.declared.note.Note.{Note}
-use Rattle.pfr_calm.specs.Authentication.{authentication_of, authentication_with, by_active, by_layout, IsBacked, judge_recovery, HasGoodRecovery, HasBadRecovery, refusal_in, recovery_with, recovery_of, IsRestorable}
+use Rattle.pfr_calm.specs.Authentication.{authentication_of, authentication_with, by_active, by_layout, HasGoodRecovery, HasBadRecovery, refusal_in, recovery_with, recovery_of}
 use Rattle.pfr_calm.specs.Promises.{IsMisplaced, IsNotTrusted, IsAgainst}
 use Rattle.pfr_calm.specs.declared.authentication.Authentication.{Authentication}
 use Rattle.pfr_calm.specs.declared.authentication.Authentication.TheVariants.{Unprovisioned, SlotsSpent, BadLayout, Untrusted, Trusted}
@@ -43,49 +47,55 @@ pub data Found : Bank → List ℕ → List ℕ → Acceptance → Authenticatio
   trusted : {bank : Bank} {image nv : List ℕ} {accepts : Acceptance} {svn : ℕ} → (t : IsTrusted image nv bank accepts) → t.manifest.svn ≡ svn
       → Found bank image nv accepts (Trusted svn)
 
-by_check : (bank : Bank) (image nv : List ℕ) (accepts : Acceptance) (fuses : FusesState) (checked : Result Manifest ActiveFail) → fuses_of nv ≡ Ok fuses
-    → judge_layout (layout_of fuses.provision bank) (length image) ≡ Ok tt → judge_active image bank fuses accepts ≡ checked
-    → IsBacked (by_active checked) bank image nv accepts → Found bank image nv accepts (by_active checked)
-by_check bank image nv accepts fuses (Ok manifest) f l a b = trusted b.0 b.1
-by_check bank image nv accepts fuses (Err cause) f l a b = distrusted (record { fuses = fuses; provisioned = f; layout = judged_valid _ _ l; judged = a })
+module _ (bank : Bank) (image nv : List ℕ) (accepts : Acceptance) (bytes : AreBytes image) where
+  by_check : (fuses : FusesState) (checked : Result Manifest ActiveFail) → fuses_of nv ≡ Ok fuses → judge_layout (layout_of fuses.provision bank) (length image) ≡ Ok tt
+      → judge_active image bank fuses accepts ≡ checked → Found bank image nv accepts (by_active checked)
+  by_check fuses (Ok manifest) f l a =
+      let t = judged_trusted image nv bank accepts fuses manifest (stands_whole nv fuses bank f) (judged_valid _ _ l) bytes a in
+      trusted t.0 (ap (λ (m : Manifest). m.svn) t.1)
+  by_check fuses (Err cause) f l a = distrusted (record { fuses = fuses; provisioned = f; layout = judged_valid _ _ l; judged = a })
 
-by_judged : (bank : Bank) (image nv : List ℕ) (accepts : Acceptance) (fuses : FusesState) (judged : Result (Unit {0}) LayoutRule) → fuses_of nv ≡ Ok fuses
-    → judge_layout (layout_of fuses.provision bank) (length image) ≡ judged
-    → IsBacked (by_layout judged (by_active (judge_active image bank fuses accepts))) bank image nv accepts
-    → Found bank image nv accepts (by_layout judged (by_active (judge_active image bank fuses accepts)))
-by_judged bank image nv accepts fuses (Ok valid) f l b = by_check bank image nv accepts fuses (judge_active image bank fuses accepts) f l refl b
-by_judged bank image nv accepts fuses (Err rule) f l b = misplaced (record { fuses = fuses; provisioned = f; broken = l })
+  by_judged : (fuses : FusesState) (judged : Result (Unit {0}) LayoutRule) → fuses_of nv ≡ Ok fuses → judge_layout (layout_of fuses.provision bank) (length image) ≡ judged
+      → Found bank image nv accepts (by_layout judged (by_active (judge_active image bank fuses accepts)))
+  by_judged fuses (Ok valid) f l = by_check fuses (judge_active image bank fuses accepts) f l refl
+  by_judged fuses (Err rule) f l = misplaced (record { fuses = fuses; provisioned = f; broken = l })
 
-by_cause : (bank : Bank) (image nv : List ℕ) (accepts : Acceptance) (cause : FuseFail)
-    → IsUnset nv × (((cause ≡ fuse.NotProvisioned) × HasBlank nv) ⊎ ((cause ≡ fuse.SlotsSpent) × ¬ HasBlank nv))
-    → Found bank image nv accepts (authentication_with bank image accepts (Err cause))
-by_cause bank image nv accepts cause (u, inl blank) =
-    subst (λ (c : FuseFail). Found bank image nv accepts (authentication_with bank image accepts (Err c))) (sym blank.0) (unset u blank.1)
-by_cause bank image nv accepts cause (u, inr full) =
-    subst (λ (c : FuseFail). Found bank image nv accepts (authentication_with bank image accepts (Err c))) (sym full.0) (spent u full.1)
+  by_cause : (cause : FuseFail) → IsUnset nv × (((cause ≡ fuse.NotProvisioned) × HasBlank nv) ⊎ ((cause ≡ fuse.SlotsSpent) × ¬ HasBlank nv))
+      → Found bank image nv accepts (authentication_with bank image accepts (Err cause))
+  by_cause cause (u, inl blank) =
+      subst (λ (c : FuseFail). Found bank image nv accepts (authentication_with bank image accepts (Err c))) (sym blank.0) (unset u blank.1)
+  by_cause cause (u, inr full) =
+      subst (λ (c : FuseFail). Found bank image nv accepts (authentication_with bank image accepts (Err c))) (sym full.0) (spent u full.1)
 
-by_fuses : (bank : Bank) (image nv : List ℕ) (accepts : Acceptance) (read : Result FusesState FuseFail) → fuses_of nv ≡ read
-    → IsBacked (authentication_with bank image accepts read) bank image nv accepts
-    → Found bank image nv accepts (authentication_with bank image accepts read)
-by_fuses bank image nv accepts (Ok fuses) f b = by_judged bank image nv accepts fuses (judge_layout (layout_of fuses.provision bank) (length image)) f refl b
-by_fuses bank image nv accepts (Err cause) f b = by_cause bank image nv accepts cause (fuses_of-err nv cause f)
+  by_fuses : (read : Result FusesState FuseFail) → fuses_of nv ≡ read → Found bank image nv accepts (authentication_with bank image accepts read)
+  by_fuses (Ok fuses) f = by_judged fuses (judge_layout (layout_of fuses.provision bank) (length image)) f refl
+  by_fuses (Err cause) f = by_cause cause (fuses_of-err nv cause f)
 
-pub found : (bank : Bank) (image nv : List ℕ) (accepts : Acceptance) → IsBacked (authentication_of bank image nv accepts) bank image nv accepts
-    → Found bank image nv accepts (authentication_of bank image nv accepts)
-unfolding authentication_of
-found bank image nv accepts b = by_fuses bank image nv accepts (fuses_of nv) refl b
-
-against_in : (cause : ActiveFail) (bank : Bank) (image nv : List ℕ) (accepts : Acceptance)
-    → Found bank image nv accepts (Untrusted cause) → IsAgainst cause bank image nv accepts
-against_in cause bank image nv accepts (distrusted a) = a
+  pub found : Found bank image nv accepts (authentication_of bank image nv accepts)
+  unfolding authentication_of
+  found = by_fuses (fuses_of nv) refl
 
 -- the cause that is named has its reason
+against_layout : (cause : ActiveFail) (bank : Bank) (image nv : List ℕ) (accepts : Acceptance) (fuses : FusesState) (judged : Result (Unit {0}) LayoutRule) (checked : Result Manifest ActiveFail)
+    → fuses_of nv ≡ Ok fuses → judge_layout (layout_of fuses.provision bank) (length image) ≡ judged → judge_active image bank fuses accepts ≡ checked
+    → by_layout judged (by_active checked) ≡ Untrusted cause → IsAgainst cause bank image nv accepts
+against_layout cause bank image nv accepts fuses (Ok valid) (Ok manifest) f l a e = absurd cc
+against_layout cause bank image nv accepts fuses (Ok valid) (Err other) f l a e =
+    let same : other ≡ cause = cc in
+    record { fuses = fuses; provisioned = f; layout = judged_valid _ _ l; judged = a ∙ ap (λ (c : ActiveFail). Err c) same }
+against_layout cause bank image nv accepts fuses (Err rule) checked f l a e = absurd cc
+
+against_fuses : (cause : ActiveFail) (bank : Bank) (image nv : List ℕ) (accepts : Acceptance) (read : Result FusesState FuseFail) → fuses_of nv ≡ read
+    → authentication_with bank image accepts read ≡ Untrusted cause → IsAgainst cause bank image nv accepts
+against_fuses cause bank image nv accepts (Ok fuses) f e =
+    against_layout cause bank image nv accepts fuses (judge_layout (layout_of fuses.provision bank) (length image)) (judge_active image bank fuses accepts) f refl refl e
+against_fuses cause bank image nv accepts (Err fuse.SlotsSpent) f e = absurd cc
+against_fuses cause bank image nv accepts (Err _) f e = absurd cc
+
 pub against_of : (cause : ActiveFail) (bank : Bank) (image nv : List ℕ) (accepts : Acceptance)
     → authentication_of bank image nv accepts ≡ Untrusted cause → IsAgainst cause bank image nv accepts
-against_of cause bank image nv accepts e =
-    let backed : IsBacked (authentication_of bank image nv accepts) bank image nv accepts =
-    subst (λ (a : Authentication). IsBacked a bank image nv accepts) (sym e) tt in
-    against_in cause bank image nv accepts (subst (λ (a : Authentication). Found bank image nv accepts a) e (found bank image nv accepts backed))
+unfolding authentication_of
+against_of cause bank image nv accepts e = against_fuses cause bank image nv accepts (fuses_of nv) refl e
 
 -- ---- what is found of the recovery image of a bank that isn't trusted, with its reason
 abbrev pub RecoveryFound : Authentication → Option CapsuleFail → Bank → List ℕ → List ℕ → Acceptance → Type 0
@@ -94,7 +104,7 @@ RecoveryFound (Untrusted why) (Some cause) bank image nv accepts = HasBadRecover
 RecoveryFound authentication recovery bank image nv accepts = Unit {0}
 
 bad_judged : (cause : CapsuleFail) (bank : Bank) (image nv : List ℕ) (accepts : Acceptance) (fuses : FusesState)
-    (judged : Result CapsuleState CapsuleFail) → fuses_of nv ≡ Ok fuses → judge_recovery bank image fuses accepts ≡ judged → refusal_in judged ≡ Some cause
+    (judged : Result CapsuleState CapsuleFail) → fuses_of nv ≡ Ok fuses → judge_area Recovery bank image fuses accepts ≡ judged → refusal_in judged ≡ Some cause
     → HasBadRecovery cause bank image nv accepts
 bad_judged cause bank image nv accepts fuses (Ok capsule) f j e = absurd cc
 bad_judged cause bank image nv accepts fuses (Err other) f j e =
@@ -104,7 +114,7 @@ bad_judged cause bank image nv accepts fuses (Err other) f j e =
 bad_fuses : (cause : CapsuleFail) (bank : Bank) (image nv : List ℕ) (accepts : Acceptance) (read : Result FusesState FuseFail) → fuses_of nv ≡ read
     → recovery_with bank image accepts read ≡ Some cause → HasBadRecovery cause bank image nv accepts
 bad_fuses cause bank image nv accepts (Ok fuses) f e =
-    bad_judged cause bank image nv accepts fuses (judge_recovery bank image fuses accepts) f refl e
+    bad_judged cause bank image nv accepts fuses (judge_area Recovery bank image fuses accepts) f refl e
 bad_fuses cause bank image nv accepts (Err why) f e = absurd cc
 
 bad_recovery : (cause : CapsuleFail) (bank : Bank) (image nv : List ℕ) (accepts : Acceptance) → recovery_of bank image nv accepts ≡ Some cause
@@ -112,11 +122,34 @@ bad_recovery : (cause : CapsuleFail) (bank : Bank) (image nv : List ℕ) (accept
 unfolding recovery_of
 bad_recovery cause bank image nv accepts e = bad_fuses cause bank image nv accepts (fuses_of nv) refl e
 
-pub recovery_found : (bank : Bank) (image nv : List ℕ) (accepts : Acceptance) (a : Authentication) (recovery : Option CapsuleFail)
-    → recovery_of bank image nv accepts ≡ recovery → IsRestorable a recovery bank image nv accepts → RecoveryFound a recovery bank image nv accepts
-recovery_found bank image nv accepts (Untrusted why) None e r = r
-recovery_found bank image nv accepts (Untrusted why) (Some cause) e r = bad_recovery cause bank image nv accepts e
-recovery_found bank image nv accepts _ recovery e r = tt
+-- what nothing is said against is good
+good_judged_at : (bank : Bank) (image nv : List ℕ) (accepts : Acceptance) (fuses : FusesState) (judged : Result CapsuleState CapsuleFail) → AreBytes image → fuses_of nv ≡ Ok fuses
+    → IsValidLayout (layout_of fuses.provision bank) (length image) → judge_area Recovery bank image fuses accepts ≡ judged → refusal_in judged ≡ None
+    → HasGoodRecovery bank image nv accepts
+good_judged_at bank image nv accepts fuses (Ok capsule) bytes f valid j e =
+    let stands : StandForBank nv fuses bank = record { all = fuses; provisioned = f; provision = refl; floor = refl; capsule_row = refl; manifest_row = refl } in
+    let layout : Layout = layout_of fuses.provision bank in
+    record { fuses = fuses; provisioned = f; good = (judged_good image nv layout.recovery_at layout.area_len bank accepts fuses capsule stands valid bytes j).0 }
+good_judged_at bank image nv accepts fuses (Err cause) bytes f valid j e = absurd cc
+
+good_fuses : (cause : ActiveFail) (bank : Bank) (image nv : List ℕ) (accepts : Acceptance) (read : Result FusesState FuseFail) → AreBytes image → IsAgainst cause bank image nv accepts
+    → fuses_of nv ≡ read → recovery_with bank image accepts read ≡ None → HasGoodRecovery bank image nv accepts
+good_fuses cause bank image nv accepts (Ok fuses) bytes a f e =
+    let same : a.fuses ≡ fuses = let p = a.provisioned in cc in
+    good_judged_at bank image nv accepts fuses (judge_area Recovery bank image fuses accepts) bytes f
+    (subst (λ (s : FusesState). IsValidLayout (layout_of s.provision bank) (length image)) same a.layout) refl e
+good_fuses cause bank image nv accepts (Err why) bytes a f e = absurd (let p = a.provisioned in cc)
+
+good_found_at : (cause : ActiveFail) (bank : Bank) (image nv : List ℕ) (accepts : Acceptance) → AreBytes image → IsAgainst cause bank image nv accepts
+    → recovery_of bank image nv accepts ≡ None → HasGoodRecovery bank image nv accepts
+unfolding recovery_of
+good_found_at cause bank image nv accepts bytes a e = good_fuses cause bank image nv accepts (fuses_of nv) bytes a refl e
+
+pub recovery_found : (bank : Bank) (image nv : List ℕ) (accepts : Acceptance) (a : Authentication) (recovery : Option CapsuleFail) → AreBytes image
+    → Found bank image nv accepts a → recovery_of bank image nv accepts ≡ recovery → RecoveryFound a recovery bank image nv accepts
+recovery_found bank image nv accepts (Untrusted why) None bytes (distrusted a) e = good_found_at why bank image nv accepts bytes a e
+recovery_found bank image nv accepts (Untrusted why) (Some cause) bytes f e = bad_recovery cause bank image nv accepts e
+recovery_found bank image nv accepts _ recovery bytes f e = tt
 
 -- ---- the reasons exclude one another
 pub one_provision : (nv : List ℕ) (fuses other : FusesState) → fuses_of nv ≡ Ok fuses → fuses_of nv ≡ Ok other → fuses ≡ other
@@ -188,13 +221,13 @@ trusted_once bank image nv accepts t u =
 
 -- of the recovery image
 other_recovery : (bank : Bank) (image nv : List ℕ) (accepts : Acceptance) (fuses other : FusesState) (x y : Result CapsuleState CapsuleFail)
-    → fuses_of nv ≡ Ok fuses → fuses_of nv ≡ Ok other → judge_recovery bank image fuses accepts ≡ x → judge_recovery bank image other accepts ≡ y → x ≡ y
+    → fuses_of nv ≡ Ok fuses → fuses_of nv ≡ Ok other → judge_area Recovery bank image fuses accepts ≡ x → judge_area Recovery bank image other accepts ≡ y → x ≡ y
 other_recovery bank image nv accepts fuses other x y f g h k =
-    sym h ∙ (ap (λ (s : FusesState). judge_recovery bank image s accepts) (one_provision nv fuses other f g) ∙ k)
+    sym h ∙ (ap (λ (s : FusesState). judge_area Recovery bank image s accepts) (one_provision nv fuses other f g) ∙ k)
 
 -- what is good is judged to be, by the one provision that there is
 good_recovery : (bank : Bank) (image nv : List ℕ) (accepts : Acceptance) (g : HasGoodRecovery bank image nv accepts)
-    → judge_recovery bank image g.good.fuses accepts ≡ Ok g.good.capsule
+    → judge_area Recovery bank image g.good.fuses accepts ≡ Ok g.good.capsule
 good_recovery bank image nv accepts g =
     let fuses : FusesState = g.good.fuses in
     let layout : Layout = layout_of fuses.provision bank in

@@ -1,23 +1,21 @@
 -- Fuses are never taken back, and a provision never changes.
-use Rattle.std.proofs.Common.{◌≡◌, ◌∙◌, refl, sym, ap, subst, ℕ, ◌<◌, ◌≤◌, arith, Bool, true, false, List, [], ◌∷◌, ◌++◌, length, length-append, take, drop, All, Result, Ok, Err, inr}
+use Rattle.std.proofs.Common.{◌≡◌, ◌∙◌, refl, sym, ap, subst, ℕ, ◌≤◌, arith, Bool, true, false, List, [], ◌∷◌, ◌++◌, length, length-append, Result, Ok, Err, inr}
 use Rattle.std.specs.Prelude.{slice_index_or}
 use Rattle.std.proofs.lemmas.Bool.{false≢true}
-use Rattle.std.proofs.lemmas.List.{append-nil, take_all}
-use Rattle.std.proofs.lemmas.Nat.{and_le_l}
-use Rattle.std.specs.Prelude.{bit_and, zero, suc, ◌*◌}
-use Rattle.std.proofs.lemmas.List.Elements.{All-append, All-take, All-drop, All-replicate, All-from_get_or}
-use Rattle.pfr_flash.specs.Bytes.{and_bytes, blank, bytes_at, continued, written}
-use Rattle.pfr_flash.specs.Operation.{Operation, Erase, Program, Torn, applied, play}
+use Rattle.std.proofs.lemmas.List.{append-nil}
+use Rattle.pfr_flash.specs.Bytes.{AreBytes, bytes_at, continued}
+use Rattle.pfr_flash.proofs.AreBytesLemmas.{AreBytes-append, AreBytes-bytes_at, AreBytes-continued}
+use Rattle.pfr_flash.proofs.CutLemmas.{at_each}
+use Rattle.pfr_calm.proofs.Bytes.{HaveBytes, image_bytes}
+use Rattle.pfr_flash.specs.Operation.{Operation, play}
 use Rattle.pfr_flash.specs.FlashState.{FlashState, now, upto, size_of, op_count_of}
 use Rattle.pfr_flash.specs.Moved.{Extends}
 use Rattle.pfr_flash.specs.Plan.{IsPart, DoesPart}
 use Rattle.pfr_flash.specs.Range.{AllWithin}
-use Rattle.pfr_flash.proofs.MovedLemmas.{Extends-trans, Extends-length}
-use Rattle.pfr_flash.specs.Holding.{HoldsBytes}
-use Rattle.pfr_flash.proofs.HoldingLemmas.{upto_bytes}
+use Rattle.pfr_flash.proofs.MovedLemmas.{Extends-trans}
 use Rattle.pfr_flash.proofs.PlayLemmas.{length-play}
-use Rattle.pfr_flash.proofs.StateLemmas.{upto-Extends}
 use Rattle.pfr_flash.specs.declared.names.Bank.TheVariants as bank
+use Rattle.pfr_flash.specs.declared.names.Device.TheVariants as device
 use Rattle.pfr_engine.specs.Acceptance.{Acceptance}
 use Rattle.pfr_fuses.specs.Changes.{migration, migrated, AreRows}
 use Rattle.pfr_fuses.specs.FusesState.{FusesState}
@@ -31,7 +29,7 @@ use Rattle.pfr_fuses.specs.declared.profile.Profile.{Profile}
 use Rattle.pfr_fuses.specs.declared.profile.Profile.TheVariants.{One, Two}
 use Rattle.pfr_fuses.specs.declared.root_slot.RootSlot.{RootSlot}
 use Rattle.pfr_fuses.proofs.BlankLemmas.{judged-ok}
-use Rattle.pfr_fuses.proofs.GrowthLemmas.{at_each, KeepsProvision-plan, KeepsProvision-none, KeepsProvision-trans, NeverGoesBack-programs, NeverGoesBack-trans}
+use Rattle.pfr_fuses.proofs.GrowthLemmas.{KeepsProvision-plan, KeepsProvision-none, KeepsProvision-trans, NeverGoesBack-programs, NeverGoesBack-trans}
 use Rattle.pfr_fuses.proofs.MigrationLemmas.{Holds, migration-part, first_holds, Grows-holds}
 use Rattle.pfr_fuses.proofs.ProvisionLemmas.{KeepsProvision-slot}
 use Rattle.pfr_fuses.proofs.RootSlotLemmas.{length-slot}
@@ -42,7 +40,7 @@ use Rattle.pfr_script.specs.declared.event.Event.TheVariants as event
 use Rattle.pfr_script.specs.declared.item.Item.{Item}
 use Rattle.pfr_script.specs.declared.item.Item.TheVariants as item
 use Rattle.pfr_calm.specs.Story.{Past, Story}
-use Rattle.pfr_calm.specs.World.{World, AreDevices, story_of}
+use Rattle.pfr_calm.specs.World.{World, story_of}
 use Rattle.pfr_calm.specs.Plans.{migration_in, migration_by}
 use Rattle.pfr_calm.specs.Goes.{Ran}
 use Rattle.pfr_calm.specs.Course.{Steps}
@@ -50,10 +48,10 @@ use Rattle.pfr_calm.specs.Standing.{standing_of, is_off}
 use Rattle.pfr_calm.specs.Promises.{AreOff}
 use Rattle.pfr_calm.specs.Turn.{ignored, provision_course, where_off, Follows, next_item, Turn}
 use Rattle.pfr_calm.specs.Run.{Did, Reached, armed}
-use Rattle.pfr_calm.proofs.NoteLaws.{Turn-moved}
+use Rattle.pfr_calm.proofs.StepTraces.{Turn-moved}
 use Rattle.pfr_calm.proofs.FuseLaws.{profile_kept, rows_kept}
 use Rattle.pfr_calm.proofs.StoreLaws.{Stored, operations_in, judged_here, Turn-stored}
-use Rattle.pfr_calm.proofs.RunLaws.{armed_story}
+use Rattle.pfr_calm.proofs.RunLaws.{IsLater-did, Reached-later, armed_story}
 
 -- ---- a step
 did_part : (plan : List Operation) (old new : World) → Stored plan (story_of old) (story_of new) → DoesPart plan old.nv new.nv
@@ -109,18 +107,11 @@ Turn-keeps_provision accepts (event.Provision root) old new size slot t = by_off
         (did_part (operations_in root (judged_here root (story_of old))) old new did)
 
 -- ---- fuses that are bytes
-abbrev pub AreBytes : List ℕ → Type 0
-AreBytes xs = All (λ (x : ℕ). x < 256) xs
-
-bytes_continued : (xs : List ℕ) (n : ℕ) → AreBytes xs → AreBytes (continued xs n)
-unfolding continued
-bytes_continued xs n p = All-take (λ (x : ℕ). x < 256) n _ (All-append (λ (x : ℕ). x < 256) xs _ p (All-replicate (λ (x : ℕ). x < 256) n 255 (omega arith)))
-
 bytes_row : (nv : List ℕ) (at count n : ℕ) → AreBytes nv → AreBytes (continued (bytes_at nv at count) n)
-bytes_row nv at count n p = bytes_continued (bytes_at nv at count) n (All-take (λ (x : ℕ). x < 256) count (drop at nv) (All-drop (λ (x : ℕ). x < 256) at nv p))
+bytes_row nv at count n p = AreBytes-continued (bytes_at nv at count) n (AreBytes-bytes_at nv at count p)
 
 both_bytes : (xs ys : List ℕ) → AreBytes xs → AreBytes ys → AreBytes (xs ++ ys)
-both_bytes xs ys p q = All-append (λ (x : ℕ). x < 256) xs ys p q
+both_bytes xs ys p q = AreBytes-append xs ys p q
 
 bytes_with : (nv slot : List ℕ) → AreBytes nv → AreBytes (migrated (fuses_with nv slot))
 unfolding floor_fuses row_fuses
@@ -142,7 +133,7 @@ migrated_grows old new fuses size start f one bytes did =
     let length_is : length (migrated fuses) ≡ 160 = simp (length-append, rows.bmc_floor, rows.pch_floor, rows.pch_manifest, rows.pch_capsule, rows.bmc_manifest, rows.bmc_capsule) (omega arith) in
     let are = bytes_migrated nv fuses f bytes in
     let each : (added : List Operation) → IsPart nv (migration fuses) added → Holds nv fuses (play nv added) =
-    λ added h. migration-part nv fuses nv_size (sym (profile_kept nv fuses f) ∙ one) rows (λ i below. are i 0 (omega (arith, below, length_is))) (first_holds nv fuses stands) added h in
+    λ added h. migration-part nv fuses nv_size (sym (profile_kept nv fuses f) ∙ one) rows (λ i below. are i) (first_holds nv fuses stands) added h in
     let at : (n : ℕ) → op_count_of old ≤ n → Holds nv fuses (upto new n) = λ n le. at_each (Holds nv fuses) (migration fuses) old new start did each n le in
     record { grows = λ m n low order high. Grows-holds nv fuses (upto new m) (upto new n) (at m low) (at n (omega arith)) }
 
@@ -215,9 +206,6 @@ same_done old new e = record { added = []; is = e.1 ∙ sym (append-nil old.nv.o
 armed_keeps : (arm : Arm) (tear : List ℕ) (w : World) → KeepsProvision w.nv (armed arm tear w).nv
 armed_keeps arm tear w = KeepsProvision-none w.nv (armed arm tear w).nv (armed_nv arm tear w).1
 
-upto_all : (d : FlashState) → upto d (op_count_of d) ≡ now d
-upto_all d = ap (λ (ops : List Operation). play d.start ops) (take_all (op_count_of d) d.ops (omega arith))
-
 -- what the scripts provision are slots
 abbrev pub AreKnownSlots : List Item → Type 0
 AreKnownSlots [] = Unit {0}
@@ -243,46 +231,23 @@ Reached-provision accepts tears (item.Arm arm ∷ items) old new size slots (mid
     (subst (λ (w : World). KeepsProvision old.nv w.nv) (sym e) (armed_keeps arm (slice_index_or tears arm.tear []) old))
     (Reached-provision accepts tears items mid new (ap (λ (xs : List ℕ). length xs) first.start ∙ size) slots r)
 
--- at each moment of a run the store holds bytes
-abbrev pub AlwaysBytes : FlashState → FlashState → Type 0
-AlwaysBytes old new = (n : ℕ) → op_count_of old ≤ n → n ≤ op_count_of new → AreBytes (upto new n)
-
 armed_grows : (arm : Arm) (tear : List ℕ) (w : World) → size_of w.nv ≡ 32768 → NeverGoesBack w.nv (armed arm tear w).nv
 armed_grows arm tear w size = let a = armed_nv arm tear w in nothing_grows w.nv (armed arm tear w).nv size a.0 (same_done w (armed arm tear w) a)
 
-bytes_before : (old mid new : World) → StoreMoved old mid → StoreMoved mid new → AlwaysBytes old.nv new.nv → AreBytes (now mid.nv)
-bytes_before old mid new p q always =
-    let le = Extends-length old.nv.ops mid.nv.ops p.ops in
-    let le' = Extends-length mid.nv.ops new.nv.ops q.ops in
-    let same : upto new.nv (op_count_of mid.nv) ≡ now mid.nv = upto-Extends mid.nv new.nv (op_count_of mid.nv) q.start q.ops (omega arith) ∙ upto_all mid.nv in
-    subst AreBytes same (always (op_count_of mid.nv) le le')
-
-later_bytes : (old mid new : World) → StoreMoved old mid → AlwaysBytes old.nv new.nv → AlwaysBytes mid.nv new.nv
-later_bytes old mid new p always n low high = always n (let le = Extends-length old.nv.ops mid.nv.ops p.ops in omega (arith, le, low)) high
-
--- Fuses are never taken back in a run.
-pub Reached-grows : (accepts : Acceptance) (tears : List (List ℕ)) (items : List Item) (old new : World) → size_of old.nv ≡ 32768 → AlwaysBytes old.nv new.nv → AreKnownSlots items
+-- Fuses are never taken back in a run of devices that hold bytes.
+pub Reached-never_back : (accepts : Acceptance) (tears : List (List ℕ)) (items : List Item) (old new : World) → size_of old.nv ≡ 32768 → HaveBytes new → AreKnownSlots items
     → Reached (Did accepts tears) items old new → NeverGoesBack old.nv new.nv
-Reached-grows accepts tears [] old new size always slots r = subst (λ (w : World). NeverGoesBack old.nv w.nv) (sym r) (nothing_grows old.nv old.nv size refl (record { added = []; is = sym (append-nil old.nv.ops); part = tt }))
-Reached-grows accepts tears (item.Event e ∷ items) old new size always slots (mid, t, r) =
+Reached-never_back accepts tears [] old new size held slots r = subst (λ (w : World). NeverGoesBack old.nv w.nv) (sym r) (nothing_grows old.nv old.nv size refl (record { added = []; is = sym (append-nil old.nv.ops); part = tt }))
+Reached-never_back accepts tears (item.Event e ∷ items) old new size held slots (mid, t, r) =
     let first = StoreMoved-did accepts tears (item.Event e) old mid t in
     let rest = Reached-store accepts tears items mid new r in
-    let bytes = bytes_before old old new (StoreMoved-refl old) (StoreMoved-trans old mid new first rest) always in
+    let later = (Reached-later accepts tears items mid new r).bytes held in
+    let bytes = image_bytes device.Nv old ((IsLater-did accepts tears (item.Event e) old mid t).bytes later) in
     NeverGoesBack-trans old.nv mid.nv new.nv rest.start rest.ops (Turn-grows accepts e old mid size bytes slots.0 t)
-    (Reached-grows accepts tears items mid new (ap (λ (xs : List ℕ). length xs) first.start ∙ size) (later_bytes old mid new first always) slots.1 r)
-Reached-grows accepts tears (item.Arm arm ∷ items) old new size always slots (mid, e, r) =
+    (Reached-never_back accepts tears items mid new (ap (λ (xs : List ℕ). length xs) first.start ∙ size) held slots.1 r)
+Reached-never_back accepts tears (item.Arm arm ∷ items) old new size held slots (mid, e, r) =
     let first = StoreMoved-did accepts tears (item.Arm arm) old mid e in
     let rest = Reached-store accepts tears items mid new r in
     NeverGoesBack-trans old.nv mid.nv new.nv rest.start rest.ops
     (subst (λ (w : World). NeverGoesBack old.nv w.nv) (sym e) (armed_grows arm (slice_index_or tears arm.tear []) old size))
-    (Reached-grows accepts tears items mid new (ap (λ (xs : List ℕ). length xs) first.start ∙ size) (later_bytes old mid new first always) slots r)
-
--- A device that holds bytes at the end of a run held bytes at each moment of it.
-pub AlwaysBytes-held : (old new : FlashState) → HoldsBytes new → AlwaysBytes old new
-AlwaysBytes-held old new h n low high = All-from_get_or (λ (x : ℕ). x < 256) (upto new n) 0 (λ i below. upto_bytes new n h i)
-
--- So fuses are never taken back in a run of devices that hold bytes.
-pub Reached-never_back : (accepts : Acceptance) (tears : List (List ℕ)) (items : List Item) (old new : World) → size_of old.nv ≡ 32768 → AreDevices new → AreKnownSlots items
-    → Reached (Did accepts tears) items old new → NeverGoesBack old.nv new.nv
-Reached-never_back accepts tears items old new size devices slots r =
-    Reached-grows accepts tears items old new size (AlwaysBytes-held old.nv new.nv devices.nv) slots r
+    (Reached-never_back accepts tears items mid new (ap (λ (xs : List ℕ). length xs) first.start ∙ size) held slots r)

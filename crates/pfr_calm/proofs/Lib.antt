@@ -1,3 +1,4 @@
+pub mod Bytes
 pub mod Sequence
 pub mod Lift
 pub mod Courses
@@ -16,3 +17,4 @@ pub mod RunLaws
 pub mod GrowthLaws
 pub mod ProvisionLaws
 pub mod EventLaws
+pub mod FaultLaws

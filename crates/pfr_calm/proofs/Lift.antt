@@ -1,11 +1,12 @@
 -- What a device does by a plan of its own, as what the platform does.
-use Rattle.std.proofs.Common.{◌≡◌, ◌≢◌, ◌∙◌, ℕ, refl, sym, ap, subst, true, false, List, [], ◌∷◌, ◌++◌, append_assoc, ◌⊎◌, inl, inr, Result, Ok, Err, IfErr}
+use Rattle.std.proofs.Common.{◌≡◌, ◌≢◌, ◌∙◌, ℕ, refl, sym, ap, subst, true, false, List, [], ◌∷◌, ◌++◌, append_assoc, ◌⊎◌, inl, inr, Some, None, Result, Ok, Err}
 use Rattle.std.proofs.lemmas.List.{append-nil}
 use Rattle.std.proofs.lemmas.Bool.{cases_Bool}
 use Rattle.pfr_flash.specs.Operation.{Operation, applied, IsTorn}
 use Rattle.pfr_flash.specs.FlashState.{FlashState, now}
 use Rattle.pfr_flash.specs.Moved.{Moved, Worked, was_done}
-use Rattle.pfr_flash.specs.Reading.{OnlyReads, FailsReading}
+use Rattle.pfr_flash.specs.Reading.{OnlyReads, EndsAt, failed_by}
+use Rattle.pfr_flash.proofs.EndsLemmas.{ends_reads, ends_fails}
 use Rattle.pfr_flash.specs.Plan.{IsPart, FailsWorking, Follows}
 use Rattle.pfr_flash.specs.declared.flash.FlashFail.{FlashFail}
 use Rattle.pfr_flash.specs.declared.flash.FlashFail.TheVariants.{Fault, Lost}
@@ -16,7 +17,7 @@ use Rattle.pfr_flash.proofs.PlayLemmas.{play-append}
 use Rattle.pfr_flash.proofs.StateLemmas.{Worked-lost}
 use Rattle.pfr_flash.proofs.FollowsLemmas.{Follows-failed}
 use Rattle.pfr_calm.specs.Story.{Story, Move, Does, after, operated, image_at, all_do, IsCut}
-use Rattle.pfr_calm.specs.World.{World, story_of, state_at, AllMoved, NoneLost, Caused}
+use Rattle.pfr_calm.specs.World.{World, story_of, state_at, AllMoved, NoneFailed, NoneLost, Caused}
 use Rattle.pfr_calm.specs.Goes.{Ran, Stopped, Goes}
 use Rattle.pfr_calm.specs.declared.stop.Stop.{Stop}
 use Rattle.pfr_calm.proofs.Sequence.{IsCut-second}
@@ -108,15 +109,22 @@ module _ (which : Device) (old new : World) (only : OnlyAt which old new) where
   pub AllMoved-only : Moved (state_at which old) (state_at which new) → AllMoved old new
   AllMoved-only m = record { bmc = each_moved m device.Bmc; pch = each_moved m device.Pch; nv = each_moved m device.Nv }
 
-  each_kept : (state_at which new).losses ≡ (state_at which old).losses → (other : Device) → (state_at other new).losses ≡ (state_at other old).losses
-  each_kept m other = by_place (each_at which other)
+  each_kept : (part : FlashState → ℕ) → part (state_at which new) ≡ part (state_at which old) → (other : Device) → part (state_at other new) ≡ part (state_at other old)
+  each_kept part m other = by_place (each_at which other)
     where
-      by_place : ((other ≡ which) ⊎ (other ≢ which)) → (state_at other new).losses ≡ (state_at other old).losses
-      by_place (inl e) = subst (λ (d : Device). (state_at d new).losses ≡ (state_at d old).losses) (sym e) m
-      by_place (inr apart) = ap (λ (d : FlashState). d.losses) (only.others other apart)
+      by_place : ((other ≡ which) ⊎ (other ≢ which)) → part (state_at other new) ≡ part (state_at other old)
+      by_place (inl e) = subst (λ (d : Device). part (state_at d new) ≡ part (state_at d old)) (sym e) m
+      by_place (inr apart) = ap part (only.others other apart)
 
   pub NoneLost-only : (state_at which new).losses ≡ (state_at which old).losses → NoneLost old new
-  NoneLost-only m = record { bmc = each_kept m device.Bmc; pch = each_kept m device.Pch; nv = each_kept m device.Nv }
+  NoneLost-only m =
+      let kept = each_kept (λ (d : FlashState). d.losses) m in
+      record { bmc = kept device.Bmc; pch = kept device.Pch; nv = kept device.Nv }
+
+  pub NoneFailed-only : (state_at which new).faults ≡ (state_at which old).faults → NoneFailed old new
+  NoneFailed-only m =
+      let kept = each_kept (λ (d : FlashState). d.faults) m in
+      record { bmc = kept device.Bmc; pch = kept device.Pch; nv = kept device.Nv }
 
 -- the story once a device did these operations
 abbrev pub did_at : Device → List Operation → Story → Story
@@ -173,6 +181,7 @@ Ran-follows A which plan old new x only on f = record {
   is = story_after which plan old new only f.worked.moved.start f.ok;
   moved = AllMoved-only which old new only f.worked.moved;
   none_lost = NoneLost-only which old new only (Worked-kept (state_at which old) (state_at which new) f.worked on f.on);
+  none_failed = NoneFailed-only which old new only (ap (λ (d : FlashState). d.faults) f.whole);
 }
 
 -- The device is powered as it was, unless it answers Lost.
@@ -221,27 +230,29 @@ pub Goes-follows : {A : Type 0} (which : Device) (plan : List Operation) (old ne
 Goes-follows {A} which plan old new (Ok x) only on still f = Ran-follows A which plan old new x only on f
 Goes-follows {A} which plan old new (Err fail) only on still f = Stopped-follows A which plan fail old new only on still f
 
-still_reading : {A : Type 0} (old new : FlashState) (r : Result A FlashFail) → old.powered ≡ true → OnlyReads old new → StillOnAt r new
-still_reading old new (Ok x) on h = tt
-still_reading old new (Err Fault) on h = h.powered ∙ on
-still_reading old new (Err Lost) on h = tt
-
 -- a device that was read, and the others stay
-pub Ran-reads : (which : Device) (old new : World) → OnlyAt which old new → OnlyReads (state_at which old) (state_at which new) → Ran [] old new
-Ran-reads which old new only h = record {
-  is = story_after which [] old new only h.start (h.ops ∙ sym (append-nil (state_at which old).ops));
-  moved = AllMoved-only which old new only h.worked.moved;
-  none_lost = NoneLost-only which old new only h.losses;
-}
+pub Ran-reads : (which : Device) (old new : World) → OnlyAt which old new → EndsAt None (state_at which old) (state_at which new) → Ran [] old new
+Ran-reads which old new only h =
+    let reads : OnlyReads (state_at which old) (state_at which new) = ends_reads h in
+    record {
+      is = story_after which [] old new only reads.start (reads.ops ∙ sym (append-nil (state_at which old).ops));
+      moved = AllMoved-only which old new only reads.worked.moved;
+      none_lost = NoneLost-only which old new only reads.losses;
+      none_failed = NoneFailed-only which old new only (ap (λ (d : FlashState). d.faults) h.leaves);
+    }
+
+still_reading : (fail : FlashFail) (old new : FlashState) → old.powered ≡ true → OnlyReads old new → StillOn fail new
+still_reading Fault old new on h = h.powered ∙ on
+still_reading Lost old new on h = tt
 
 -- one device is read
 pub Goes-reads : {A : Type 0} (which : Device) (old new : World) (r : Result A FlashFail) → OnlyAt which old new
-    → (state_at which old).powered ≡ true → OnlyReads (state_at which old) (state_at which new)
-    → IfErr r (λ f. FailsReading f (state_at which old) (state_at which new)) → Goes (λ _. []) old new (at_device which r)
-Goes-reads which old new (Ok x) only on reads fails = Ran-reads which old new only reads
-Goes-reads {A} which old new (Err f) only on reads fails =
-    Goes-follows {A = A} which [] old new (Err f) only on (still_reading {A = A} (state_at which old) (state_at which new) (Err f) on reads)
-    (Follows-failed {A = A} (state_at which old) (state_at which new) f reads fails)
+    → (state_at which old).powered ≡ true → EndsAt (failed_by (λ fail. Some fail) r) (state_at which old) (state_at which new) → Goes (λ _. []) old new (at_device which r)
+Goes-reads which old new (Ok x) only on ends = Ran-reads which old new only ends
+Goes-reads {A} which old new (Err f) only on ends =
+    let reads : OnlyReads (state_at which old) (state_at which new) = ends_reads ends in
+    Goes-follows {A = A} which [] old new (Err f) only on (still_reading f (state_at which old) (state_at which new) on reads)
+    (Follows-failed {A = A} (state_at which old) (state_at which new) f reads (ends_fails f (state_at which old) (state_at which new) ends))
 
 -- and which is on yet
 pub on_after_follows : (A : Type 0) (which : Device) (plan : List Operation) (old new : World) (x : A)

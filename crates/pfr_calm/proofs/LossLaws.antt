@@ -163,7 +163,7 @@ outcome_lost s old new quiet l = losing (record {
 pub Steps-outcome : (ss : List Stretch) (old new : World) → AllQuiet ss → Steps ss old new → Outcome old new
 Steps-outcome [] old new quiet p = outcome_ran [] old new p tt
 Steps-outcome (s ∷ ss) old new quiet (inl (mid, c, rest)) =
-    Outcome-later old mid new (Quietly-ran (s.plan (story_of old)) old mid c.ran (quiet.0.plan (story_of old))) c.ran.none_lost (Steps-outcome ss mid new quiet.1 rest)
+    Outcome-later old mid new (Quietly-ran (s.plan (story_of old)) old mid c (quiet.0.plan (story_of old))) c.none_lost (Steps-outcome ss mid new quiet.1 rest)
 Steps-outcome (s ∷ ss) old new quiet (inr (inl (mid, f, rest))) =
     Outcome-later old mid new
     (Quietly-then old f.at mid (Quietly-stopped (s.plan (story_of old)) f.which Fault old f.at f.stopped (quiet.0.plan (story_of old)))

@@ -1,7 +1,7 @@
 -- Each step keeps its promises about releases, locks and faults.
 use Rattle.std.proofs.Common.{◌≡◌, ◌∙◌, refl, ap, ℕ, ◌≤◌, arith, List, length, take, Result, Ok, Err, inr}
 use Rattle.std.proofs.lemmas.List.{take-append-le, take_all}
-use Rattle.pfr_flash.specs.Operation.{Operation, play}
+use Rattle.pfr_flash.specs.Operation.{play_first, Operation, play}
 use Rattle.pfr_flash.specs.FlashState.{upto as state_upto}
 use Rattle.pfr_flash.specs.declared.names.Bank.{Bank}
 use Rattle.pfr_flash.specs.declared.names.Bank.TheVariants as bank
@@ -18,18 +18,22 @@ use Rattle.pfr_report.specs.declared.note.LockWhy.TheVariants as why
 use Rattle.pfr_report.specs.declared.note.Note.{Note}
 use Rattle.pfr_report.specs.declared.note.What.{What}
 use Rattle.pfr_report.specs.declared.note.What.TheVariants as what
-use Rattle.pfr_calm.specs.Story.{Past, Story, Move, after, counts_of, device_of, image_at, image_of, past_at}
-use Rattle.pfr_calm.specs.World.{World, story_of, state_at, AllMoved}
-use Rattle.pfr_calm.specs.Spans.{upto, count_at}
+use Rattle.pfr_calm.specs.Story.{Past, Story, counts_of, device_of, image_at, image_of, past_at}
+use Rattle.pfr_calm.specs.World.{World, story_of, state_at}
+use Rattle.pfr_calm.specs.Spans.{count_at}
 use Rattle.pfr_calm.specs.Turn.{next_item, Turn}
 use Rattle.pfr_calm.specs.Promises.{added, IsDue, IsFaultLock, FaultsHaveCauses, ReleasesTrusted, LocksHaveCauses, DistrustsWithCause}
+use Rattle.pfr_calm.proofs.Bytes.{HaveBytes}
 use Rattle.pfr_calm.proofs.Traces.{Begins, Precedes}
 use Rattle.pfr_calm.proofs.Facts.{Setting, Fact, LockFact, IsLater, IsLater-refl}
 use Rattle.pfr_calm.proofs.StretchLaws.{Between, MayProvision, works, refused}
-use Rattle.pfr_calm.proofs.StepTraces.{MayTurn, Turn-known, Turn-traced}
+use Rattle.pfr_calm.proofs.StepTraces.{MayTurn, Turn-known}
 
 -- ---- what a device held at a moment, by its count then
-pub upto_begins : (a b : Past) → Begins a b → upto b (length a.ops) ≡ image_of a
+abbrev pub past_upto : Past → ℕ → List ℕ
+past_upto past count = play_first count past.start past.ops
+
+pub upto_begins : (a b : Past) → Begins a b → past_upto b (length a.ops) ≡ image_of a
 upto_begins a b p =
     let front : take (length a.ops) b.ops ≡ a.ops =
     ap (λ (ops : List Operation). take (length a.ops) ops) p.ops
@@ -38,14 +42,14 @@ upto_begins a b p =
 
 -- the bank's bytes then, and the store's
 pub bank_then : (which : Bank) (at story : Story) (counts : Counts) → counts ≡ counts_of at → Precedes at story
-    → upto (past_at (device_of which) story) (count_at which counts) ≡ image_at (device_of which) at
+    → past_upto (past_at (device_of which) story) (count_at which counts) ≡ image_at (device_of which) at
 bank_then bank.Bmc at story counts e p = rw e (upto_begins at.bmc story.bmc p.bmc)
 bank_then bank.Pch at story counts e p = rw e (upto_begins at.pch story.pch p.pch)
 
-pub store_then : (at story : Story) (counts : Counts) → counts ≡ counts_of at → Precedes at story → upto story.nv counts.nv ≡ image_at device.Nv at
+pub store_then : (at story : Story) (counts : Counts) → counts ≡ counts_of at → Precedes at story → past_upto story.nv counts.nv ≡ image_at device.Nv at
 store_then at story counts e p = rw e (upto_begins at.nv story.nv p.nv)
 
-pub past_state : (which : Bank) (w : World) (k : ℕ) → state_upto (state_at (device_of which) w) k ≡ upto (past_at (device_of which) (story_of w)) k
+pub past_state : (which : Bank) (w : World) (k : ℕ) → state_upto (state_at (device_of which) w) k ≡ past_upto (past_at (device_of which) (story_of w)) k
 past_state bank.Bmc w k = refl
 past_state bank.Pch w k = refl
 
@@ -61,11 +65,11 @@ lock_due s (why.NoGoodImage active recovery) which at n p = p
 
 -- ---- a step
 -- nothing is asked of the store
-unfoldable pub plain : Acceptance → World → World → Setting
-plain accepts old new = record { accepts = accepts; first = old; last = new; Fits = λ nv. Unit {0}; Works = λ notes. Unit {0}; IsSwitched = Unit {0} }
+unfoldable pub plain : Acceptance → (old new : World) → HaveBytes new → Setting
+plain accepts old new held = record { accepts = accepts; first = old; last = new; Fits = λ nv. Unit {0}; Works = λ notes. Unit {0}; IsSwitched = Unit {0}; held = held }
 
 pub IsLater-next : (w : World) → IsLater w (next_item w)
-IsLater-next w = record { faults = by_faults; losses = by_losses }
+IsLater-next w = record { faults = by_faults; losses = by_losses; bytes = λ h. record { bmc = h.bmc; pch = h.pch; nv = h.nv } }
   where
     by_faults : (which : Device) → (state_at which w).faults ≤ (state_at which (next_item w)).faults
     by_faults device.Bmc = omega arith
@@ -77,74 +81,61 @@ IsLater-next w = record { faults = by_faults; losses = by_losses }
     by_losses device.Pch = omega arith
     by_losses device.Nv = omega arith
 
-plain_provision : (accepts : Acceptance) (old new : World) (notes : List Note) (r : Result ℕ FuseFail) → MayProvision (plain accepts old new) notes r
+plain_provision : (accepts : Acceptance) (old new : World) (held : HaveBytes new) (notes : List Note) (r : Result ℕ FuseFail) → MayProvision (plain accepts old new held) notes r
 unfolding plain
-plain_provision accepts old new notes (Ok number) = works tt
-plain_provision accepts old new notes (Err cause) = refused
+plain_provision accepts old new held notes (Ok number) = works tt
+plain_provision accepts old new held notes (Err cause) = refused
 
-plain_may : (accepts : Acceptance) (e : Event) (old new w : World) → MayTurn (plain accepts old new) e w
+plain_may : (accepts : Acceptance) (e : Event) (old new : World) (held : HaveBytes new) (w : World) → MayTurn (plain accepts old new held) e w
 unfolding plain
-plain_may accepts event.Power old new w = λ mid r. (inr tt, λ next c. tt)
-plain_may accepts event.Off old new w = λ off. tt
-plain_may accepts (event.Provision root) old new w = λ mid r. plain_provision accepts old new mid.notes.list _
+plain_may accepts event.Power old new held w = λ mid r. (inr tt, λ next c. tt)
+plain_may accepts event.Off old new held w = λ off. tt
+plain_may accepts (event.Provision root) old new held w = λ mid r. plain_provision accepts old new held mid.notes.list _
 
-plain_between : (accepts : Acceptance) (old new : World) → Between (plain accepts old new) (next_item old) new
+plain_between : (accepts : Acceptance) (old new : World) (held : HaveBytes new) → Between (plain accepts old new held) (next_item old) new
 unfolding plain
-plain_between accepts old new = record { before = IsLater-next old; behind = IsLater-refl new }
-
--- what a step does to the devices
-pub Turn-moved : (accepts : Acceptance) (e : Event) (old new : World) → Turn accepts e old new → AllMoved (next_item old) new
-unfolding plain
-Turn-moved accepts e old new t =
-    (Turn-traced (plain accepts old new) e old new (plain_between accepts old new) (plain_may accepts e old new (next_item old)) t).moved
-
--- the moves of a step
-pub Turn-trace : (accepts : Acceptance) (e : Event) (old new : World) → Turn accepts e old new → (trace : List Move) × (story_of new ≡ after trace (story_of (next_item old)))
-unfolding plain
-Turn-trace accepts e old new t =
-    let traced = Turn-traced (plain accepts old new) e old new (plain_between accepts old new) (plain_may accepts e old new (next_item old)) t in
-    (traced.trace, traced.is)
+plain_between accepts old new held = record { before = IsLater-next old; behind = IsLater-refl new }
 
 -- what is known of each note that a step added
-pub step_known : (accepts : Acceptance) (e : Event) (old new : World) → Turn accepts e old new → (that : What) → IsNoted (added old new) that
-    → (at : Story) × Fact (plain accepts old new) that at × Precedes at (story_of new)
+pub step_known : (accepts : Acceptance) (e : Event) (old new : World) (held : HaveBytes new) → Turn accepts e old new → (that : What) → IsNoted (added old new) that
+    → (at : Story) × Fact (plain accepts old new held) that at × Precedes at (story_of new)
 unfolding plain
-step_known accepts e old new t that n =
-    Turn-known (plain accepts old new) e old new (plain_between accepts old new) (plain_may accepts e old new (next_item old)) t that n
+step_known accepts e old new held t that n =
+    Turn-known (plain accepts old new held) e old new (plain_between accepts old new held) (plain_may accepts e old new held (next_item old)) t that n
 
 -- A bank is locked for a fault only where a count of faults rose.
-pub Turn-faults : (accepts : Acceptance) (e : Event) (old new : World) → Turn accepts e old new → FaultsHaveCauses old new
+pub Turn-faults : (accepts : Acceptance) (e : Event) (old new : World) → HaveBytes new → Turn accepts e old new → FaultsHaveCauses old new
 unfolding plain
-Turn-faults accepts e old new t = record {
-  flash = λ which at n. let k = step_known accepts e old new t (what.Locked which why.FlashFault at) n in k.1.1;
-  store = λ which at n. let k = step_known accepts e old new t (what.Locked which why.StoreFault at) n in k.1.1;
+Turn-faults accepts e old new held t = record {
+  flash = λ which at n. let k = step_known accepts e old new held t (what.Locked which why.FlashFault at) n in k.1.1;
+  store = λ which at n. let k = step_known accepts e old new held t (what.Locked which why.StoreFault at) n in k.1.1;
 }
 
 -- A bank is released only where it was trusted.
-pub Turn-releases : (accepts : Acceptance) (e : Event) (old new : World) → Turn accepts e old new → ReleasesTrusted accepts old new
+pub Turn-releases : (accepts : Acceptance) (e : Event) (old new : World) → HaveBytes new → Turn accepts e old new → ReleasesTrusted accepts old new
 unfolding plain
-Turn-releases accepts e old new t which svn at n =
-    let k = step_known accepts e old new t (what.Released which svn at) n in
+Turn-releases accepts e old new held t which svn at n =
+    let k = step_known accepts e old new held t (what.Released which svn at) n in
     let mine : state_upto (state_at (device_of which) new) (count_at which at) ≡ image_at (device_of which) k.0 =
     past_state which new (count_at which at) ∙ bank_then which k.0 (story_of new) at k.1.0 k.2 in
     let nv : state_upto new.nv at.nv ≡ image_at device.Nv k.0 = store_then k.0 (story_of new) at k.1.0 k.2 in
     rw (mine, nv) k.1.1
 
 -- A bank is locked, but for a fault, only with a cause in its contents.
-pub Turn-locks : (accepts : Acceptance) (e : Event) (old new : World) → Turn accepts e old new → LocksHaveCauses accepts old new
+pub Turn-locks : (accepts : Acceptance) (e : Event) (old new : World) → HaveBytes new → Turn accepts e old new → LocksHaveCauses accepts old new
 unfolding plain
-Turn-locks accepts e old new t which cause at n no_fault =
-    let k = step_known accepts e old new t (what.Locked which cause at) n in
+Turn-locks accepts e old new held t which cause at n no_fault =
+    let k = step_known accepts e old new held t (what.Locked which cause at) n in
     let mine : state_upto (state_at (device_of which) new) (count_at which at) ≡ image_at (device_of which) k.0 =
     past_state which new (count_at which at) ∙ bank_then which k.0 (story_of new) at k.1.0 k.2 in
     let nv : state_upto new.nv at.nv ≡ image_at device.Nv k.0 = store_then k.0 (story_of new) at k.1.0 k.2 in
-    rw (mine, nv) (lock_due (plain accepts old new) cause which k.0 no_fault k.1.1)
+    rw (mine, nv) (lock_due (plain accepts old new held) cause which k.0 no_fault k.1.1)
 
 -- A bank's image is called untrusted only with the cause against it.
-pub Turn-distrusts : (accepts : Acceptance) (e : Event) (old new : World) → Turn accepts e old new → DistrustsWithCause accepts old new
+pub Turn-distrusts : (accepts : Acceptance) (e : Event) (old new : World) → HaveBytes new → Turn accepts e old new → DistrustsWithCause accepts old new
 unfolding plain
-Turn-distrusts accepts e old new t which cause n =
-    let k = step_known accepts e old new t (what.Untrusted which cause) n in
+Turn-distrusts accepts e old new held t which cause n =
+    let k = step_known accepts e old new held t (what.Untrusted which cause) n in
     let at = counts_of k.0 in
     let mine : state_upto (state_at (device_of which) new) (count_at which at) ≡ image_at (device_of which) k.0 =
     past_state which new (count_at which at) ∙ bank_then which k.0 (story_of new) at refl k.2 in

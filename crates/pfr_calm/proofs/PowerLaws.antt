@@ -34,6 +34,9 @@ use Rattle.pfr_calm.specs.Promises.{added, counts_in, IsCalm, IsDue, IsAgainst, 
 use Rattle.pfr_calm.specs.Authentication.{HasGoodRecovery, HasBadRecovery}
 use Rattle.pfr_calm.specs.declared.authentication.Authentication.{Authentication}
 use Rattle.pfr_calm.specs.declared.authentication.Authentication.TheVariants.{Unprovisioned, SlotsSpent, BadLayout, Untrusted, Trusted}
+use Rattle.pfr_calm.proofs.Sequence.{AllMoved-trans}
+use Rattle.pfr_calm.proofs.StepTraces.{Steps-moved}
+use Rattle.pfr_calm.proofs.Bytes.{HaveBytes, have_before, image_bytes}
 use Rattle.pfr_calm.proofs.Findings.{Found, unset, spent, misplaced, distrusted, trusted, found, RecoveryFound, recovery_found, good_bad, bad_once, not_unset, noted_append, noted_left, noted_right, same_lock, same_release, same_cause, misplaced_valid, misplaced_once, against_trusted, against_once, trusted_once, not_trusted}
 
 -- ---- what is noted of a bank that was found so
@@ -272,27 +275,35 @@ pub record BroughtUp (accepts : Acceptance) (b : Bank) (old new : Story) : Type 
       (image_at (device_of b) old) (image_at device.Nv old) accepts
   pub is : new ≡ record old { notes = old.notes ++ own_notes accepts b old }
 
-brought_crossed : (accepts : Acceptance) (b : Bank) (old new : World) → Crosses (bank_stretch accepts b) old new → BroughtUp accepts b (story_of old) (story_of new)
-brought_crossed accepts b old new p =
+-- what crossing the stretch adds
+crossed_is : (accepts : Acceptance) (b : Bank) (old new : World) → Crosses (bank_stretch accepts b) old new
+    → story_of new ≡ record (story_of old) { notes = (story_of old).notes ++ own_notes accepts b (story_of old) }
+crossed_is accepts b old new p =
     let story = story_of old in
     let a = authentication_at accepts b story in
     let recovery = recovery_at accepts b story in
     let note : Note = record { item = story.item; what = what.Held b (counts_of story) } in
+    p.is ∙ conclusion_story b recovery a (noted (what.Held b) story)
+    ∙ ap (λ (notes : List Note). record story { notes = notes }) (append_assoc story.notes (note ∷ []) (found_notes story.item b (counts_of story) recovery a))
+
+brought_crossed : (accepts : Acceptance) (b : Bank) (old new : World) → HaveBytes old → Crosses (bank_stretch accepts b) old new → BroughtUp accepts b (story_of old) (story_of new)
+brought_crossed accepts b old new held p =
+    let story = story_of old in
+    let bytes = image_bytes (device_of b) old held in
+    let f = found b (image_at (device_of b) story) (image_at device.Nv story) accepts bytes in
     record {
-      found = found b (image_at (device_of b) story) (image_at device.Nv story) accepts p.shown.active;
-      recovery = recovery_found b (image_at (device_of b) story) (image_at device.Nv story) accepts a recovery refl p.shown.recovery;
-      is = p.ran.is ∙ conclusion_story b recovery a (noted (what.Held b) story)
-          ∙ ap (λ (notes : List Note). record story { notes = notes })
-          (append_assoc story.notes (note ∷ []) (found_notes story.item b (counts_of story) recovery a));
+      found = f;
+      recovery = recovery_found b (image_at (device_of b) story) (image_at device.Nv story) accepts (authentication_at accepts b story) (recovery_at accepts b story) bytes f refl;
+      is = crossed_is accepts b old new p;
     }
 
 same_some : (one other : Bank) → Some one ≡ Some other → one ≡ other
 same_some one other e = cc
 
-stands_crossed : (accepts : Acceptance) (b : Bank) (old new : Story) → BroughtUp accepts b old new → Bystands b old new
-stands_crossed accepts b old new p = record {
+stands_crossed : (accepts : Acceptance) (b : Bank) (old new : Story) → new ≡ record old { notes = old.notes ++ own_notes accepts b old } → Bystands b old new
+stands_crossed accepts b old new is = record {
   more = own_notes accepts b old;
-  is = p.is;
+  is = is;
   own = λ that one d n. elim n [
     | inl e ↦ absurd (let never : None ≡ Some one = ap decided e ∙ d in cc)
     | inr m ↦ same_some one b (sym d ∙ of_bank old.item b (counts_of old) (recovery_at accepts b old) (authentication_at accepts b old) that m)
@@ -357,7 +368,7 @@ extends_trans a b c p q = record { more = p.more ++ q.more; is = q.is ∙ ap (λ
 pub extends_refl : (a : List Note) → Extends a a
 extends_refl a = record { more = []; is = sym (append-nil a) }
 
-extends_after : (moves : List Move) (story : Story) → Extends story.notes (after moves story).notes
+pub extends_after : (moves : List Move) (story : Story) → Extends story.notes (after moves story).notes
 extends_after [] story = extends_refl story.notes
 extends_after (Says w ∷ moves) story =
     extends_trans story.notes (noted w story).notes (after moves (noted w story)).notes (record { more = record { item = story.item; what = w (counts_of story) } ∷ []; is = refl }) (extends_after moves (noted w story))
@@ -488,7 +499,7 @@ power_alone which item that d n = elim n [ inl e ↦ (let never : None ≡ Some 
 append_alone : (which : Bank) (a b : List Note) → LeavesAlone which a → LeavesAlone which b → LeavesAlone which (a ++ b)
 append_alone which a b f g that d n = elim (noted_append a b that n) [ inl m ↦ f that d m | inr m ↦ g that d m ]
 
-module _ (accepts : Acceptance) (old new : World) where
+module _ (accepts : Acceptance) (old new : World) (held : HaveBytes new) where
   -- both banks' parts follow where the fuses were migrated
   pub record Woken (w : World) : Type 0 where
     pub notes : w.notes.list ≡ old.notes.list ++ record { item = old.item + 1; what = what.Power } ∷ []
@@ -498,7 +509,7 @@ module _ (accepts : Acceptance) (old new : World) where
       → BringsUp bank.Bmc (now new.bmc) (now new.nv) accepts (counts_in new) (added old new)
   bmc_comes w mid k c p =
       comes accepts bank.Bmc old.notes.list (record { item = old.item + 1; what = what.Power } ∷ []) p.more (story_of w) (story_of mid) (story_of new)
-      (brought_crossed accepts bank.Bmc w mid c) k.notes p.is (power_alone bank.Bmc (old.item + 1)) (stands_alone bank.Pch bank.Bmc (story_of mid) (story_of new) p (λ e. cc))
+      (brought_crossed accepts bank.Bmc w mid (have_before w new (Steps-moved (bank_stretches accepts) w new k.rest) held) c) k.notes p.is (power_alone bank.Bmc (old.item + 1)) (stands_alone bank.Pch bank.Bmc (story_of mid) (story_of new) p (λ e. cc))
 
   pch_comes : (w mid : World) → Woken w → Bystands bank.Bmc (story_of w) (story_of mid) → BroughtUp accepts bank.Pch (story_of mid) (story_of new)
       → BringsUp bank.Pch (now new.pch) (now new.nv) accepts (counts_in new) (added old new)
@@ -520,17 +531,17 @@ module _ (accepts : Acceptance) (old new : World) where
   bmc_last : (w mid : World) → Woken w → Crosses (bank_stretch accepts bank.Bmc) w mid → Steps (bank_stretch accepts bank.Pch ∷ []) mid new
       → IsCalm bank.Bmc (added old new) → BringsUp bank.Bmc (now new.bmc) (now new.nv) accepts (counts_in new) (added old new)
   bmc_last w mid k c (inl (end, d, e)) calm =
-      bmc_comes w mid k c (pch_end mid end (stands_crossed accepts bank.Pch (story_of mid) (story_of end) (brought_crossed accepts bank.Pch mid end d)) e)
+      bmc_comes w mid k c (pch_end mid end (stands_crossed accepts bank.Pch (story_of mid) (story_of end) (crossed_is accepts bank.Pch mid end d)) e)
   bmc_last w mid k c (inr (inl (end, f, e))) calm = bmc_comes w mid k c (pch_end mid end (stands_faulted accepts bank.Pch mid end f) e)
   bmc_last w mid k c (inr (inr l)) calm =
-      let before = extends_trans old.notes.list w.notes.list mid.notes.list (woken_extends w k) (extends_by (brought_up accepts bank.Bmc (story_of w)) w mid c.ran.is) in
+      let before = extends_trans old.notes.list w.notes.list mid.notes.list (woken_extends w k) (extends_by (brought_up accepts bank.Bmc (story_of w)) w mid c.is) in
       absurd (shows_loss accepts old new bank.Bmc l.at l.which
       (extends_trans old.notes.list mid.notes.list l.at.notes.list before (extends_by l.stopped.trace mid l.at l.stopped.is)) l.noted calm)
 
   pch_last : (w mid : World) → Woken w → Bystands bank.Bmc (story_of w) (story_of mid) → Steps (bank_stretch accepts bank.Pch ∷ []) mid new
       → IsCalm bank.Pch (added old new) → BringsUp bank.Pch (now new.pch) (now new.nv) accepts (counts_in new) (added old new)
   pch_last w mid k p (inl (end, d, e)) calm =
-      pch_comes w mid k p (subst (λ (s : Story). BroughtUp accepts bank.Pch (story_of mid) s) (sym e.is) (brought_crossed accepts bank.Pch mid end d))
+      pch_comes w mid k p (subst (λ (s : Story). BroughtUp accepts bank.Pch (story_of mid) s) (sym e.is) (brought_crossed accepts bank.Pch mid end (have_before mid new (AllMoved-trans mid end new d.moved e.moved) held) d))
   pch_last w mid k p (inr (inl (end, f, e))) calm =
       let before = extends_trans old.notes.list w.notes.list mid.notes.list (woken_extends w k) (extends_stands bank.Bmc (story_of w) (story_of mid) p) in
       absurd (shows_lock accepts old new bank.Pch f.which f.at end f.called
@@ -543,7 +554,7 @@ module _ (accepts : Acceptance) (old new : World) where
 
   extends_steps : (mid : World) → Steps (bank_stretch accepts bank.Pch ∷ []) mid new → Extends mid.notes.list new.notes.list
   extends_steps mid (inl (end, d, e)) =
-      extends_trans mid.notes.list end.notes.list new.notes.list (extends_by (brought_up accepts bank.Pch (story_of mid)) mid end d.ran.is) (extends_by [] end new e.is)
+      extends_trans mid.notes.list end.notes.list new.notes.list (extends_by (brought_up accepts bank.Pch (story_of mid)) mid end d.is) (extends_by [] end new e.is)
   extends_steps mid (inr (inl (end, f, e))) =
       extends_trans mid.notes.list end.notes.list new.notes.list (extends_stands bank.Pch (story_of mid) (story_of end) (stands_faulted accepts bank.Pch mid end f)) (extends_by [] end new e.is)
   extends_steps mid (inr (inr l)) =
@@ -562,7 +573,7 @@ module _ (accepts : Acceptance) (old new : World) where
   pch_up : (w : World) (k : Woken w) → Steps (bank_stretches accepts) w new → IsCalm bank.Pch (added old new)
       → BringsUp bank.Pch (now new.pch) (now new.nv) accepts (counts_in new) (added old new)
   pch_up w k (inl (mid, c, r)) calm =
-      pch_last w mid k (stands_crossed accepts bank.Bmc (story_of w) (story_of mid) (brought_crossed accepts bank.Bmc w mid c)) r calm
+      pch_last w mid k (stands_crossed accepts bank.Bmc (story_of w) (story_of mid) (crossed_is accepts bank.Bmc w mid c)) r calm
   pch_up w k (inr (inl (mid, f, r))) calm = pch_last w mid k (stands_faulted accepts bank.Bmc w mid f) r calm
   pch_up w k (inr (inr l)) calm =
       absurd (shows_loss accepts old new bank.Pch l.at l.which
@@ -577,7 +588,7 @@ module _ (accepts : Acceptance) (old new : World) where
       → IsCalm which (added old new) → BringsUp which (now (state_at (device_of which) new)) (now new.nv) accepts (counts_in new) (added old new)
   after_power which start e (inl (mid, c, r)) calm =
       bank_up which mid (record {
-        notes = ap (λ (s : Story). s.notes) c.ran.is ∙ ops_notes (migration_in (fuses_of (image_at device.Nv (story_of start)))) (story_of start) ∙ ap (λ (s : Story). s.notes) e;
+        notes = ap (λ (s : Story). s.notes) c.is ∙ ops_notes (migration_in (fuses_of (image_at device.Nv (story_of start)))) (story_of start) ∙ ap (λ (s : Story). s.notes) e;
         rest = r;
       }) calm
   after_power which start e (inr (inl (mid, f, r))) calm =
@@ -590,7 +601,7 @@ module _ (accepts : Acceptance) (old new : World) where
       (extends_trans old.notes.list start.notes.list l.at.notes.list first (extends_by l.stopped.trace start l.at l.stopped.is)) l.noted calm)
 
 -- A power-on brings each bank up of which no call failed.
-pub Turn-brings_up : (accepts : Acceptance) (e : Event) (old new : World) → Turn accepts e old new → BringsUpCalm e accepts old new
-Turn-brings_up accepts event.Power old new (mid, first, rest) = λ which calm. after_power accepts old new which mid first.is rest calm
-Turn-brings_up accepts event.Off old new t = tt
-Turn-brings_up accepts (event.Provision root) old new t = tt
+pub Turn-brings_up : (accepts : Acceptance) (e : Event) (old new : World) → HaveBytes new → Turn accepts e old new → BringsUpCalm e accepts old new
+Turn-brings_up accepts event.Power old new held (mid, first, rest) = λ which calm. after_power accepts old new held which mid first.is rest calm
+Turn-brings_up accepts event.Off old new held t = tt
+Turn-brings_up accepts (event.Provision root) old new held t = tt

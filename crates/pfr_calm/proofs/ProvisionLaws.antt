@@ -245,7 +245,7 @@ module _ (root : RootSlot) where
 
   through_or_other : (old new : World) → Steps (provision_stretch root ∷ []) old new → WentThrough (story_of old) (story_of new) ⊎ AddsOther (story_of old) (story_of new)
   through_or_other old new (inl (mid, c, e)) =
-      subst (λ (s : Story). WentThrough (story_of old) s ⊎ AddsOther (story_of old) s) (sym e.is) (crossed_by (judged_here root (story_of old)) old mid refl c.ran)
+      subst (λ (s : Story). WentThrough (story_of old) s ⊎ AddsOther (story_of old) s) (sym e.is) (crossed_by (judged_here root (story_of old)) old mid refl c)
   through_or_other old new (inr (inl (mid, f, e))) =
       subst (λ (s : Story). WentThrough (story_of old) s ⊎ AddsOther (story_of old) s) (sym e.is)
       (then_says (Says (what.Locked bank.Bmc why.StoreFault) ∷ Says (what.Locked bank.Pch why.StoreFault) ∷ []) old f.at mid locks_other f.noted
@@ -272,7 +272,7 @@ module _ (root : RootSlot) where
   backed : (old new : World) → Steps (provision_stretch root ∷ []) old new → AddsOnly (IsBacked (judged_here root (story_of old))) (story_of old) (story_of new)
   backed old new (inl (mid, c, e)) =
       let r = judged_here root (story_of old) in
-      subst (λ (s : Story). AddsOnly (IsBacked r) (story_of old) s) (sym e.is) (backed_ran r (provisioned_in root r) old mid (plan_backed r) c.ran)
+      subst (λ (s : Story). AddsOnly (IsBacked r) (story_of old) s) (sym e.is) (backed_ran r (provisioned_in root r) old mid (plan_backed r) c)
   backed old new (inr (inl (mid, f, e))) =
       let r = judged_here root (story_of old) in
       subst (λ (s : Story). AddsOnly (IsBacked r) (story_of old) s) (sym e.is)
@@ -344,7 +344,7 @@ module _ (root : RootSlot) where
         → IsNoted (added old new) (outcome_of (sizes_judged root old))
     judged_noted mid e (inl (end, c, r)) calm =
         subst (λ (j : Result ℕ FuseFail). IsNoted (added old new) (outcome_of j)) (ap (λ (s : Story). judged_here root s) e)
-        (crossing_notes (judged_here root (story_of mid)) mid end e c.ran r.is)
+        (crossing_notes (judged_here root (story_of mid)) mid end e c r.is)
     judged_noted mid e (inr (inl (end, l, r))) calm = absurd (no_calm_fault mid end l e r.is calm)
     judged_noted mid e (inr (inr l)) calm = absurd (no_calm_loss mid l e calm)
 

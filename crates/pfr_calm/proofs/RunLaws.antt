@@ -1,5 +1,5 @@
 -- Laws of whole runs.
-use Rattle.std.proofs.Common.{◌≡◌, ◌∙◌, ℕ, ◌+◌, ◌≤◌, ◌<◌, drop, take, length, refl, sym, ap, subst, arith, ◌&&◌, true, cond, List, [], ◌∷◌, ◌++◌, Some, Result, Ok, Err, ◌⊎◌, inl, inr}
+use Rattle.std.proofs.Common.{◌≡◌, ◌∙◌, ℕ, ◌+◌, ◌≤◌, ◌<◌, drop, take, length, refl, sym, ap, subst, arith, ◌&&◌, Bool, true, false, cond, List, [], ◌∷◌, ◌++◌, Some, Result, Ok, Err, ◌⊎◌, inl, inr}
 use Rattle.std.specs.Prelude.{slice_index_or}
 use Rattle.std.proofs.lemmas.List.{take_more, drop_more}
 use Rattle.std.proofs.lemmas.List.Elements.{All-drop}
@@ -37,19 +37,22 @@ use Rattle.pfr_report.specs.declared.note.Note.{Note}
 use Rattle.pfr_report.specs.declared.note.What.{What}
 use Rattle.pfr_report.specs.declared.note.What.TheVariants as what
 use Rattle.pfr_calm.specs.Story.{Story, Move, Says, Does, after, noted, operated, device_of, image_at, all_do}
-use Rattle.pfr_calm.specs.World.{World, story_of, state_at, AllMoved}
-use Rattle.pfr_calm.specs.Goes.{Ran}
+use Rattle.pfr_calm.specs.World.{World, NoneFailed, story_of, state_at, AllMoved}
+use Rattle.pfr_flash.specs.declared.flash.FlashFail.{FlashFail}
+use Rattle.pfr_flash.specs.declared.flash.FlashFail.TheVariants.{Fault, Lost as Loses}
+use Rattle.pfr_calm.specs.Goes.{Ran, Stopped}
 use Rattle.pfr_calm.specs.Plans.{migration_in, migration_by}
-use Rattle.pfr_calm.specs.Course.{Crosses}
+use Rattle.pfr_calm.specs.Course.{Stretch, Crosses, Steps, goes_on_if, lost}
 use Rattle.pfr_calm.specs.Spans.{count_at, ReleasedSpans, opens_from}
-use Rattle.pfr_calm.specs.Turn.{Turn, next_item, fuse_stretch}
+use Rattle.pfr_calm.specs.Turn.{Course, Turn, course, next_item, fuse_stretch}
 use Rattle.pfr_calm.specs.Run.{takes_arm, with_arm, with_arm_at, armed, Did, Reached, CanRun}
 use Rattle.pfr_calm.specs.Promises.{added, IsDue, IsFaultLock, IsTrustedWith, ReleasesTrusted, LocksHaveCauses, FaultsHaveCauses}
 use Rattle.pfr_calm.proofs.Traces.{Traced-keeps, Precedes}
 use Rattle.pfr_calm.proofs.Facts.{Setting, Fact, IsGood, IsLater, IsLater-refl, IsLater-trans}
 use Rattle.pfr_calm.proofs.StretchLaws.{Between, IsLater-moved, MayProvision, works, refused}
-use Rattle.pfr_calm.proofs.StepTraces.{MayTurn, Turn-traced, Known, Known-none, Known-moves}
-use Rattle.pfr_calm.proofs.NoteLaws.{bank_then, store_then, lock_due, past_state, IsLater-next, Turn-moved, Turn-trace}
+use Rattle.pfr_calm.proofs.StepTraces.{MayTurn, Turn-moved, Turn-traced, Known, Known-none, Known-moves}
+use Rattle.pfr_calm.proofs.NoteLaws.{bank_then, store_then, lock_due, past_state, IsLater-next}
+use Rattle.pfr_calm.proofs.Bytes.{HadBytes, HaveBytes}
 use Rattle.pfr_calm.proofs.FuseLaws.{profile_migrated, profile_kept, provisioned_refused}
 use Rattle.pfr_calm.proofs.SpanLaws.{IsSettled, NoneOpen, NotOne, running, Kept, Kept-moves, ReleasedSpans-kept, Runs, Runs-moves}
 
@@ -86,13 +89,30 @@ counts_armed device.Nv w nth tear old device.Bmc = (refl, refl)
 counts_armed device.Nv w nth tear old device.Pch = (refl, refl)
 counts_armed device.Nv w nth tear old device.Nv = arm_counts w nth tear old.nv
 
+-- nor does one let a call fail
+pub failed_armed : (arm : Arm) (tear : List ℕ) (w : World) → NoneFailed w (armed arm tear w)
+failed_armed arm tear w =
+    let each : (which : Device) → (state_at which (armed arm tear w)).faults ≡ (state_at which w).faults = λ which. (counts_armed arm.device arm.what arm.nth tear w which).0 in
+    record { bmc = each device.Bmc; pch = each device.Pch; nv = each device.Nv }
+
+had_armed : (w : ArmWhat) (nth : ℕ) (tear : List ℕ) (d : FlashState) → HadBytes (with_arm w nth tear d) → HadBytes d
+had_armed armed_what.Cut nth tear d h = record { start = h.start; ops = h.ops }
+had_armed armed_what.Fault nth tear d h = record { start = h.start; ops = h.ops }
+had_armed armed_what.ReadFault nth tear d h = record { start = h.start; ops = h.ops }
+
+bytes_armed : (d : Device) (w : ArmWhat) (nth : ℕ) (tear : List ℕ) (old : World) → HaveBytes (next_item (with_arm_at d w nth tear old)) → HaveBytes old
+bytes_armed device.Bmc w nth tear old h = record { bmc = had_armed w nth tear old.bmc h.bmc; pch = h.pch; nv = h.nv }
+bytes_armed device.Pch w nth tear old h = record { bmc = h.bmc; pch = had_armed w nth tear old.pch h.pch; nv = h.nv }
+bytes_armed device.Nv w nth tear old h = record { bmc = h.bmc; pch = h.pch; nv = had_armed w nth tear old.nv h.nv }
+
 IsLater-armed : (arm : Arm) (tear : List ℕ) (w : World) → IsLater w (armed arm tear w)
 IsLater-armed arm tear w = record {
   faults = λ which. let e = (counts_armed arm.device arm.what arm.nth tear w which).0 in omega (arith, e);
   losses = λ which. let e = (counts_armed arm.device arm.what arm.nth tear w which).1 in omega (arith, e);
+  bytes = λ h. bytes_armed arm.device arm.what arm.nth tear w h;
 }
 
-IsLater-did : (accepts : Acceptance) (tears : List (List ℕ)) (i : Item) (old new : World) → Did accepts tears i old new → IsLater old new
+pub IsLater-did : (accepts : Acceptance) (tears : List (List ℕ)) (i : Item) (old new : World) → Did accepts tears i old new → IsLater old new
 IsLater-did accepts tears (item.Event e) old new t = IsLater-trans old (next_item old) new (IsLater-next old) (IsLater-moved (next_item old) new (Turn-moved accepts e old new t))
 IsLater-did accepts tears (item.Arm arm) old new e = subst (λ (w : World). IsLater old w) (sym e) (IsLater-armed arm (slice_index_or tears arm.tear []) old)
 
@@ -102,8 +122,8 @@ Reached-later accepts tears (i ∷ items) old new (mid, d, r) =
     IsLater-trans old mid new (IsLater-did accepts tears i old mid d) (Reached-later accepts tears items mid new r)
 
 -- ---- what holds of a run so far
-pub record IsSafe (accepts : Acceptance) (first last : World) (story : Story) : Type 0 where
-  pub known : Known (running accepts first last) [] story
+pub record IsSafe (accepts : Acceptance) (first last : World) (held : HaveBytes last) (story : Story) : Type 0 where
+  pub known : Known (running accepts first last held) [] story
   pub kept : (which : Bank) → Kept accepts which story
   pub runs : (which : Bank) → Runs which story
   pub size : length story.nv.start ≡ 32768
@@ -119,15 +139,15 @@ known_item s base n story k = record {
   all = λ that m. let f = k.all that m in (f.0, f.1, record { bmc = f.2.bmc; pch = f.2.pch; nv = f.2.nv });
 }
 
-IsSafe-item : (accepts : Acceptance) (first last : World) (n : ℕ) (story : Story) → IsSafe accepts first last story → IsSafe accepts first last (record story { item = n })
-IsSafe-item accepts first last n story p = record {
-  known = known_item (running accepts first last) [] n story p.known;
+IsSafe-item : (accepts : Acceptance) (first last : World) (held : HaveBytes last) (n : ℕ) (story : Story) → IsSafe accepts first last held story → IsSafe accepts first last held (record story { item = n })
+IsSafe-item accepts first last held n story p = record {
+  known = known_item (running accepts first last held) [] n story p.known;
   kept = λ which. kept_item accepts which n story (p.kept which);
   runs = p.runs;
   size = p.size;
 }
 
-module _ (accepts : Acceptance) (first last : World) where
+module _ (accepts : Acceptance) (first last : World) (held : HaveBytes last) where
   -- ---- what a step may do
   by_banks : (P : Type 0) (story : Story) → ((which : Bank) → Runs which story) → (NoneOpen story.notes → P) → (IsSettled (image_at device.Nv story) → P) → P
   by_banks P story runs none settled = elim (runs bank.Bmc) [
@@ -164,11 +184,11 @@ module _ (accepts : Acceptance) (first last : World) where
   fits_then : (old mid : World) → length old.nv.start ≡ 32768 → Crosses fuse_stretch old mid → NotOne (image_at device.Nv (story_of mid))
   fits_then old mid size c =
       let nv = image_at device.Nv (story_of old) in
-      let same : image_at device.Nv (story_of mid) ≡ play nv (migration_in (fuses_of nv)) = ap (λ (t : Story). image_at device.Nv t) c.ran.is ∙ image_ops (migration_in (fuses_of nv)) (story_of old) in
+      let same : image_at device.Nv (story_of mid) ≡ play nv (migration_in (fuses_of nv)) = ap (λ (t : Story). image_at device.Nv t) c.is ∙ image_ops (migration_in (fuses_of nv)) (story_of old) in
       subst NotOne (sym same) (fits_by nv (fuses_of nv) (length-play old.nv.start old.nv.ops ∙ size) refl)
 
   provisions_by : (notes : List Note) (root : RootSlot) (nv : List ℕ) (m n : ℕ) → (NoneOpen notes ⊎ IsSettled nv) → (r : Result ℕ FuseFail) → judge_provision nv root m n ≡ r
-      → MayProvision (running accepts first last) notes r
+      → MayProvision (running accepts first last held) notes r
   unfolding running
   provisions_by notes root nv m n (inl none) (Ok number) e = works none
   provisions_by notes root nv m n (inr q) (Ok number) e =
@@ -177,12 +197,12 @@ module _ (accepts : Acceptance) (first last : World) where
 
   runs_on : (which : Bank) (old mid : World) → Ran (Says (λ _. what.Power) ∷ []) old mid → Runs which (story_of old) → Runs which (story_of mid)
   runs_on which old mid r p =
-      subst (λ (t : Story). Runs which t) (sym r.is) (Runs-moves accepts first last which (Says (λ _. what.Power)) (story_of old) tt p)
+      subst (λ (t : Story). Runs which t) (sym r.is) (Runs-moves accepts first last held which (Says (λ _. what.Power)) (story_of old) tt p)
 
   runs_same : (which : Bank) (old mid : World) → story_of mid ≡ story_of old → Runs which (story_of old) → Runs which (story_of mid)
   runs_same which old mid e p = subst (λ (t : Story). Runs which t) (sym e) p
 
-  may_turn : (e : Event) (old : World) → ((which : Bank) → Runs which (story_of old)) → length old.nv.start ≡ 32768 → MayTurn (running accepts first last) e old
+  may_turn : (e : Event) (old : World) → ((which : Bank) → Runs which (story_of old)) → length old.nv.start ≡ 32768 → MayTurn (running accepts first last held) e old
   unfolding running
   may_turn event.Power old runs size = λ mid r.
       let start : mid.nv.start ≡ old.nv.start = r.moved.nv.start in
@@ -194,32 +214,32 @@ module _ (accepts : Acceptance) (first last : World) where
       (by_banks (NoneOpen mid.notes.list ⊎ IsSettled (image_at device.Nv (story_of mid))) (story_of mid) here (λ none. inl none) (λ q. inr q)) _ refl
 
   -- ---- item by item
-  safe_turn : (e : Event) (old new : World) → IsLater first old → IsLater new last → Turn accepts e old new → IsSafe accepts first last (story_of old) → IsSafe accepts first last (story_of new)
+  safe_turn : (e : Event) (old new : World) → IsLater first old → IsLater new last → Turn accepts e old new → IsSafe accepts first last held (story_of old) → IsSafe accepts first last held (story_of new)
   unfolding running
   safe_turn e old new before behind t p =
-      let q = IsSafe-item accepts first last (old.item + 1) (story_of old) p in
-      let between : Between (running accepts first last) (next_item old) new = record { before = IsLater-trans first old (next_item old) before (IsLater-next old); behind = behind } in
-      let traced = Turn-traced (running accepts first last) e old new between (may_turn e (next_item old) q.runs q.size) t in
+      let q = IsSafe-item accepts first last held (old.item + 1) (story_of old) p in
+      let between : Between (running accepts first last held) (next_item old) new = record { before = IsLater-trans first old (next_item old) before (IsLater-next old); behind = behind } in
+      let traced = Turn-traced (running accepts first last held) e old new between (may_turn e (next_item old) q.runs q.size) t in
       record {
-        known = Traced-keeps (IsGood (running accepts first last)) (Known (running accepts first last) []) (Known-moves (running accepts first last) []) (next_item old) new traced q.known;
-        kept = λ which. Traced-keeps (IsGood (running accepts first last)) (Kept accepts which) (Kept-moves accepts first last which) (next_item old) new traced (q.kept which);
-        runs = λ which. Traced-keeps (IsGood (running accepts first last)) (Runs which) (Runs-moves accepts first last which) (next_item old) new traced (q.runs which);
+        known = Traced-keeps (IsGood (running accepts first last held)) (Known (running accepts first last held) []) (Known-moves (running accepts first last held) []) (next_item old) new traced q.known;
+        kept = λ which. Traced-keeps (IsGood (running accepts first last held)) (Kept accepts which) (Kept-moves accepts first last held which) (next_item old) new traced (q.kept which);
+        runs = λ which. Traced-keeps (IsGood (running accepts first last held)) (Runs which) (Runs-moves accepts first last held which) (next_item old) new traced (q.runs which);
         size = ap (λ (xs : List ℕ). length xs) traced.moved.nv.start ∙ q.size;
       }
 
-  safe_armed : (arm : Arm) (tear : List ℕ) (old : World) → IsSafe accepts first last (story_of old) → IsSafe accepts first last (story_of (armed arm tear old))
+  safe_armed : (arm : Arm) (tear : List ℕ) (old : World) → IsSafe accepts first last held (story_of old) → IsSafe accepts first last held (story_of (armed arm tear old))
   safe_armed arm tear old p =
-      subst (λ (t : Story). IsSafe accepts first last t) (sym (armed_story arm tear old)) (IsSafe-item accepts first last (old.item + 1) (story_of old) p)
+      subst (λ (t : Story). IsSafe accepts first last held t) (sym (armed_story arm tear old)) (IsSafe-item accepts first last held (old.item + 1) (story_of old) p)
 
   safe_did : (tears : List (List ℕ)) (i : Item) (old new : World) → IsLater first old → IsLater new last → Did accepts tears i old new
-      → IsSafe accepts first last (story_of old) → IsSafe accepts first last (story_of new)
+      → IsSafe accepts first last held (story_of old) → IsSafe accepts first last held (story_of new)
   safe_did tears (item.Event e) old new before behind t p = safe_turn e old new before behind t p
   safe_did tears (item.Arm arm) old new before behind e p =
-      subst (λ (w : World). IsSafe accepts first last (story_of w)) (sym e) (safe_armed arm (slice_index_or tears arm.tear []) old p)
+      subst (λ (w : World). IsSafe accepts first last held (story_of w)) (sym e) (safe_armed arm (slice_index_or tears arm.tear []) old p)
 
   safe_reached : (tears : List (List ℕ)) (items : List Item) (old new : World) → IsLater first old → IsLater new last → Reached (Did accepts tears) items old new
-      → IsSafe accepts first last (story_of old) → IsSafe accepts first last (story_of new)
-  safe_reached tears [] old new before behind r p = subst (λ (w : World). IsSafe accepts first last (story_of w)) (sym r) p
+      → IsSafe accepts first last held (story_of old) → IsSafe accepts first last held (story_of new)
+  safe_reached tears [] old new before behind r p = subst (λ (w : World). IsSafe accepts first last held (story_of w)) (sym r) p
   safe_reached tears (i ∷ items) old new before behind (mid, d, r) p =
       safe_reached tears items mid new (IsLater-trans first old mid before (IsLater-did accepts tears i old mid d)) behind r
       (safe_did tears i old mid before (IsLater-trans mid new last (Reached-later accepts tears items mid new r) behind) d p)
@@ -234,23 +254,23 @@ kept_first : (accepts : Acceptance) (which : Bank) (story : Story) → story.not
 kept_first accepts bank.Bmc story e = rw e (record { closed_are = tt; open_are = tt })
 kept_first accepts bank.Pch story e = rw e (record { closed_are = tt; open_are = tt })
 
-first_safe : (accepts : Acceptance) (first last : World) (w : World) → IsFresh w → IsSafe accepts first last (story_of w)
-first_safe accepts first last w f = record {
-  known = subst (λ (base : List Note). Known (running accepts first last) base (story_of w)) f.notes (Known-none (running accepts first last) (story_of w));
+first_safe : (accepts : Acceptance) (first last : World) (held : HaveBytes last) (w : World) → IsFresh w → IsSafe accepts first last held (story_of w)
+first_safe accepts first last held w f = record {
+  known = subst (λ (base : List Note). Known (running accepts first last held) base (story_of w)) f.notes (Known-none (running accepts first last held) (story_of w));
   kept = λ which. kept_first accepts which (story_of w) f.notes;
   runs = λ which. inl (ap (λ (notes : List Note). opens_from which [] notes) f.notes);
   size = f.size;
 }
 
-module _ (accepts : Acceptance) (tears : List (List ℕ)) (items : List Item) (start end : World) (fresh : IsFresh start) (run : Reached (Did accepts tears) items start end) where
-  run_safe : IsSafe accepts start end (story_of end)
-  run_safe = safe_reached accepts start end tears items start end (IsLater-refl start) (IsLater-refl end) run (first_safe accepts start end start fresh)
+module _ (accepts : Acceptance) (tears : List (List ℕ)) (items : List Item) (start end : World) (fresh : IsFresh start) (run : Reached (Did accepts tears) items start end) (held : HaveBytes end) where
+  run_safe : IsSafe accepts start end held (story_of end)
+  run_safe = safe_reached accepts start end held tears items start end (IsLater-refl start) (IsLater-refl end) run (first_safe accepts start end held start fresh)
 
   -- Throughout the spans in which a bank stands released it was trusted, and nothing that this reads was touched.
   pub Reached-spans : (which : Bank) → ReleasedSpans accepts which (story_of end)
   Reached-spans which = ReleasedSpans-kept accepts which (story_of end) (run_safe.kept which)
 
-  run_known : (that : What) → IsNoted end.notes.list that → (at : Story) × Fact (running accepts start end) that at × Precedes at (story_of end)
+  run_known : (that : What) → IsNoted end.notes.list that → (at : Story) × Fact (running accepts start end held) that at × Precedes at (story_of end)
   run_known that n = let k = run_safe.known in k.all that (subst (λ (notes : List Note). IsNoted notes that) k.is n)
 
   -- A bank was released only where it was trusted.
@@ -273,7 +293,7 @@ module _ (accepts : Acceptance) (tears : List (List ℕ)) (items : List Item) (s
       let mine : state_upto (state_at (device_of which) end) (count_at which at) ≡ image_at (device_of which) k.0 =
       past_state which end (count_at which at) ∙ bank_then which k.0 (story_of end) at k.1.0 k.2 in
       let nv : state_upto end.nv at.nv ≡ image_at device.Nv k.0 = store_then k.0 (story_of end) at k.1.0 k.2 in
-      rw (mine, nv) (lock_due (running accepts start end) cause which k.0 no_fault k.1.1)
+      rw (mine, nv) (lock_due (running accepts start end held) cause which k.0 no_fault k.1.1)
 
   -- A bank was locked for a fault only where a count of faults rose.
   pub Reached-flash_faults : (which : Bank) (at : Counts) → IsNoted end.notes.list (what.Locked which why.FlashFault at)
@@ -324,11 +344,12 @@ pub Reached-keeps : (did : Item → World → World → Type 0) (P : World → T
 Reached-keeps did P keeps [] old new r p = subst P (sym r) p
 Reached-keeps did P keeps (i ∷ items) old new (mid, d, r) p = Reached-keeps did P keeps items mid new r (keeps i old mid d p)
 
--- what holds of each item besides
-pub Reached-with : (did Q : Item → World → World → Type 0) → ((i : Item) (a b : World) → did i a b → Q i a b)
-    → (items : List Item) (old new : World) → Reached did items old new → Reached (λ i a b. did i a b × Q i a b) items old new
-Reached-with did Q holds [] old new r = r
-Reached-with did Q holds (i ∷ items) old new (mid, d, r) = (mid, (d, holds i old mid d), Reached-with did Q holds items mid new r)
+-- what holds of each item besides, where the devices hold bytes
+pub Reached-with : (accepts : Acceptance) (tears : List (List ℕ)) (Q : Item → World → World → Type 0) → ((i : Item) (a b : World) → HaveBytes b → Did accepts tears i a b → Q i a b)
+    → (items : List Item) (old new : World) → HaveBytes new → Reached (Did accepts tears) items old new → Reached (λ i a b. Did accepts tears i a b × Q i a b) items old new
+Reached-with accepts tears Q holds [] old new held r = r
+Reached-with accepts tears Q holds (i ∷ items) old new held (mid, d, r) =
+    (mid, (d, holds i old mid ((Reached-later accepts tears items mid new r).bytes held) d), Reached-with accepts tears Q holds items mid new held r)
 
 -- ---- what is left can be done
 with_arm_arms : (w : ArmWhat) (nth : ℕ) (tear : List ℕ) (d : FlashState) (n : ℕ) → cond (is_counted w) 1 0 + n ≤ d.arms → n ≤ (with_arm w nth tear d).arms
@@ -369,9 +390,29 @@ after_item (Does device.Bmc op ∷ trace) story = after_item trace (operated dev
 after_item (Does device.Pch op ∷ trace) story = after_item trace (operated device.Pch op story)
 after_item (Does device.Nv op ∷ trace) story = after_item trace (operated device.Nv op story)
 
+ran_item : (moves : List Move) (old new : World) → Ran moves old new → new.item ≡ old.item
+ran_item moves old new p = ap (λ (s : Story). s.item) p.is ∙ after_item moves (story_of old)
+
+stopped_item : (moves : List Move) (which : Device) (fail : FlashFail) (old new : World) → Stopped moves which fail old new → new.item ≡ old.item
+stopped_item moves which fail old new p = ap (λ (s : Story). s.item) p.is ∙ after_item p.trace (story_of old)
+
+on_item : (on : Bool) (steps : World → World → Type 0) (mid new : World) → (steps mid new → new.item ≡ mid.item) → goes_on_if on steps mid new → new.item ≡ mid.item
+on_item true steps mid new f r = f r
+on_item false steps mid new f r = ran_item [] mid new r
+
+steps_item : (ss : List Stretch) (old new : World) → Steps ss old new → new.item ≡ old.item
+steps_item [] old new p = ran_item [] old new p
+steps_item (s ∷ ss) old new (inl (mid, c, rest)) = steps_item ss mid new rest ∙ ran_item (s.plan (story_of old)) old mid c
+steps_item (s ∷ ss) old new (inr (inl (mid, f, rest))) =
+    on_item s.goes_on (Steps ss) mid new (λ r. steps_item ss mid new r) rest ∙ ran_item (s.on_fault f.which) f.at mid f.noted
+    ∙ stopped_item (s.plan (story_of old)) f.which Fault old f.at f.stopped
+steps_item (s ∷ ss) old new (inr (inr l)) = ran_item (lost l.which) l.at new l.noted ∙ stopped_item (s.plan (story_of old)) l.which Loses old l.at l.stopped
+
 module _ (accepts : Acceptance) where
   pub Turn-item : (e : Event) (old new : World) → Turn accepts e old new → new.item ≡ old.item + 1
-  Turn-item e old new t = let traced = Turn-trace accepts e old new t in ap (λ (s : Story). s.item) traced.1 ∙ after_item traced.0 (story_of (next_item old))
+  Turn-item e old new (mid, first, rest) =
+      let c : Course = course accepts e (story_of old) in
+      steps_item c.stretches mid new rest ∙ ran_item c.first (next_item old) mid first
 
   pub CanRun-did : (tears : List (List ℕ)) (n : ℕ) (i : Item) (items : List Item) (old new : World) → CanRun n (i ∷ items) old → Did accepts tears i old new → CanRun n items new
   CanRun-did tears n (item.Event e) items old new p t = record {

@@ -11,7 +11,7 @@ use Rattle.pfr_flash.proofs.MovedLemmas.{Moved-refl, Moved-trans}
 use Rattle.pfr_flash.proofs.StateLemmas.{Moved-power}
 use Rattle.pfr_report.specs.declared.note.What.{What}
 use Rattle.pfr_calm.specs.Story.{Story, Move, Says, Plan, after, moved_by, then, counts_of, IsCut}
-use Rattle.pfr_calm.specs.World.{World, story_of, state_at, AllMoved, NoneLost, LostAt, Caused}
+use Rattle.pfr_calm.specs.World.{World, story_of, state_at, AllMoved, NoneFailed, NoneLost, LostAt, Caused}
 use Rattle.pfr_calm.specs.Goes.{Ran, Stopped, Goes}
 use Rattle.pfr_calm.specs.declared.stop.Stop.{Stop}
 
@@ -45,6 +45,12 @@ pub NoneLost-at : (which : Device) (a b : World) → NoneLost a b → (state_at 
 NoneLost-at device.Bmc a b p = p.bmc
 NoneLost-at device.Pch a b p = p.pch
 NoneLost-at device.Nv a b p = p.nv
+
+pub NoneFailed-refl : (w : World) → NoneFailed w w
+NoneFailed-refl w = record { bmc = refl; pch = refl; nv = refl }
+
+pub NoneFailed-trans : (a b c : World) → NoneFailed a b → NoneFailed b c → NoneFailed a c
+NoneFailed-trans a b c p q = record { bmc = q.bmc ∙ p.bmc; pch = q.pch ∙ p.pch; nv = q.nv ∙ p.nv }
 
 -- ---- why a call failed
 pub Rose-later : (a b c : ℕ) → a ≤ b → Rose b c → Rose a c
@@ -116,11 +122,8 @@ IsCut-second which moves more story trace cut = record {
 }
 
 -- ---- small pieces of work
-pub Ran-nothing : (old new : World) → story_of new ≡ story_of old → AllMoved old new → NoneLost old new → Ran [] old new
-Ran-nothing old new e m n = record { is = e; moved = m; none_lost = n }
-
 pub Ran-refl : (w : World) → Ran [] w w
-Ran-refl w = record { is = refl; moved = AllMoved-refl w; none_lost = NoneLost-refl w }
+Ran-refl w = record { is = refl; moved = AllMoved-refl w; none_lost = NoneLost-refl w; none_failed = NoneFailed-refl w }
 
 -- something is noted, and nothing else changes
 pub Ran-says : (what : Counts → What) (old new : World)
@@ -138,6 +141,11 @@ Ran-says what old new b p n i l = record {
     bmc = ap (λ (d : FlashState). d.losses) b;
     pch = ap (λ (d : FlashState). d.losses) p;
     nv = ap (λ (d : FlashState). d.losses) n;
+  };
+  none_failed = record {
+    bmc = ap (λ (d : FlashState). d.faults) b;
+    pch = ap (λ (d : FlashState). d.faults) p;
+    nv = ap (λ (d : FlashState). d.faults) n;
   };
 }
 
@@ -157,6 +165,11 @@ Ran-power bmc pch nv old new b p n i l = record {
     pch = ap (λ (d : FlashState). d.losses) p;
     nv = ap (λ (d : FlashState). d.losses) n;
   };
+  none_failed = record {
+    bmc = ap (λ (d : FlashState). d.faults) b;
+    pch = ap (λ (d : FlashState). d.faults) p;
+    nv = ap (λ (d : FlashState). d.faults) n;
+  };
 }
 
 -- ---- one list of moves, and then another
@@ -165,6 +178,7 @@ Ran-append first second old mid new p q = record {
   is = q.is ∙ ap (λ (s : Story). after second s) p.is ∙ sym (after-append first second (story_of old));
   moved = AllMoved-trans old mid new p.moved q.moved;
   none_lost = NoneLost-trans old mid new p.none_lost q.none_lost;
+  none_failed = NoneFailed-trans old mid new p.none_failed q.none_failed;
 }
 
 pub Ran-then : (a b : Plan) (old mid new : World)

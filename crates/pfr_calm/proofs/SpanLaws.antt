@@ -23,7 +23,9 @@ use Rattle.pfr_report.specs.declared.note.What.TheVariants as what
 use Rattle.pfr_calm.specs.Story.{Past, Story, Says, Does, counts_of, past_at, device_of, with_op, operated, noted, image_at}
 use Rattle.pfr_calm.specs.World.{World}
 use Rattle.pfr_calm.specs.Standing.{same_bank}
-use Rattle.pfr_calm.specs.Spans.{opens_after, closes, ended, opens_from, ended_from, upto, count_at, IsSpan, AllSpans, ReleasedSpans}
+use Rattle.pfr_calm.proofs.Bytes.{HaveBytes}
+use Rattle.pfr_calm.proofs.NoteLaws.{past_upto}
+use Rattle.pfr_calm.specs.Spans.{opens_after, closes, ended, opens_from, ended_from, count_at, IsSpan, AllSpans, ReleasedSpans}
 use Rattle.pfr_calm.proofs.Traces.{Keeps}
 use Rattle.pfr_calm.proofs.Facts.{Setting, Fact, IsGood}
 
@@ -40,8 +42,8 @@ NoneOpen notes = (which : Bank) → opens_from which [] notes ≡ []
 abbrev pub NotOne : List ℕ → Type 0
 NotOne nv = (fuses : FusesState) → fuses_of nv ≡ Ok fuses → fuses.profile ≡ Two
 
-unfoldable pub running : Acceptance → World → World → Setting
-running accepts first last = record { accepts = accepts; first = first; last = last; Fits = NotOne; Works = NoneOpen; IsSwitched = Unit {0} }
+unfoldable pub running : Acceptance → (first last : World) → HaveBytes last → Setting
+running accepts first last held = record { accepts = accepts; first = first; last = last; Fits = NotOne; Works = NoneOpen; IsSwitched = Unit {0}; held = held }
 
 module _ (accepts : Acceptance) where
   -- what a span says of the bytes where it begins, and of the operations in it
@@ -53,7 +55,7 @@ module _ (accepts : Acceptance) where
   -- what is so is a span: the trust lasts throughout
   lasting : (which : Bank) (mine nv : Past) (begin end : Counts) → count_at which begin ≤ count_at which end → begin.nv ≤ end.nv
       → count_at which end ≤ length mine.ops → end.nv ≤ length nv.ops
-      → Lasts which (upto mine (count_at which begin)) (upto nv begin.nv) (between (count_at which begin) (count_at which end) mine.ops) (between begin.nv end.nv nv.ops)
+      → Lasts which (past_upto mine (count_at which begin)) (past_upto nv begin.nv) (between (count_at which begin) (count_at which end) mine.ops) (between begin.nv end.nv nv.ops)
       → IsSpan accepts which mine nv begin end
   lasting which mine nv begin end forth forth_store done done_store is = record {
     forth = forth;
@@ -82,14 +84,14 @@ module _ (accepts : Acceptance) where
         sym (take-take begin.nv end.nv later.ops p.forth_store)
         ∙ ap (λ (ops : List Operation). take begin.nv ops) f
         ∙ take-take begin.nv end.nv nv.ops p.forth_store in
-        let u : upto more (count_at which begin) ≡ upto mine (count_at which begin) =
+        let u : past_upto more (count_at which begin) ≡ past_upto mine (count_at which begin) =
         ap (λ (xs : List ℕ). play xs (take (count_at which begin) more.ops)) s ∙ ap (λ (ops : List Operation). play mine.start ops) b in
-        let v : upto later begin.nv ≡ upto nv begin.nv =
+        let v : past_upto later begin.nv ≡ past_upto nv begin.nv =
         ap (λ (xs : List ℕ). play xs (take begin.nv later.ops)) t ∙ ap (λ (ops : List Operation). play nv.start ops) c in
         let x : between (count_at which begin) (count_at which end) more.ops ≡ between (count_at which begin) (count_at which end) mine.ops =
         ap (λ (ops : List Operation). drop (count_at which begin) ops) e in
         let y : between begin.nv end.nv later.ops ≡ between begin.nv end.nv nv.ops = ap (λ (ops : List Operation). drop begin.nv ops) f in
-        let was : Lasts which (upto mine (count_at which begin)) (upto nv begin.nv) (between (count_at which begin) (count_at which end) mine.ops) (between begin.nv end.nv nv.ops) =
+        let was : Lasts which (past_upto mine (count_at which begin)) (past_upto nv begin.nv) (between (count_at which begin) (count_at which end) mine.ops) (between begin.nv end.nv nv.ops) =
         record { trusted = p.trusted; image_left = p.image; store_left = p.store } in
         lasting which more later begin end p.forth p.forth_store (omega (arith, p.done, m)) (omega (arith, p.done_store, n)) (rw (u, v, x, y) was)
 
@@ -245,10 +247,10 @@ module _ (s : Setting) where
       rw (says_same which story (story.notes ++ note ∷ [])) (says_at which story note q)
 
 -- Each good move of a run keeps the spans.
-pub Kept-moves : (accepts : Acceptance) (first last : World) (which : Bank) → Keeps (IsGood (running accepts first last)) (Kept accepts which)
+pub Kept-moves : (accepts : Acceptance) (first last : World) (held : HaveBytes last) (which : Bank) → Keeps (IsGood (running accepts first last held)) (Kept accepts which)
 unfolding running
-Kept-moves accepts first last which (Says w) story g p = says_kept (running accepts first last) which w story g p
-Kept-moves accepts first last which (Does device op) story g p = operated_kept (running accepts first last) which device op story (g which) p
+Kept-moves accepts first last held which (Says w) story g p = says_kept (running accepts first last held) which w story g p
+Kept-moves accepts first last held which (Does device op) story g p = operated_kept (running accepts first last held) which device op story (g which) p
 
 pub ReleasedSpans-kept : (accepts : Acceptance) (which : Bank) (story : Story) → Kept accepts which story → ReleasedSpans accepts which story
 ReleasedSpans-kept accepts which story p =
@@ -262,25 +264,25 @@ same_or_not : (same : Bool) (opens : List Counts) (nv : List ℕ) → (opens ≡
 same_or_not true opens nv p = inl refl
 same_or_not false opens nv p = p
 
-noted_runs : (accepts : Acceptance) (first last : World) (which : Bank) (w : What) (story : Story) (opens : List Counts) → Fact (running accepts first last) w story
+noted_runs : (accepts : Acceptance) (first last : World) (held : HaveBytes last) (which : Bank) (w : What) (story : Story) (opens : List Counts) → Fact (running accepts first last held) w story
     → (opens ≡ []) ⊎ IsSettled (image_at device.Nv story) → (opens_after which w opens ≡ []) ⊎ IsSettled (image_at device.Nv story)
 unfolding running
-noted_runs accepts first last which (what.Held b counts) story opens t p = same_or_not (same_bank which b) opens (image_at device.Nv story) p
-noted_runs accepts first last which (what.Locked b cause counts) story opens t p = same_or_not (same_bank which b) opens (image_at device.Nv story) p
-noted_runs accepts first last which (what.Lost device counts) story opens t p = inl refl
-noted_runs accepts first last which (what.Released b svn counts) story opens t p =
+noted_runs accepts first last held which (what.Held b counts) story opens t p = same_or_not (same_bank which b) opens (image_at device.Nv story) p
+noted_runs accepts first last held which (what.Locked b cause counts) story opens t p = same_or_not (same_bank which b) opens (image_at device.Nv story) p
+noted_runs accepts first last held which (what.Lost device counts) story opens t p = inl refl
+noted_runs accepts first last held which (what.Released b svn counts) story opens t p =
     let k : IsTrusted (image_at (device_of b) story) (image_at device.Nv story) b accepts = t.1.0 in
     inr (record { fuses = k.fuses; provisioned = k.provisioned; two = t.2 k.fuses k.provisioned })
-noted_runs accepts first last which _ story opens t p = p
+noted_runs accepts first last held which _ story opens t p = p
 
 notes_same : (device : Device) (op : Operation) (story : Story) → (operated device op story).notes ≡ story.notes
 notes_same device.Bmc op story = refl
 notes_same device.Pch op story = refl
 notes_same device.Nv op story = refl
 
-pub Runs-moves : (accepts : Acceptance) (first last : World) (which : Bank) → Keeps (IsGood (running accepts first last)) (Runs which)
+pub Runs-moves : (accepts : Acceptance) (first last : World) (held : HaveBytes last) (which : Bank) → Keeps (IsGood (running accepts first last held)) (Runs which)
 unfolding running
-Runs-moves accepts first last which (Says w) story g p =
+Runs-moves accepts first last held which (Says w) story g p =
     let note : Note = record { item = story.item; what = w (counts_of story) } in
-    rw (opens_push accepts which [] story.notes note) (noted_runs accepts first last which (w (counts_of story)) story (opens_from which [] story.notes) g p)
-Runs-moves accepts first last which (Does device op) story g p = inl (ap (λ (notes : List Note). opens_from which [] notes) (notes_same device op story) ∙ g which)
+    rw (opens_push accepts which [] story.notes note) (noted_runs accepts first last held which (w (counts_of story)) story (opens_from which [] story.notes) g p)
+Runs-moves accepts first last held which (Does device op) story g p = inl (ap (λ (notes : List Note). opens_from which [] notes) (notes_same device op story) ∙ g which)

@@ -17,9 +17,10 @@ use Rattle.pfr_report.specs.declared.note.What.TheVariants as what
 use Rattle.pfr_calm.specs.Story.{Story, Move, Says, Does, moved_by, noted, operated, counts_of, image_at}
 use Rattle.pfr_calm.specs.World.{World, story_of, AllMoved}
 use Rattle.pfr_calm.specs.Goes.{Ran}
+use Rattle.pfr_engine.specs.Acceptance.{Acceptance}
 use Rattle.pfr_calm.specs.Course.{Stretch, Crosses, Faults, LosesPower, Ends, goes_on_if, Steps}
 use Rattle.pfr_calm.specs.Standing.{standing_of, is_off}
-use Rattle.pfr_calm.specs.Turn.{bank_stretch, fuse_stretch, provision_stretch, bank_stretches, power_stretches, off_course, ignored, provision_course, where_off, Follows, next_item, Turn}
+use Rattle.pfr_calm.specs.Turn.{bank_stretch, fuse_stretch, provision_stretch, bank_stretches, power_stretches, off_course, ignored, provision_course, where_off, Course, Follows, course, next_item, Turn}
 use Rattle.pfr_calm.specs.Promises.{added}
 use Rattle.pfr_calm.proofs.Sequence.{AllMoved-trans}
 use Rattle.pfr_calm.proofs.Traces.{Keeps, Traced, Traced-then, Traced-ran, Traced-keeps, Precedes, Precedes-refl, Precedes-move}
@@ -40,10 +41,17 @@ moved_on false steps mid new f r = r.moved
 
 pub Steps-moved : (ss : List Stretch) (old new : World) → Steps ss old new → AllMoved old new
 Steps-moved [] old new p = p.moved
-Steps-moved (s ∷ ss) old new (inl (mid, c, rest)) = AllMoved-trans old mid new c.ran.moved (Steps-moved ss mid new rest)
+Steps-moved (s ∷ ss) old new (inl (mid, c, rest)) = AllMoved-trans old mid new c.moved (Steps-moved ss mid new rest)
 Steps-moved (s ∷ ss) old new (inr (inl (mid, f, rest))) =
     AllMoved-trans old mid new (Faults-moved s old mid f) (moved_on s.goes_on (Steps ss) mid new (λ r. Steps-moved ss mid new r) rest)
 Steps-moved (s ∷ ss) old new (inr (inr l)) = Loses-moved s old new l
+
+-- what a step does to the devices
+moved_along : (c : Course) (old new : World) → Follows c old new → AllMoved old new
+moved_along c old new (mid, first, rest) = AllMoved-trans old mid new first.moved (Steps-moved c.stretches mid new rest)
+
+pub Turn-moved : (accepts : Acceptance) (e : Event) (old new : World) → Turn accepts e old new → AllMoved (next_item old) new
+Turn-moved accepts e old new t = moved_along (course accepts e (story_of old)) (next_item old) new t
 
 -- ---- a power-on
 module _ (s : Setting) where
@@ -52,7 +60,7 @@ module _ (s : Setting) where
 
   pch_traced : (old new : World) → Between s old new → s.Fits (image_at device.Nv (story_of old)) → Steps (bank_stretch s.accepts bank.Pch ∷ []) old new → Traced (IsGood s) old new
   pch_traced old new within fits (inl (mid, c, rest)) =
-      Traced-then (IsGood s) old mid new (bank_crossed s bank.Pch old mid fits c).traced (ended mid new rest)
+      Traced-then (IsGood s) old mid new (bank_crossed s bank.Pch old mid (between_front s old mid new rest.moved within) fits c).traced (ended mid new rest)
   pch_traced old new within fits (inr (inl (mid, f, rest))) =
       Traced-then (IsGood s) old mid new (bank_faulted s bank.Pch old mid (between_front s old mid new rest.moved within) f).traced (ended mid new rest)
   pch_traced old new within fits (inr (inr l)) = bank_lost s bank.Pch old new within l
@@ -62,7 +70,7 @@ module _ (s : Setting) where
 
   banks_traced : (old new : World) → Between s old new → s.Fits (image_at device.Nv (story_of old)) → Steps (bank_stretches s.accepts) old new → Traced (IsGood s) old new
   banks_traced old new within fits (inl (mid, c, rest)) =
-      let first = bank_crossed s bank.Bmc old mid fits c in
+      let first = bank_crossed s bank.Bmc old mid (between_front s old mid new (Steps-moved (bank_stretch s.accepts bank.Pch ∷ []) mid new rest) within) fits c in
       Traced-then (IsGood s) old mid new first.traced
       (pch_traced mid new (between_back s old mid new first.traced.moved within) (fits_on old mid first.store fits) rest)
   banks_traced old new within fits (inr (inl (mid, f, rest))) =
@@ -78,7 +86,7 @@ module _ (s : Setting) where
   power_traced : (old new : World) → Between s old new → MayMigrate s (story_of old) → FitsThen old → Steps (power_stretches s.accepts) old new → Traced (IsGood s) old new
   power_traced old new within may fits (inl (mid, c, rest)) =
       Traced-then (IsGood s) old mid new (fuses_crossed s old mid may c)
-      (banks_traced mid new (between_back s old mid new c.ran.moved within) (fits mid c) rest)
+      (banks_traced mid new (between_back s old mid new c.moved within) (fits mid c) rest)
   power_traced old new within may fits (inr (inl (mid, f, rest))) =
       Traced-then (IsGood s) old mid new (fuses_faulted s old mid (between_front s old mid new rest.moved within) may f) (ended mid new rest)
   power_traced old new within may fits (inr (inr l)) = fuses_lost s old new within may l

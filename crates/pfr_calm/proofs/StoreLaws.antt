@@ -179,7 +179,7 @@ same_on false steps mid new f r = ap (λ (s : Story). s.nv) r.is
 
 steps_same : (ss : List Stretch) (old new : World) → AllOnlySay ss → Steps ss old new → (story_of new).nv ≡ (story_of old).nv
 steps_same [] old new says p = ap (λ (s : Story). s.nv) p.is
-steps_same (s ∷ ss) old new says (inl (mid, c, r)) = steps_same ss mid new says.1 r ∙ said_ran (s.plan (story_of old)) old mid (says.0.plan (story_of old)) c.ran
+steps_same (s ∷ ss) old new says (inl (mid, c, r)) = steps_same ss mid new says.1 r ∙ said_ran (s.plan (story_of old)) old mid (says.0.plan (story_of old)) c
 steps_same (s ∷ ss) old new says (inr (inl (mid, f, r))) =
     same_on s.goes_on (Steps ss) mid new (λ t. steps_same ss mid new says.1 t) r
     ∙ said_ran (s.on_fault f.which) f.at mid (says.0.fault f.which) f.noted
@@ -204,7 +204,7 @@ store_plan (event.Provision root) story = operations_in root (judged_here root s
 power_stored : (accepts : Acceptance) (old new : World) → Steps (power_stretches accepts) old new → Stored (store_plan event.Power (story_of old)) (story_of old) (story_of new)
 power_stored accepts old new (inl (mid, c, r)) =
     let plan = migration_in (fuses_of (image_at device.Nv (story_of old))) in
-    let first : Stored plan (story_of old) (story_of mid) = stored_ran plan [] old mid tt (rw (append-nil (all_do device.Nv plan)) c.ran) in
+    let first : Stored plan (story_of old) (story_of mid) = stored_ran plan [] old mid tt (rw (append-nil (all_do device.Nv plan)) c) in
     Stored-then plan (story_of old) (story_of mid) (story_of new) first (steps_same (bank_stretches accepts) mid new (bank_says accepts bank.Bmc, (bank_says accepts bank.Pch, tt)) r)
 power_stored accepts old new (inr (inl (mid, f, r))) =
     let plan = migration_in (fuses_of (image_at device.Nv (story_of old))) in
@@ -233,7 +233,7 @@ provision_is root (Err cause) = refl
 provision_stored : (root : RootSlot) (old new : World) → Steps (provision_stretch root ∷ []) old new → Stored (store_plan (event.Provision root) (story_of old)) (story_of old) (story_of new)
 provision_stored root old new (inl (mid, c, r)) =
     let j = judged_here root (story_of old) in
-    let first = stored_ran (operations_in root j) (tail_of j) old mid (tail_says j) (subst (λ (ms : List Move). Ran ms old mid) (provision_is root j) c.ran) in
+    let first = stored_ran (operations_in root j) (tail_of j) old mid (tail_says j) (subst (λ (ms : List Move). Ran ms old mid) (provision_is root j) c) in
     Stored-then (operations_in root j) (story_of old) (story_of mid) (story_of new) first (ap (λ (s : Story). s.nv) r.is)
 provision_stored root old new (inr (inl (mid, f, r))) =
     let j = judged_here root (story_of old) in

@@ -20,6 +20,7 @@ use Rattle.pfr_calm.specs.World.{World, story_of, state_at, AllMoved, LostAt}
 use Rattle.pfr_calm.specs.Plans.{authentication_at, recovery_at, distrusted, brought_up, migration_in, migrated, provisioned_in, provisioned}
 use Rattle.pfr_calm.specs.Course.{Crosses, Faults, LosesPower, lost}
 use Rattle.pfr_calm.specs.Turn.{fault_of, is_store, bank_or_store, StopsInCheck, bank_stretch, fuse_stretch, provision_stretch, unreadable}
+use Rattle.pfr_calm.proofs.Bytes.{HaveBytes, have_before, image_bytes}
 use Rattle.pfr_calm.proofs.Sequence.{Moved-at}
 use Rattle.pfr_calm.proofs.Traces.{AllGood, AllGood-append, AllGood-cut, Traced, Traced-then, Traced-ran, Traced-stopped, image_noted}
 use Rattle.pfr_calm.proofs.Findings.{found, recovery_found}
@@ -37,6 +38,7 @@ pub IsLater-moved : (a b : World) → AllMoved a b → IsLater a b
 IsLater-moved a b m = record {
   faults = λ which. (Moved-at which a b m).faults;
   losses = λ which. losses_moved (state_at which a) (state_at which b) (Moved-at which a b m);
+  bytes = have_before a b m;
 }
 
 -- The worlds of a part of a step lie between the two ends that are looked at.
@@ -49,6 +51,9 @@ between_front s a b c m p = record { before = p.before; behind = IsLater-trans b
 
 pub between_back : (s : Setting) (a b c : World) → AllMoved a b → Between s a c → Between s b c
 between_back s a b c m p = record { before = IsLater-trans s.first a b p.before (IsLater-moved a b m); behind = p.behind }
+
+held_between : (s : Setting) (old new : World) → Between s old new → AllMoved old new → HaveBytes old
+held_between s old new p m = have_before old new m (p.behind.bytes s.held)
 
 rose_between : (s : Setting) (which : Device) (old new : World) → Between s old new → Rose (state_at which old).faults (state_at which new).faults
     → Rose (state_at which s.first).faults (state_at which s.last).faults
@@ -108,20 +113,21 @@ module _ (s : Setting) (b : Bank) where
         store = ap (λ (t : Story). t.nv) is ∙ says_nv (distrusted b a) (noted (what.Held b) story) (distrusted_says b a);
       }
 
-  pub bank_crossed : (old new : World) → s.Fits (image_at device.Nv (story_of old)) → Crosses (bank_stretch s.accepts b) old new → Brought old new
-  bank_crossed old new fits p =
+  pub bank_crossed : (old new : World) → Between s old new → s.Fits (image_at device.Nv (story_of old)) → Crosses (bank_stretch s.accepts b) old new → Brought old new
+  bank_crossed old new within fits p =
       let story = story_of old in
       let a = authentication_at s.accepts b story in
       let recovery = recovery_at s.accepts b story in
-      let f = found b (image_at (device_of b) story) (image_at device.Nv story) s.accepts p.shown.active in
-      let r = recovery_found b (image_at (device_of b) story) (image_at device.Nv story) s.accepts a recovery refl p.shown.recovery in
+      let bytes = image_bytes (device_of b) old (held_between s old new within p.moved) in
+      let f = found b (image_at (device_of b) story) (image_at device.Nv story) s.accepts bytes in
+      let r = recovery_found b (image_at (device_of b) story) (image_at device.Nv story) s.accepts a recovery bytes f refl in
       record {
-        traced = Traced-ran (IsGood s) (brought_up s.accepts b story) old new p.ran (
+        traced = Traced-ran (IsGood s) (brought_up s.accepts b story) old new p (
           refl,
           conclusion_good s b (image_at (device_of b) story) (image_at device.Nv story) recovery a (noted (what.Held b) story) f r fits
               (image_noted (device_of b) (what.Held b) story) refl,
         );
-        store = ap (λ (t : Story). t.nv) p.ran.is ∙ says_nv (brought_up s.accepts b story) story (concluded_says b recovery a);
+        store = ap (λ (t : Story). t.nv) p.is ∙ says_nv (brought_up s.accepts b story) story (concluded_says b recovery a);
       }
 
   pub bank_faulted : (old new : World) → Between s old new → Faults (bank_stretch s.accepts b) old new → Brought old new
@@ -151,7 +157,7 @@ module _ (s : Setting) where
   migrated_good story (inr w) = ops_good s device.Nv (migration_in (fuses_of (image_at device.Nv story))) story w
 
   pub fuses_crossed : (old new : World) → MayMigrate s (story_of old) → Crosses fuse_stretch old new → Traced (IsGood s) old new
-  fuses_crossed old new may p = Traced-ran (IsGood s) (migrated (story_of old)) old new p.ran (migrated_good (story_of old) may)
+  fuses_crossed old new may p = Traced-ran (IsGood s) (migrated (story_of old)) old new p (migrated_good (story_of old) may)
 
   pub fuses_faulted : (old new : World) → Between s old new → MayMigrate s (story_of old) → Faults fuse_stretch old new → Traced (IsGood s) old new
   fuses_faulted old new within may p =
@@ -184,7 +190,7 @@ module _ (s : Setting) (root : RootSlot) where
   provisioned_good story (Err cause) refused = (tt, tt)
 
   pub provision_crossed : (old new : World) → MayProvision s old.notes.list (judged_in root (story_of old)) → Crosses (provision_stretch root) old new → Traced (IsGood s) old new
-  provision_crossed old new may p = Traced-ran (IsGood s) (provisioned root (story_of old)) old new p.ran (provisioned_good (story_of old) (judged_in root (story_of old)) may)
+  provision_crossed old new may p = Traced-ran (IsGood s) (provisioned root (story_of old)) old new p (provisioned_good (story_of old) (judged_in root (story_of old)) may)
 
   pub provision_faulted : (old new : World) → Between s old new → MayProvision s old.notes.list (judged_in root (story_of old)) → Faults (provision_stretch root) old new → Traced (IsGood s) old new
   provision_faulted old new within may p =

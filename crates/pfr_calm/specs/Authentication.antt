@@ -2,7 +2,6 @@
 use Rattle.std.specs.Prelude.{◌≡◌, ℕ, List, length, Option, Some, None, Result, Ok, Err}
 use Rattle.pfr_flash.specs.Layout.{judge_layout}
 use Rattle.pfr_flash.specs.declared.names.Bank.{Bank}
-use Rattle.pfr_flash.specs.declared.layout.Layout.{Layout}
 use Rattle.pfr_flash.specs.declared.layout.LayoutRule.{LayoutRule}
 use Rattle.pfr_engine.specs.Acceptance.{Acceptance}
 use Rattle.pfr_fuses.specs.FusesState.{FusesState}
@@ -13,10 +12,10 @@ use Rattle.pfr_fuses.specs.declared.fuse_fail.FuseFail.TheVariants as fuse
 use Rattle.pfr_manifest.specs.declared.manifest.Manifest.{Manifest}
 use Rattle.pfr_capsule.specs.CapsuleState.{CapsuleState}
 use Rattle.pfr_capsule.specs.Good.{IsGood}
-use Rattle.pfr_capsule.specs.Judge.{judge_capsule}
 use Rattle.pfr_capsule.specs.declared.fail.CapsuleFail.{CapsuleFail}
 use Rattle.pfr_auth.specs.Judge.{judge_active}
-use Rattle.pfr_auth.specs.Trusted.{IsTrusted}
+use Rattle.pfr_auth.specs.Areas.{judge_area}
+use Rattle.pfr_auth.specs.declared.areas.Area.TheVariants.{Recovery}
 use Rattle.pfr_auth.specs.declared.fail.ActiveFail.{ActiveFail}
 use Rattle.pfr_calm.specs.declared.authentication.Authentication.{Authentication}
 use Rattle.pfr_calm.specs.declared.authentication.Authentication.TheVariants.{Unprovisioned, SlotsSpent, BadLayout, Untrusted, Trusted}
@@ -42,18 +41,7 @@ authentication_with bank image accepts (Err cause) = Unprovisioned
 unfoldable pub authentication_of : Bank → List ℕ → List ℕ → Acceptance → Authentication
 authentication_of bank image nv accepts = authentication_with bank image accepts (fuses_of nv)
 
--- a bank that is found to be trusted is, with this security version number
-abbrev pub IsBacked : Authentication → Bank → List ℕ → List ℕ → Acceptance → Type 0
-IsBacked (Trusted svn) bank image nv accepts = (t : IsTrusted image nv bank accepts) × (t.manifest.svn ≡ svn)
-IsBacked authentication bank image nv accepts = Unit {0}
-
 -- ---- the image that a bank would be restored from
-
--- the judgement of what stands in a bank's recovery area
-abbrev pub judge_recovery : Bank → List ℕ → FusesState → Acceptance → Result CapsuleState CapsuleFail
-judge_recovery bank image fuses accepts =
-    let layout : Layout = layout_of fuses.provision bank in
-    judge_capsule image layout.recovery_at layout.area_len bank layout fuses accepts
 
 -- a good capsule stands in the bank's recovery area
 pub record HasGoodRecovery (bank : Bank) (image nv : List ℕ) (accepts : Acceptance) : Type 0 where
@@ -65,7 +53,7 @@ pub record HasGoodRecovery (bank : Bank) (image nv : List ℕ) (accepts : Accept
 pub record HasBadRecovery (cause : CapsuleFail) (bank : Bank) (image nv : List ℕ) (accepts : Acceptance) : Type 0 where
   pub fuses : FusesState
   pub provisioned : fuses_of nv ≡ Ok fuses
-  pub judged : judge_recovery bank image fuses accepts ≡ Err cause
+  pub judged : judge_area Recovery bank image fuses accepts ≡ Err cause
 
 -- why a judgement refuses, where it does
 abbrev pub refusal_in : Result CapsuleState CapsuleFail → Option CapsuleFail
@@ -74,14 +62,9 @@ refusal_in (Err cause) = Some cause
 
 -- the first cause against a bank's recovery image, by the provision and the fuses; a bank without any isn't looked at
 abbrev pub recovery_with : Bank → List ℕ → Acceptance → Result FusesState FuseFail → Option CapsuleFail
-recovery_with bank image accepts (Ok fuses) = refusal_in (judge_recovery bank image fuses accepts)
+recovery_with bank image accepts (Ok fuses) = refusal_in (judge_area Recovery bank image fuses accepts)
 recovery_with bank image accepts (Err cause) = None
 
 -- What the contents of a bank and of the store say against the bank's recovery image, where they do.
 unfoldable pub recovery_of : Bank → List ℕ → List ℕ → Acceptance → Option CapsuleFail
 recovery_of bank image nv accepts = recovery_with bank image accepts (fuses_of nv)
-
--- the recovery image of a bank that isn't trusted is good where nothing is said against it
-abbrev pub IsRestorable : Authentication → Option CapsuleFail → Bank → List ℕ → List ℕ → Acceptance → Type 0
-IsRestorable (Untrusted why) None bank image nv accepts = HasGoodRecovery bank image nv accepts
-IsRestorable authentication recovery bank image nv accepts = Unit {0}

@@ -1,38 +1,16 @@
 -- How a whole step goes: stretch by stretch, each of which a failed device call may cut short.
-use Rattle.std.specs.Prelude.{◌≡◌, Bool, true, false, List, [], ◌∷◌, ◌⊎◌, Option, Some, None}
-use Rattle.pfr_flash.specs.declared.names.Bank.{Bank}
-use Rattle.pfr_flash.specs.declared.names.Device.TheVariants as device
-use Rattle.pfr_engine.specs.Acceptance.{Acceptance}
+use Rattle.std.specs.Prelude.{◌≡◌, Bool, true, false, List, [], ◌∷◌, ◌⊎◌, Some}
 use Rattle.pfr_flash.specs.declared.flash.FlashFail.TheVariants.{Fault, Lost as Loses}
 use Rattle.pfr_flash.specs.declared.names.Device.{Device}
 use Rattle.pfr_report.specs.declared.note.What.TheVariants.{Lost}
-use Rattle.pfr_calm.specs.Authentication.{IsBacked, IsRestorable}
-use Rattle.pfr_calm.specs.Plans.{authentication_at, recovery_at}
-use Rattle.pfr_calm.specs.Story.{Story, Move, Says, Plan, image_at, device_of}
+use Rattle.pfr_calm.specs.Story.{Story, Move, Says, Plan}
 use Rattle.pfr_calm.specs.World.{World, story_of}
 use Rattle.pfr_calm.specs.Goes.{Ran, Stopped}
 
--- the check of a bank's image by an engine
-pub record Check : Type 0 where
-  pub bank : Bank
-  pub accepts : Acceptance
-
--- what a check finds to be trusted in these contents is, and so is a recovery image good that it says nothing against
-pub record IsShown (check : Check) (story : Story) : Type 0 where
-  pub active : IsBacked (authentication_at check.accepts check.bank story) check.bank
-      (image_at (device_of check.bank) story) (image_at device.Nv story) check.accepts
-  pub recovery : IsRestorable (authentication_at check.accepts check.bank story) (recovery_at check.accepts check.bank story) check.bank
-      (image_at (device_of check.bank) story) (image_at device.Nv story) check.accepts
-
-abbrev pub Shown : Option Check → Story → Type 0
-Shown None story = Unit {0}
-Shown (Some check) story = IsShown check story
-
 -- One stretch of a step.
 pub record Stretch : Type 1 where
-  -- what is to be done, and the bank whose image is checked in it
+  -- what is to be done
   pub plan : Plan
-  pub checks : Option Check
   -- what was done from its beginning to where a call fails
   pub stops : Story → Story → Type 0
   -- whether it calls this device
@@ -45,9 +23,8 @@ abbrev pub lost : Device → List Move
 lost which = Says (Lost (Some which)) ∷ []
 
 -- all of it was done
-pub record Crosses (stretch : Stretch) (old new : World) : Type 0 where
-  pub ran : Ran (stretch.plan (story_of old)) old new
-  pub shown : Shown stretch.checks (story_of old)
+abbrev pub Crosses : Stretch → World → World → Type 0
+Crosses stretch old new = Ran (stretch.plan (story_of old)) old new
 
 -- it was cut short at a fault of this device, whose count rose, and this was noted
 pub record Faults (stretch : Stretch) (old new : World) : Type 0 where

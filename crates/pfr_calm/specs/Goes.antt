@@ -3,7 +3,7 @@ use Rattle.std.specs.Prelude.{◌≡◌, List, Result, Ok, Err}
 use Rattle.pfr_flash.specs.declared.flash.FlashFail.{FlashFail}
 use Rattle.pfr_flash.specs.declared.names.Device.{Device}
 use Rattle.pfr_calm.specs.Story.{Move, Plan, after, IsCut}
-use Rattle.pfr_calm.specs.World.{World, story_of, AllMoved, NoneLost, Caused}
+use Rattle.pfr_calm.specs.World.{World, story_of, AllMoved, NoneFailed, NoneLost, Caused}
 use Rattle.pfr_calm.specs.declared.stop.Stop.{Stop}
 
 -- all of the moves were made
@@ -11,6 +11,7 @@ pub record Ran (moves : List Move) (old new : World) : Type 0 where
   pub is : story_of new ≡ after moves (story_of old)
   pub moved : AllMoved old new
   pub none_lost : NoneLost old new
+  pub none_failed : NoneFailed old new
 
 -- a call of this device failed on the way
 pub record Stopped (moves : List Move) (which : Device) (fail : FlashFail) (old new : World) : Type 0 where

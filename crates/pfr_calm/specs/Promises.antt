@@ -28,7 +28,7 @@ use Rattle.pfr_report.specs.declared.note.ProvisionWhy.{ProvisionWhy}
 use Rattle.pfr_report.specs.declared.note.What.{What}
 use Rattle.pfr_report.specs.declared.note.What.TheVariants.{Held, Released, Locked, Lost, Untrusted, Provisioned, ProvisionRefused, Ignored}
 use Rattle.pfr_calm.specs.Story.{counts_of, device_of}
-use Rattle.pfr_calm.specs.World.{World, story_of, state_at, IsDark, IsOn, SameDevices}
+use Rattle.pfr_calm.specs.World.{NoneFailed, World, story_of, state_at, IsDark, IsOn, SameDevices}
 use Rattle.pfr_calm.specs.Authentication.{HasGoodRecovery, HasBadRecovery}
 use Rattle.pfr_calm.specs.Standing.{standing_of, is_off, Off}
 use Rattle.pfr_calm.specs.Plans.{refusal_of}
@@ -88,6 +88,16 @@ pub record FaultsHaveCauses (old new : World) : Type 0 where
   pub flash : (which : Bank) (at : Counts) → IsNoted (added old new) (Locked which why.FlashFault at)
       → Rose (state_at (device_of which) old).faults (state_at (device_of which) new).faults
   pub store : (which : Bank) (at : Counts) → IsNoted (added old new) (Locked which why.StoreFault at) → Rose old.nv.faults new.nv.faults
+
+-- no bank is locked for a fault, and no device's loss of power is noted
+pub record IsUndisturbed (notes : List Note) : Type 0 where
+  pub flash : (which : Bank) (at : Counts) → ¬ IsNoted notes (Locked which why.FlashFault at)
+  pub store : (which : Bank) (at : Counts) → ¬ IsNoted notes (Locked which why.StoreFault at)
+  pub on : (which : Device) (at : Counts) → ¬ IsNoted notes (Lost (Some which) at)
+
+-- No fault of a device is passed over: where none of these is noted, no call of a device answered one.
+abbrev pub FaultsAreNoted : World → World → Type 0
+FaultsAreNoted old new = IsUndisturbed (added old new) → NoneFailed old new
 
 -- ---- banks that are off
 

@@ -1,6 +1,6 @@
 -- The spans in which a bank stands released.
-use Rattle.std.specs.Prelude.{ℕ, ◌≤◌, List, [], ◌∷◌, ◌++◌, length, take, All, if◌then◌else◌}
-use Rattle.pfr_flash.specs.Operation.{play}
+use Rattle.std.specs.Prelude.{ℕ, ◌≤◌, List, [], ◌∷◌, ◌++◌, length, All, if◌then◌else◌}
+use Rattle.pfr_flash.specs.Operation.{play_first}
 use Rattle.pfr_flash.specs.declared.names.Bank.{Bank}
 use Rattle.pfr_flash.specs.declared.names.Bank.TheVariants as bank
 use Rattle.pfr_flash.specs.declared.names.Counts.{Counts}
@@ -47,10 +47,6 @@ ended_from which opens (note ∷ notes) = ended which note.what opens ++ ended_f
 abbrev pub spans_of : Bank → List Note → Counts → List (Counts × Counts)
 spans_of which notes end = ended_from which [] notes ++ closes end (opens_from which [] notes)
 
--- the bytes after so many operations
-abbrev pub upto : Past → ℕ → List ℕ
-upto past count = play past.start (take count past.ops)
-
 abbrev pub count_at : Bank → Counts → ℕ
 count_at bank.Bmc counts = counts.bmc
 count_at bank.Pch counts = counts.pch
@@ -62,12 +58,12 @@ pub record IsSpan (accepts : Acceptance) (which : Bank) (mine nv : Past) (begin 
   pub forth_store : begin.nv ≤ end.nv
   pub done : count_at which end ≤ length mine.ops
   pub done_store : end.nv ≤ length nv.ops
-  pub trusted : IsTrusted (upto mine (count_at which begin)) (upto nv begin.nv) which accepts
+  pub trusted : IsTrusted (play_first (count_at which begin) mine.start mine.ops) (play_first begin.nv nv.start nv.ops) which accepts
   pub image : All (LeavesImage (layout_of trusted.fuses.provision which) trusted.manifest)
       (between (count_at which begin) (count_at which end) mine.ops)
   pub store : All (LeavesStore trusted.fuses which) (between begin.nv end.nv nv.ops)
   pub throughout : (b n : ℕ) → count_at which begin ≤ b → b ≤ count_at which end → begin.nv ≤ n → n ≤ end.nv
-      → IsTrustedBy trusted.manifest (upto mine b) (upto nv n) which accepts
+      → IsTrustedBy trusted.manifest (play_first b mine.start mine.ops) (play_first n nv.start nv.ops) which accepts
 
 abbrev pub AllSpans : Acceptance → Bank → Past → Past → List (Counts × Counts) → Type 0
 AllSpans accepts which mine nv [] = Unit {0}

@@ -1,5 +1,5 @@
 -- What a step does.
-use Rattle.std.specs.Prelude.{◌≡◌, ◌+◌, List, [], ◌∷◌, ◌⊎◌, Bool, true, false, Some, None}
+use Rattle.std.specs.Prelude.{◌≡◌, ◌+◌, List, [], ◌∷◌, ◌⊎◌, Bool, true, false, None}
 use Rattle.pfr_flash.specs.declared.names.Bank.{Bank}
 use Rattle.pfr_flash.specs.declared.names.Bank.TheVariants as bank
 use Rattle.pfr_flash.specs.declared.names.Device.{Device}
@@ -46,7 +46,6 @@ StopsUnnoted begin at = at.notes ≡ begin.notes
 abbrev pub bank_stretch : Acceptance → Bank → Stretch
 bank_stretch accepts which = record {
   plan = brought_up accepts which;
-  checks = Some (record { bank = which; accepts = accepts });
   stops = StopsInCheck accepts which;
   calls = bank_or_store which;
   on_fault = λ device. Says (Locked which (fault_of device)) ∷ [];
@@ -62,7 +61,6 @@ unreadable =
 abbrev pub fuse_stretch : Stretch
 fuse_stretch = record {
   plan = migrated;
-  checks = None;
   stops = StopsUnnoted;
   calls = is_store;
   on_fault = λ device. unreadable;
@@ -73,7 +71,6 @@ fuse_stretch = record {
 abbrev pub provision_stretch : RootSlot → Stretch
 provision_stretch what = record {
   plan = provisioned what;
-  checks = None;
   stops = StopsUnnoted;
   calls = is_store;
   on_fault = λ device. Says (Locked bank.Bmc StoreFault) ∷ Says (Locked bank.Pch StoreFault) ∷ [];

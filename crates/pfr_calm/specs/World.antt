@@ -65,6 +65,12 @@ pub record NoneLost (old new : World) : Type 0 where
   pub pch : new.pch.losses ≡ old.pch.losses
   pub nv : new.nv.losses ≡ old.nv.losses
 
+-- no call of a device answered a fault
+pub record NoneFailed (old new : World) : Type 0 where
+  pub bmc : new.bmc.faults ≡ old.bmc.faults
+  pub pch : new.pch.faults ≡ old.pch.faults
+  pub nv : new.nv.faults ≡ old.nv.faults
+
 -- this device lost its power once, and no other did
 pub record LostAt (which : Device) (old new : World) : Type 0 where
   pub once : (state_at which new).losses ≡ (state_at which old).losses + 1

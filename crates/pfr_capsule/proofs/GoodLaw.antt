@@ -2,7 +2,7 @@
 use Rattle.std.proofs.Common.{◌≡◌, ◌∙◌, ap, refl, sym, subst, ℕ, ◌+◌, ◌*◌, ◌/◌, ◌==◌, nat_le, true, false, min, List, length, Option, Some, None, Ok, arith}
 use Rattle.std.proofs.lemmas.Bool.{eq-eqb, eqb-true, le-leb, leb-true}
 use Rattle.std.proofs.lemmas.Bool.Decides.{nat_tests}
-use Rattle.pfr_flash.specs.Bytes.{bytes_at}
+use Rattle.pfr_flash.specs.Bytes.{AreBytes, bytes_at}
 use Rattle.pfr_flash.specs.Layout.{IsValidLayout}
 use Rattle.pfr_flash.specs.Names.{capsule_type, manifest_type}
 use Rattle.pfr_flash.specs.declared.layout.Layout.{Layout}
@@ -18,27 +18,33 @@ use Rattle.pfr_chain.specs.Types.{is_certificate}
 use Rattle.pfr_chain.specs.declared.form.Form.{Form}
 use Rattle.pfr_chain.specs.declared.form.Form.TheVariants.{One, Two}
 use Rattle.pfr_chain.specs.declared.judging.Chain.{Chain}
-use Rattle.pfr_chain.proofs.ChainLaw.{judge_ends as chain_ends}
+use Rattle.pfr_chain.specs.Judge.{judge}
+use Rattle.pfr_chain.proofs.ChainLaw.{judge_ends as chain_ends, judge_holds as chain_holds}
 use Rattle.pfr_fuses.specs.FusesState.{FusesState, floor_of, row_of}
 use Rattle.pfr_fuses.specs.RootSlot.{layout_of}
 use Rattle.pfr_fuses.specs.declared.root_slot.RootSlot.{RootSlot}
 use Rattle.pfr_manifest.specs.declared.region.Region.{Region}
+use Rattle.pfr_manifest.specs.Judge.{judge_manifest}
 use Rattle.pfr_manifest.proofs.FindingLaw.{judge_ends as manifest_ends}
+use Rattle.pfr_manifest.proofs.ReadingLaw.{judge_holds as manifest_holds}
 use Rattle.pfr_capsule.specs.CapsuleState.{CapsuleState, capsule_of}
 use Rattle.pfr_capsule.specs.Good.{IsGood, Serves, StandForBank}
 use Rattle.pfr_capsule.specs.Judge.{judge_capsule, judge_header, judge_maps, judge_numbers, judge_pages}
-use Rattle.pfr_capsule.specs.Judging.{◌>>◌, require_none}
+use Rattle.pfr_flash.specs.Judging.{◌>>◌, require_none, told_as}
 use Rattle.pfr_capsule.specs.Maps.{count_before, page_outside, uncovered_region, unerased_copy}
 use Rattle.pfr_capsule.specs.PageBytes.{incoherent_region}
 use Rattle.pfr_capsule.specs.PageHeader.{HasHeader, IsPageHeader, has_constants, page_header_of}
 use Rattle.pfr_capsule.specs.Pages.{copy_map, erase_map, pages_at}
 use Rattle.pfr_capsule.specs.Signed.{IsSigned, end_of, id_or_zero, key_of}
-use Rattle.pfr_capsule.specs.SignedJudge.{HasSigned, judge_capsule_chain, judge_inner_chain, judge_signed}
+use Rattle.pfr_capsule.specs.SignedJudge.{judge_capsule_chain, judge_inner_chain, judge_signed}
 use Rattle.pfr_capsule.specs.declared.fail.CapsuleFail.TheVariants as causes
 use Rattle.pfr_capsule.specs.declared.page_header.PageHeader.{PageHeader}
 use Rattle.pfr_capsule.specs.declared.pages.Pages.{Pages}
 use Rattle.pfr_capsule.specs.declared.signed.Signed.{Signed}
-use Rattle.pfr_capsule.proofs.Tests.{passed_part, passed_unit, passed_test, passed_none, passed_last, passed_last_none}
+use Rattle.pfr_flash.proofs.JudgingLemmas.{passed_part, passed_unit, passed_test, passed_none, passed_last, passed_last_none, told_ok}
+use Rattle.pfr_flash.proofs.AreBytesLemmas.{AreBytes-bytes_at}
+use Rattle.pfr_capsule.specs.Lying.{LiesAt}
+use Rattle.pfr_capsule.proofs.LyingLaw.{parts_lie}
 use Rattle.pfr_capsule.proofs.MapsLaw.{none_copied, copied_none, none_outside, outside_none, none_uncovered, uncovered_none, none_incoherent, incoherent_none}
 
 -- ---- the header
@@ -143,6 +149,26 @@ signed_ends image place len bank layout fuses accepts signed s =
     let above = le-leb (floor_of fuses bank) signed.manifest.svn s.svn in
     rw (outer, inner, spelled, above) refl
 
+pub signed_holds : (image : List ℕ) (place len : ℕ) (bank : Bank) (layout : Layout) (fuses : FusesState) (accepts : Acceptance) (signed : Signed) → AreBytes image →
+    judge_signed image place len bank layout fuses accepts ≡ Ok signed → IsSigned image place len bank layout fuses accepts signed
+unfolding judge_signed judge_capsule_chain judge_inner_chain
+signed_holds image place len bank layout fuses accepts signed bytes h =
+    let a = passed_part (judge_capsule_chain image place len bank fuses accepts) _ signed h in
+    let outer = told_ok causes.Chain (judge image place len (capsule_type bank) fuses.provision.root (row_of fuses (capsule_type bank)) accepts) a.0 a.1 in
+    let b = passed_part (judge_inner_chain image bank layout fuses accepts a.0) _ signed a.2 in
+    let inner = told_ok causes.ManifestChain (judge image a.0.content_at (min a.0.length layout.manifest_len) (manifest_type bank) fuses.provision.root (row_of fuses (manifest_type bank)) accepts) b.0 b.1 in
+    let d = passed_part (told_as causes.Manifest (judge_manifest (bytes_at image b.0.content_at b.0.length) layout (length image))) _ signed b.2 in
+    let spelled = told_ok causes.Manifest (judge_manifest (bytes_at image b.0.content_at b.0.length) layout (length image)) d.0 d.1 in
+    let e = passed_test causes.SvnFloor (nat_le (floor_of fuses bank) d.0.svn) _ signed d.2 in
+    let found : Signed = record { capsule = a.0; inner = b.0; manifest = d.0 } in
+    let same : found ≡ signed = let last = e.1 in cc in
+    subst (λ (s : Signed). IsSigned image place len bank layout fuses accepts s) same (record {
+      capsule = chain_holds image place len (capsule_type bank) fuses.provision.root (row_of fuses (capsule_type bank)) accepts a.0 outer;
+      inner = chain_holds image a.0.content_at (min a.0.length layout.manifest_len) (manifest_type bank) fuses.provision.root (row_of fuses (manifest_type bank)) accepts b.0 inner;
+      spelled = manifest_holds (bytes_at image b.0.content_at b.0.length) layout (length image) d.0 (AreBytes-bytes_at image b.0.content_at b.0.length bytes) spelled;
+      svn = leb-true (floor_of fuses bank) d.0.svn e.0;
+    })
+
 -- only the provision, the floor and both rows of the bank are looked at
 judge_signed-same : (image : List ℕ) (place len : ℕ) (bank : Bank) (layout : Layout) (accepts : Acceptance) (fuses other : FusesState) → fuses.provision ≡ other.provision → floor_of fuses bank ≡ floor_of other bank
     → row_of fuses (capsule_type bank) ≡ row_of other (capsule_type bank) → row_of fuses (manifest_type bank) ≡ row_of other (manifest_type bank)
@@ -236,16 +262,12 @@ judged_parts image place len bank layout fuses accepts capsule h =
     assembled image place len bank layout fuses accepts capsule a.0 b.0 d.0 a.1 b.1 d.1 d.2
 
 pub judged_good : (image nv : List ℕ) (place len : ℕ) (bank : Bank) (accepts : Acceptance) (fuses : FusesState) (capsule : CapsuleState) → StandForBank nv fuses bank
-    → IsValidLayout (layout_of fuses.provision bank) (length image) → HasSigned image place len bank (layout_of fuses.provision bank) fuses accepts
+    → IsValidLayout (layout_of fuses.provision bank) (length image) → AreBytes image
     → judge_capsule image place len bank (layout_of fuses.provision bank) fuses accepts ≡ Ok capsule → (g : IsGood image place len nv bank accepts) × (g.capsule ≡ capsule)
-judged_good image nv place len bank accepts fuses capsule p valid s h =
+judged_good image nv place len bank accepts fuses capsule p valid bytes h =
     let layout : Layout = layout_of fuses.provision bank in
     let j = judged_parts image place len bank layout fuses accepts capsule h in
-    let found = s.found in
-    let judged = j.judged in
-    let same : s.signed ≡ j.signed = cc in
-    let P : Signed → Type 0 = λ signed. IsSigned image place len bank layout fuses accepts signed in
-    let signed : IsSigned image place len bank layout fuses accepts j.signed = subst P same s.is in
+    let signed : IsSigned image place len bank layout fuses accepts j.signed = signed_holds image place len bank layout fuses accepts j.signed bytes j.judged in
     let Q : RootSlot → Type 0 = λ slot. IsSigned image place len bank (layout_of slot bank) p.all accepts j.signed in
     let V : RootSlot → Type 0 = λ slot. IsValidLayout (layout_of slot bank) (length image) in
     let g : IsGood image place len nv bank accepts = record {
@@ -263,6 +285,13 @@ judged_good image nv place len bank accepts fuses capsule p valid s h =
       found = j.found;
     } in
     (g, refl)
+
+-- and lies where it was judged
+pub judged_lies : (image : List ℕ) (place len : ℕ) (bank : Bank) (layout : Layout) (fuses : FusesState) (accepts : Acceptance) (capsule : CapsuleState) → AreBytes image
+    → judge_capsule image place len bank layout fuses accepts ≡ Ok capsule → LiesAt image place len capsule
+judged_lies image place len bank layout fuses accepts capsule bytes h =
+    let j = judged_parts image place len bank layout fuses accepts capsule h in
+    parts_lie image place len bank layout fuses accepts j.signed (signed_holds image place len bank layout fuses accepts j.signed bytes j.judged) j.header j.framed capsule j.paged j.found
 
 -- ---- What is good is judged well.
 pub good_judged : (image nv : List ℕ) (place len : ℕ) (bank : Bank) (accepts : Acceptance) (g : IsGood image place len nv bank accepts) →

@@ -3,9 +3,6 @@ pub mod LeastLaws
 pub mod IndexLaws
 pub mod PageLaws
 pub mod PageBytesLaws
-pub mod Fields
-pub mod Tests
-pub mod AnswerLemmas
 pub mod Parts
 pub mod PagesRead
 pub mod MapsLaw
@@ -13,3 +10,5 @@ pub mod RegionBytesLaw
 pub mod GoodLaw
 pub mod GoodFacts
 pub mod MovedLaw
+pub mod LyingLaw
+pub mod ServesLaw

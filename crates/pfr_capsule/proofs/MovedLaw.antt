@@ -9,7 +9,7 @@ use Rattle.pfr_flash.specs.declared.names.Bank.{Bank}
 use Rattle.pfr_engine.specs.Acceptance.{Acceptance}
 use Rattle.pfr_chain.specs.declared.judging.Chain.{Chain}
 use Rattle.pfr_chain.proofs.MovedLaw.{IsChain-moved, moved}
-use Rattle.pfr_chain.proofs.Parts.{same_part}
+use Rattle.pfr_flash.proofs.PartsLemmas.{same_part}
 use Rattle.pfr_fuses.specs.FusesState.{FusesState, row_of}
 use Rattle.pfr_fuses.specs.RootSlot.{layout_of}
 use Rattle.pfr_manifest.specs.Hashes.{HasHash}
@@ -187,6 +187,11 @@ module _ (a b nv : List ℕ) (p q len len' : ℕ) (bank : Bank) (accepts : Accep
     manifest_key = g.manifest_key ∙ ap (λ (c : CapsuleState). Some c.manifest_key) g.found;
     found = refl;
   }
+
+  -- the capsule that is good there is that one
+  pub capsule_moved : good_moved.capsule ≡ found_there
+  unfolding good_moved
+  capsule_moved = refl
 
   pub manifest_moved : found_there.manifest ≡ g.capsule.manifest
   unfolding parts_there found_there

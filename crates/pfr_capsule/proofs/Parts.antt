@@ -3,29 +3,28 @@ use Rattle.std.proofs.Common.{◌≡◌, ◌∙◌, ap, refl, sym, ℕ, ◌+◌,
 use Rattle.std.proofs.lemmas.Bool.{le-leb, lt-leb}
 use Rattle.pfr_flash.specs.Bytes.{bytes_at}
 use Rattle.pfr_flash.specs.FlashState.{FlashState, now, size_of}
-use Rattle.pfr_flash.specs.Reading.{OnlyReads}
 use Rattle.pfr_flash.specs.declared.layout.Layout.{Layout}
 use Rattle.pfr_flash.specs.declared.names.Bank.{Bank}
 use Rattle.pfr_flash.proofs.RangeLemmas.{length-now}
-use Rattle.pfr_flash.proofs.ReadingLemmas.{then_reads}
 use Rattle.pfr_engine.specs.Acceptance.{Acceptance}
 use Rattle.pfr_chain.specs.declared.judging.Chain.{Chain}
 use Rattle.pfr_fuses.specs.FusesState.{FusesState, floor_of}
-use Rattle.pfr_manifest.specs.Answer.{Refuses as Misreads}
+use Rattle.pfr_manifest.specs.Answer.{manifest_failure}
 use Rattle.pfr_manifest.specs.Judge.{judge_manifest}
 use Rattle.pfr_manifest.specs.Manifest.{IsManifestOf}
 use Rattle.pfr_manifest.specs.declared.fail.ManifestFail.{ManifestFail}
 use Rattle.pfr_manifest.specs.declared.manifest.Manifest.{Manifest}
-use Rattle.pfr_capsule.specs.Answer.{Answers}
+use Rattle.pfr_flash.specs.Answer.{Answers}
+use Rattle.pfr_capsule.specs.Answer.{capsule_failure}
 use Rattle.pfr_capsule.specs.Judge.{judge_header, judge_numbers}
-use Rattle.pfr_capsule.specs.Judging.{◌>>=◌, ◌>>◌, require, by_manifest}
+use Rattle.pfr_flash.specs.Judging.{◌>>=◌, ◌>>◌, require, told_as}
 use Rattle.pfr_capsule.specs.PageHeader.{page_header_of}
 use Rattle.pfr_capsule.specs.Signed.{IsSigned, IsCapsuleChain, IsInnerChain}
 use Rattle.pfr_capsule.specs.SignedJudge.{judge_capsule_chain, judge_inner_chain, judge_signed}
 use Rattle.pfr_capsule.specs.declared.fail.CapsuleFail.{CapsuleFail}
 use Rattle.pfr_capsule.specs.declared.fail.CapsuleFail.TheVariants as causes
 use Rattle.pfr_capsule.specs.declared.page_header.PageHeader.{PageHeader}
-use Rattle.pfr_capsule.proofs.AnswerLemmas.{manifest_refuses, refused_later}
+use Rattle.pfr_flash.proofs.AnswerLemmas.{refused, told_refused}
 
 -- ---- the header, as its bytes are read
 pub header_judged : (image : List ℕ) (at end size : ℕ) (bytes : List ℕ) (header : PageHeader) → at + 128 ≤ end → bytes ≡ bytes_at image at 128 → header ≡ page_header_of bytes → size ≡ length image
@@ -39,26 +38,26 @@ header_judged image at end size bytes header fits read is long answer h =
 
 -- ---- what is signed, as the chains and the manifest are found one after the other
 module _ (old mid late : FlashState) (place len : ℕ) (bank : Bank) (layout : Layout) (fuses : FusesState) (accepts : Acceptance) (capsule inner : Chain)
-    (first : OnlyReads old mid) (second : OnlyReads mid late)
+    (first : now mid ≡ now old) (second : now late ≡ now mid)
     (outer_found : judge_capsule_chain (now old) place len bank fuses accepts ≡ Ok capsule) (inner_found : judge_inner_chain (now mid) bank layout fuses accepts capsule ≡ Ok inner) where
   -- reading leaves what is judged
   same_content : judge_manifest (bytes_at (now old) inner.content_at inner.length) layout (length (now old)) ≡ judge_manifest (bytes_at (now late) inner.content_at inner.length) layout (size_of late)
   same_content =
-      let same : now late ≡ now old = second.content ∙ first.content in
+      let same : now late ≡ now old = second ∙ first in
       rw (← same, length-now late) refl
 
-  rest : judge_signed (now old) place len bank layout fuses accepts ≡ (by_manifest (judge_manifest (bytes_at (now late) inner.content_at inner.length) layout (size_of late)) >>= λ manifest.
+  rest : judge_signed (now old) place len bank layout fuses accepts ≡ (told_as causes.Manifest (judge_manifest (bytes_at (now late) inner.content_at inner.length) layout (size_of late)) >>= λ manifest.
       require causes.SvnFloor (nat_le (floor_of fuses bank) manifest.svn) >> Ok (record { capsule = capsule; inner = inner; manifest = manifest }))
   unfolding judge_signed
   rest =
-      let found : judge_inner_chain (now old) bank layout fuses accepts capsule ≡ Ok inner = ap (λ (image : List ℕ). judge_inner_chain image bank layout fuses accepts capsule) (sym first.content) ∙ inner_found in
+      let found : judge_inner_chain (now old) bank layout fuses accepts capsule ≡ Ok inner = ap (λ (image : List ℕ). judge_inner_chain image bank layout fuses accepts capsule) (sym first) ∙ inner_found in
       rw (outer_found, found, same_content) refl
 
-  pub manifest_refused : (new : FlashState) (cause : ManifestFail) → Misreads late new cause (judge_manifest (bytes_at (now late) inner.content_at inner.length) layout (size_of late)) →
-      Answers old new (Err (causes.Manifest cause)) (judge_signed (now old) place len bank layout fuses accepts)
-  manifest_refused new cause h =
+  pub manifest_refused : (cause : ManifestFail) → Answers manifest_failure (Err cause) (judge_manifest (bytes_at (now late) inner.content_at inner.length) layout (size_of late)) →
+      Answers capsule_failure (Err (causes.Manifest cause)) (judge_signed (now old) place len bank layout fuses accepts)
+  manifest_refused cause h =
       let judged : Result Manifest ManifestFail = judge_manifest (bytes_at (now late) inner.content_at inner.length) layout (size_of late) in
-      refused_later old late new (causes.Manifest cause) (by_manifest judged) _ (then_reads first second) (λ e. rest ∙ rw e refl) (manifest_refuses late new cause judged h)
+      refused capsule_failure (causes.Manifest cause) (told_as causes.Manifest judged) _ (λ e. rest ∙ rw e refl) (told_refused manifest_failure capsule_failure causes.Manifest cause judged refl h)
 
   pub below_floor : (manifest : Manifest) → judge_manifest (bytes_at (now late) inner.content_at inner.length) layout (size_of late) ≡ Ok manifest → manifest.svn < floor_of fuses bank →
       judge_signed (now old) place len bank layout fuses accepts ≡ Err causes.SvnFloor
@@ -77,7 +76,7 @@ module _ (old mid late : FlashState) (place len : ℕ) (bank : Bank) (layout : L
       IsSigned (now old) place len bank layout fuses accepts (record { capsule = capsule; inner = inner; manifest = manifest })
   signed_is manifest outer within spelled above = record {
     capsule = outer;
-    inner = rw first.content at within;
-    spelled = (let same : now late ≡ now old = second.content ∙ first.content in rw (← length-now late, same) at spelled);
+    inner = rw first at within;
+    spelled = (let same : now late ≡ now old = second ∙ first in rw (← length-now late, same) at spelled);
     svn = above;
   }

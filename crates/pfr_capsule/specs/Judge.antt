@@ -7,7 +7,7 @@ use Rattle.pfr_engine.specs.Acceptance.{Acceptance}
 use Rattle.pfr_fuses.specs.FusesState.{FusesState}
 use Rattle.pfr_manifest.specs.declared.region.Region.{Region}
 use Rattle.pfr_capsule.specs.CapsuleState.{CapsuleState, capsule_of}
-use Rattle.pfr_capsule.specs.Judging.{◌>>=◌, ◌>>◌, require, require_none}
+use Rattle.pfr_flash.specs.Judging.{◌>>=◌, ◌>>◌, require, require_none}
 use Rattle.pfr_capsule.specs.Maps.{count_before, page_outside, uncovered_region, unerased_copy}
 use Rattle.pfr_capsule.specs.PageBytes.{incoherent_region}
 use Rattle.pfr_capsule.specs.PageHeader.{has_constants, page_header_of}

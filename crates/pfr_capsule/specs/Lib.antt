@@ -1,5 +1,4 @@
 pub mod Answer
-pub mod Judging
 pub mod Signed
 pub mod SignedJudge
 pub mod PageHeader
@@ -9,3 +8,4 @@ pub mod PageBytes
 pub mod CapsuleState
 pub mod Good
 pub mod Judge
+pub mod Lying

@@ -1,7 +1,7 @@
 -- The page-block header of a capsule: what its 128 bytes say of the maps and the payload behind it.
 use Rattle.std.specs.Prelude.{◌≡◌, ℕ, ◌+◌, ◌/◌, ◌≤◌, ◌==◌, ◌&&◌, Bool, List, length}
 use Rattle.pfr_flash.specs.Bytes.{bytes_at}
-use Rattle.pfr_chain.specs.Fields.{number_at}
+use Rattle.pfr_flash.specs.Numbers.{number_at}
 use Rattle.pfr_capsule.specs.declared.page_header.PageHeader.{PageHeader}
 
 unfoldable pub page_header_of : List ℕ → PageHeader

@@ -1,6 +1,6 @@
 // Why a capsule isn't taken.
 ghost use Rattle.std.specs.Prelude.{◌≡◌};
-ghost use Rattle.pfr_capsule.specs.Answer.{failure_of};
+ghost use Rattle.pfr_capsule.specs.Answer.{capsule_failure};
 ghost use Rattle.pfr_capsule.specs.declared.fail.CapsuleFail.TheVariants as causes;
 
 use pfr_chain::ChainFail;
@@ -42,7 +42,7 @@ pub enum CapsuleFail {
 impl CapsuleFail {
     /// The device's failure, where that is the cause.
     pub fn failure(&self) -> Option<FlashFail>
-        ensures { result ≡ failure_of self.now }
+        ensures { result ≡ capsule_failure self.now }
     {
         match self {
             CapsuleFail::Flash(fail)

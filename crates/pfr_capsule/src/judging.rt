@@ -2,13 +2,13 @@
 ghost use Rattle.std.specs.Prelude.{◌≡◌, ◌+◌, ◌*◌, ◌/◌, ◌%◌, ◌≤◌, length, All, IfOk, OnOk, IfErr};
 ghost use Rattle.pfr_flash.specs.FlashState.{now, size_of};
 ghost use Rattle.pfr_flash.specs.Layout.{IsBankSize, IsValidLayout};
-ghost use Rattle.pfr_flash.specs.Reading.{OnlyReads};
+ghost use Rattle.pfr_flash.specs.Reading.{EndsAt, failed_by};
 ghost use Rattle.pfr_manifest.specs.Regions.{IsRegion};
-ghost use Rattle.pfr_capsule.specs.Answer.{Answers, IsFound};
+ghost use Rattle.pfr_flash.specs.Answer.{Answers, IsFound};
+ghost use Rattle.pfr_capsule.specs.Answer.{capsule_failure};
 ghost use Rattle.pfr_capsule.specs.Judge.{judge_numbers, judge_header, judge_maps, judge_pages, judge_capsule};
 ghost use Rattle.pfr_capsule.specs.Maps.{count_before};
 ghost use Rattle.pfr_capsule.specs.Pages.{HasIndex};
-ghost use Rattle.pfr_capsule.specs.SignedJudge.{HasSigned};
 
 use crate::capsule::Capsule;
 use crate::fail::CapsuleFail;
@@ -32,7 +32,7 @@ fn check_numbers(header: &PageHeader, at: u32, end: u32, size: u32) -> Result<()
     ensures exact { result ≡ judge_numbers header.now at end size }
     ensures bits { OnOk result (header.now.map_bits ≡ size / 4096) }
     ensures fills { OnOk result (at + 128 + header.now.map_bits / 8 + header.now.map_bits / 8 + header.now.payload_len ≡ end) }
-    ensures found { IfErr result IsFound }
+    ensures found { IfErr result (IsFound capsule_failure) }
 {
     let maps = u64::from(header.map_bits / 8) + u64::from(header.map_bits / 8);
     let filled = u64::from(at) + HEADER as u64 + maps + u64::from(header.payload_len);
@@ -53,10 +53,10 @@ fn check_numbers(header: &PageHeader, at: u32, end: u32, size: u32) -> Result<()
 fn header_at<F: Flash>(flash: &mut F, at: u32, end: u32) -> Result<PageHeader, CapsuleFail>
     requires begins { at ≤ end }
     requires ends { end ≤ size_of (F.device flash.old) }
-    ensures exact { Answers (F.device flash.old) (F.device flash.new) result (judge_header (now (F.device flash.old)) at end) }
+    ensures exact { Answers capsule_failure result (judge_header (now (F.device flash.old)) at end) }
     ensures bits { IfOk result (λ header. header.map_bits ≡ size_of (F.device flash.old) / 4096) }
     ensures fills { IfOk result (λ header. at + 128 + header.map_bits / 8 + header.map_bits / 8 + header.payload_len ≡ end) }
-    ensures reads { OnlyReads (F.device flash.old) (F.device flash.new) }
+    ensures ends { EndsAt (failed_by capsule_failure result) (F.device flash.old) (F.device flash.new) }
 {
     let size = flash.size();
     if end - at < HEADER as u32 {
@@ -83,7 +83,7 @@ fn check_maps(
     requires copy { bits ≤ 8 * length copy.now }
     ensures exact { result ≡ judge_maps erase.now copy.now bits payload_len regions.now }
     ensures payload { OnOk result (payload_len ≡ 4096 * count_before copy.now bits) }
-    ensures found { IfErr result IsFound }
+    ensures found { IfErr result (IsFound capsule_failure) }
 {
     if let Some(page) = unerased_copy(erase, copy, bits) {
         return Err(CapsuleFail::CopyNotErase(page));
@@ -111,10 +111,10 @@ fn pages_at<F: Flash>(
     requires few { header.now.map_bits ≤ 16384 }
     requires whole { header.now.map_bits % 16 ≡ 0 }
     requires inside { at + header.now.map_bits / 8 + header.now.map_bits / 8 + header.now.payload_len ≤ size_of (F.device flash.old) }
-    ensures exact { Answers (F.device flash.old) (F.device flash.new) result (judge_pages (now (F.device flash.old)) at header.now regions.now) }
+    ensures exact { Answers capsule_failure result (judge_pages (now (F.device flash.old)) at header.now regions.now) }
     ensures index { IfOk result (HasIndex (now (F.device flash.old))) }
     ensures bits { IfOk result (λ pages. pages.bits ≡ header.now.map_bits) }
-    ensures reads { OnlyReads (F.device flash.old) (F.device flash.new) }
+    ensures ends { EndsAt (failed_by capsule_failure result) (F.device flash.old) (F.device flash.new) }
 {
     // Places in a flash fit a u32, as its size does.
     let _size = flash.size();
@@ -151,13 +151,11 @@ pub fn judged<F: Flash, E: Engine>(
     requires size { IsBankSize (size_of (F.device flash.old)) }
     requires inside { place + len ≤ size_of (F.device flash.old) }
     requires valid { IsValidLayout layout.now (size_of (F.device flash.old)) }
-    ensures exact { Answers (F.device flash.old) (F.device flash.new) result
+    ensures exact { Answers capsule_failure result
         (judge_capsule (now (F.device flash.old)) place len bank layout.now fuses.now (E.accepts engine.now)) }
-    ensures signed { OnOk result (HasSigned (now (F.device flash.old)) place len bank layout.now fuses.now (E.accepts engine.now)) }
     ensures pages { IfOk result (λ c. HasIndex (now (F.device flash.old)) c.pages) }
     ensures regions { IfOk result (λ c. All (IsRegion layout.now (size_of (F.device flash.old))) c.manifest.regions) }
-    ensures within { IfOk result (λ c. c.length ≤ len) }
-    ensures reads { OnlyReads (F.device flash.old) (F.device flash.new) }
+    ensures ends { EndsAt (failed_by capsule_failure result) (F.device flash.old) (F.device flash.new) }
 {
     let signed = signed_at(flash, place, len, bank, layout, fuses, engine)?;
     let at = end_of(&signed.inner);

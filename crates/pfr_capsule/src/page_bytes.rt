@@ -2,7 +2,7 @@
 ghost use Rattle.std.specs.Prelude.{◌≡◌, ℕ, ◌+◌, ◌*◌, ◌≤◌, ◌++◌, List, All, OnOk, IfOk, IfErr};
 ghost use Rattle.pfr_flash.specs.Bytes.{blank};
 ghost use Rattle.pfr_flash.specs.FlashState.{now, size_of};
-ghost use Rattle.pfr_flash.specs.Reading.{OnlyReads, FailsReading};
+ghost use Rattle.pfr_flash.specs.Reading.{EndsAt, failed_by};
 ghost use Rattle.pfr_capsule.specs.PageBytes.{EndsInMap, page_bytes, region_bytes, is_coherent, incoherent_region};
 ghost use Rattle.pfr_capsule.specs.Pages.{HasIndex, IsPayloadInside};
 
@@ -27,8 +27,7 @@ fn feed_page<F: Flash, H: Digest>(
 ) -> Result<(), FlashFail>
     requires { IsPayloadInside (size_of (F.device flash.old)) page }
     ensures fed { (m : List ℕ) → H.holds hasher.old m → OnOk result (H.holds hasher.new (m ++ page_bytes (now (F.device flash.old)) page)) }
-    ensures reads { OnlyReads (F.device flash.old) (F.device flash.new) }
-    ensures failed { IfErr result (λ f. FailsReading f (F.device flash.old) (F.device flash.new)) }
+    ensures ends { EndsAt (failed_by (λ fail. Some fail) result) (F.device flash.old) (F.device flash.new) }
 {
     let mut bytes = blank_page();
     match page {
@@ -51,8 +50,7 @@ fn feed_region<F: Flash, H: Digest>(
     requires index { HasIndex (now (F.device flash.old)) pages.now }
     requires inside { EndsInMap pages.now region.now }
     ensures fed { (m : List ℕ) → H.holds hasher.old m → OnOk result (H.holds hasher.new (m ++ region_bytes (now (F.device flash.old)) pages.now region.now)) }
-    ensures reads { OnlyReads (F.device flash.old) (F.device flash.new) }
-    ensures failed { IfErr result (λ f. FailsReading f (F.device flash.old) (F.device flash.new)) }
+    ensures ends { EndsAt (failed_by (λ fail. Some fail) result) (F.device flash.old) (F.device flash.new) }
 {
     for n in region.start / PAGE..region.end / PAGE {
         let page = pages.page(flash, n)?;
@@ -68,8 +66,7 @@ fn is_coherent<F: Flash>(flash: &mut F, pages: &Pages, region: &Region) -> Resul
     requires index { HasIndex (now (F.device flash.old)) pages.now }
     requires inside { EndsInMap pages.now region.now }
     ensures exact { IfOk result (λ matches. matches ≡ is_coherent (now (F.device flash.old)) pages.now region.now) }
-    ensures reads { OnlyReads (F.device flash.old) (F.device flash.new) }
-    ensures failed { IfErr result (λ f. FailsReading f (F.device flash.old) (F.device flash.new)) }
+    ensures ends { EndsAt (failed_by (λ fail. Some fail) result) (F.device flash.old) (F.device flash.new) }
 {
     match region.hash {
         RegionHash::None => Ok(true),
@@ -96,8 +93,7 @@ pub fn incoherent_region<F: Flash>(
     requires index { HasIndex (now (F.device flash.old)) pages.now }
     requires inside { All (EndsInMap pages.now) regions.now }
     ensures exact { IfOk result (λ found. found ≡ incoherent_region (now (F.device flash.old)) pages.now regions.now) }
-    ensures reads { OnlyReads (F.device flash.old) (F.device flash.new) }
-    ensures failed { IfErr result (λ f. FailsReading f (F.device flash.old) (F.device flash.new)) }
+    ensures ends { EndsAt (failed_by (λ fail. Some fail) result) (F.device flash.old) (F.device flash.new) }
 {
     for k in 0..regions.len() {
         if !is_coherent(flash, pages, regions.get(k))? {

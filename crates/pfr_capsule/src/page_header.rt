@@ -1,9 +1,8 @@
 // The page-block header of a capsule.
-ghost use Rattle.std.specs.Prelude.{◌≡◌, ◌+◌, ◌≤◌, length};
-ghost use Rattle.pfr_chain.specs.Fields.{number_at};
+ghost use Rattle.std.specs.Prelude.{◌≡◌};
 ghost use Rattle.pfr_capsule.specs.PageHeader.{page_header_of, has_constants};
 
-use byteorder::{ByteOrder, LittleEndian};
+use pfr_flash::number_at;
 
 /// How many bytes a header has.
 pub const HEADER: usize = 128;
@@ -20,15 +19,6 @@ pub struct PageHeader {
     pub payload_len: u32,
 }
 
-// the number in the four bytes at a place, the lowest first
-#[tactic(auto, using(crate::proofs::Fields::slice_is), unfolding(pfr_chain::specs::Fields::number_at))]
-fn number(bytes: &[u8; HEADER], at: usize) -> u32
-    requires { at + 4 ≤ 128 }
-    ensures { result ≡ number_at bytes.now at }
-{
-    LittleEndian::read_u32(&bytes[at..at + 4])
-}
-
 impl PageHeader {
     /// What the bytes of a header say.
     #[tactic(auto, unfolding(crate::specs::PageHeader::page_header_of))]
@@ -36,13 +26,13 @@ impl PageHeader {
         ensures { result ≡ page_header_of bytes.now }
     {
         PageHeader {
-            magic: number(bytes, 0),
-            version: number(bytes, 4),
-            page_size: number(bytes, 8),
-            pattern_size: number(bytes, 12),
-            pattern: number(bytes, 16),
-            map_bits: number(bytes, 20),
-            payload_len: number(bytes, 24),
+            magic: number_at(bytes, 0),
+            version: number_at(bytes, 4),
+            page_size: number_at(bytes, 8),
+            pattern_size: number_at(bytes, 12),
+            pattern: number_at(bytes, 16),
+            map_bits: number_at(bytes, 20),
+            payload_len: number_at(bytes, 24),
         }
     }
 

@@ -1,7 +1,7 @@
 // The pages of a capsule, as they lie in a flash.
 ghost use Rattle.std.specs.Prelude.{◌≡◌, ◌+◌, ◌*◌, ◌<◌, ◌≤◌, if◌then◌else◌, Some, None, length, IfOk, IfErr};
 ghost use Rattle.pfr_flash.specs.FlashState.{now, size_of, raised_by};
-ghost use Rattle.pfr_flash.specs.Reading.{OnlyReads, FailsReading};
+ghost use Rattle.pfr_flash.specs.Reading.{EndsAt, failed_by};
 ghost use Rattle.pfr_capsule.specs.Maps.{map_bit, count_before, copied_before};
 ghost use Rattle.pfr_capsule.specs.Pages.{HasIndex, IsPayloadInside, erase_map, copy_map, page_of};
 
@@ -45,8 +45,7 @@ impl Pages {
         ensures found { IfOk result (λ page. page ≡ page_of (now (F.device flash.old)) self.now n) }
         ensures payload { IfOk result (λ page. IsPayloadInside (size_of (F.device flash.old)) page) }
         ensures taken { (F.device flash.new).taken ≤ raised_by (F.device flash.old).taken 16 }
-        ensures reads { OnlyReads (F.device flash.old) (F.device flash.new) }
-        ensures failed { IfErr result (λ f. FailsReading f (F.device flash.old) (F.device flash.new)) }
+        ensures ends { EndsAt (failed_by (λ fail. Some fail) result) (F.device flash.old) (F.device flash.new) }
     {
         if !self.is_erased(flash, n)? {
             return Ok(Page::Keep);
@@ -64,8 +63,7 @@ impl Pages {
         requires inside { n < self.now.bits }
         ensures found { IfOk result (λ erased. erased ≡ map_bit (erase_map (now (F.device flash.old)) self.now) n) }
         ensures taken { (F.device flash.new).taken ≤ raised_by (F.device flash.old).taken 1 }
-        ensures reads { OnlyReads (F.device flash.old) (F.device flash.new) }
-        ensures failed { IfErr result (λ f. FailsReading f (F.device flash.old) (F.device flash.new)) }
+        ensures ends { EndsAt (failed_by (λ fail. Some fail) result) (F.device flash.old) (F.device flash.new) }
     {
         let mut byte = [0; 1];
         flash.read(self.erase_at + n / 8, &mut byte)?;
@@ -79,8 +77,7 @@ impl Pages {
         requires inside { n < self.now.bits }
         ensures found { IfOk result (λ count. count ≡ copied_before (copy_map (now (F.device flash.old)) self.now) n) }
         ensures taken { (F.device flash.new).taken ≤ raised_by (F.device flash.old).taken 8 }
-        ensures reads { OnlyReads (F.device flash.old) (F.device flash.new) }
-        ensures failed { IfErr result (λ f. FailsReading f (F.device flash.old) (F.device flash.new)) }
+        ensures ends { EndsAt (failed_by (λ fail. Some fail) result) (F.device flash.old) (F.device flash.new) }
     {
         let mut stretch = [0; 8];
         let len = n / 8 % 8 + 1;

@@ -2,9 +2,10 @@
 ghost use Rattle.std.specs.Prelude.{◌≡◌, ◌+◌, ◌^◌, ◌<◌, ◌≤◌, IfOk};
 ghost use Rattle.pfr_flash.specs.FlashState.{now, size_of};
 ghost use Rattle.pfr_flash.specs.Layout.{IsValidLayout};
-ghost use Rattle.pfr_flash.specs.Reading.{OnlyReads};
+ghost use Rattle.pfr_flash.specs.Reading.{EndsAt, failed_by};
 ghost use Rattle.pfr_manifest.specs.Regions.{IsRegion};
-ghost use Rattle.pfr_capsule.specs.Answer.{Answers};
+ghost use Rattle.pfr_flash.specs.Answer.{Answers};
+ghost use Rattle.pfr_capsule.specs.Answer.{capsule_failure};
 ghost use Rattle.pfr_capsule.specs.Signed.{IsSigned, IsCapsuleChain, IsInnerChain, end_of, key_of};
 ghost use Rattle.pfr_capsule.specs.SignedJudge.{judge_capsule_chain, judge_inner_chain, judge_signed};
 
@@ -35,8 +36,8 @@ fn capsule_chain<F: Flash, E: Engine>(
     requires { place + len ≤ size_of (F.device flash.old) }
     ensures ok { IfOk result (IsCapsuleChain (now (F.device flash.old)) place len bank fuses.now (E.accepts engine.now)) }
     ensures within { IfOk result (λ chain. end_of chain ≤ place + len) }
-    ensures exact { Answers (F.device flash.old) (F.device flash.new) result (judge_capsule_chain (now (F.device flash.old)) place len bank fuses.now (E.accepts engine.now)) }
-    ensures reads { OnlyReads (F.device flash.old) (F.device flash.new) }
+    ensures exact { Answers capsule_failure result (judge_capsule_chain (now (F.device flash.old)) place len bank fuses.now (E.accepts engine.now)) }
+    ensures ends { EndsAt (failed_by capsule_failure result) (F.device flash.old) (F.device flash.new) }
 {
     let ty = bank.capsule_type();
     let root = &fuses.provision().root;
@@ -57,8 +58,8 @@ fn inner_chain<F: Flash, E: Engine>(
     requires { end_of capsule.now ≤ size_of (F.device flash.old) }
     ensures ok { IfOk result (IsInnerChain (now (F.device flash.old)) bank layout.now fuses.now (E.accepts engine.now) capsule.now) }
     ensures within { IfOk result (λ chain. end_of chain ≤ end_of capsule.now) }
-    ensures exact { Answers (F.device flash.old) (F.device flash.new) result (judge_inner_chain (now (F.device flash.old)) bank layout.now fuses.now (E.accepts engine.now) capsule.now) }
-    ensures reads { OnlyReads (F.device flash.old) (F.device flash.new) }
+    ensures exact { Answers capsule_failure result (judge_inner_chain (now (F.device flash.old)) bank layout.now fuses.now (E.accepts engine.now) capsule.now) }
+    ensures ends { EndsAt (failed_by capsule_failure result) (F.device flash.old) (F.device flash.new) }
 {
     let ty = bank.manifest_type();
     let len = capsule.length.min(layout.manifest_len);
@@ -98,10 +99,10 @@ pub fn signed_at<F: Flash, E: Engine>(
     requires inside { place + len ≤ size_of (F.device flash.old) }
     requires valid { IsValidLayout layout.now (size_of (F.device flash.old)) }
     ensures ok { IfOk result (IsSigned (now (F.device flash.old)) place len bank layout.now fuses.now (E.accepts engine.now)) }
-    ensures exact { Answers (F.device flash.old) (F.device flash.new) result (judge_signed (now (F.device flash.old)) place len bank layout.now fuses.now (E.accepts engine.now)) }
+    ensures exact { Answers capsule_failure result (judge_signed (now (F.device flash.old)) place len bank layout.now fuses.now (E.accepts engine.now)) }
     ensures within { IfOk result (λ signed. end_of signed.capsule ≤ place + len) }
     ensures inner { IfOk result (λ signed. end_of signed.inner ≤ end_of signed.capsule) }
-    ensures reads { OnlyReads (F.device flash.old) (F.device flash.new) }
+    ensures ends { EndsAt (failed_by capsule_failure result) (F.device flash.old) (F.device flash.new) }
 {
     let capsule = capsule_chain(flash, place, len, bank, fuses, engine)?;
     let inner = inner_chain(flash, bank, layout, fuses, engine, &capsule)?;

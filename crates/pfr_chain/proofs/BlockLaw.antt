@@ -5,7 +5,7 @@ use Rattle.std.proofs.lemmas.Bool.Decides.{Decides-eqb, Decides-ltb, Decides-and
 use Rattle.std.proofs.lemmas.Slice.Eq.{bytes_eq-Decides}
 use Rattle.pfr_flash.specs.Bytes.{bytes_at}
 use Rattle.pfr_flash.specs.declared.names.ContentType.{ContentType}
-use Rattle.pfr_chain.specs.Fields.{number_at}
+use Rattle.pfr_flash.specs.Numbers.{number_at}
 use Rattle.pfr_chain.specs.Types.{number_of, is_certificate}
 use Rattle.pfr_chain.specs.Block.{magic_of_block0, block_length, content_length, IsBlockLength}
 use Rattle.pfr_chain.specs.BlockJudge.{form_of, is_block_length, fits, judge_block0, judge_content}
@@ -13,7 +13,7 @@ use Rattle.pfr_chain.specs.declared.form.Form.{Form}
 use Rattle.pfr_chain.specs.declared.form.Form.TheVariants.{One, Two}
 use Rattle.pfr_chain.specs.declared.block0.Block0.{Block0}
 use Rattle.pfr_chain.specs.declared.fail.ChainFail.TheVariants.{Block0Magic, WrongType, BlockLength, Length}
-use Rattle.pfr_chain.proofs.Tests.{passed, passed_known, goes_on, Decides-le, Decides-true, Decides-only}
+use Rattle.pfr_flash.proofs.JudgingLemmas.{passed, passed_known, goes_on, Decides-le, Decides-true, Decides-only}
 
 -- what Block 0 says, where nothing is against it
 pub record IsBlock0 (head : List ℕ) (type : ContentType) (len : ℕ) (said : Block0) : Type 0 where

@@ -5,7 +5,7 @@ use Rattle.sha2.specs.Sha512.{sha384}
 use Rattle.pfr_flash.specs.Bytes.{bytes_at}
 use Rattle.pfr_flash.specs.declared.names.ContentType.{ContentType}
 use Rattle.pfr_engine.specs.Acceptance.{Acceptance}
-use Rattle.pfr_chain.specs.Fields.{number_at}
+use Rattle.pfr_flash.specs.Numbers.{number_at}
 use Rattle.pfr_chain.specs.Block.{magic_of_block1, head_at}
 use Rattle.pfr_chain.specs.Chain.{IsBlock1, IsChain}
 use Rattle.pfr_chain.specs.BlockJudge.{judge_block0, judge_content}
@@ -15,7 +15,7 @@ use Rattle.pfr_chain.specs.declared.form.Form.TheVariants.{One, Two}
 use Rattle.pfr_chain.specs.declared.block0.Block0.{Block0}
 use Rattle.pfr_chain.specs.declared.fail.ChainFail.TheVariants.{ShortBlock}
 use Rattle.pfr_chain.specs.declared.judging.Chain.{Chain}
-use Rattle.pfr_chain.proofs.Tests.{passed, passed_part, passed_unit, goes_on, Decides-le}
+use Rattle.pfr_flash.proofs.JudgingLemmas.{passed, passed_part, passed_unit, goes_on, Decides-le}
 use Rattle.pfr_chain.proofs.BlockLaw.{IsBlock0, block0_holds, block0_ends, content_holds, content_ends}
 use Rattle.pfr_chain.proofs.Form1Law.{form1_holds, form1_ends}
 use Rattle.pfr_chain.proofs.Form2Law.{form2_holds, form2_ends}

@@ -7,16 +7,16 @@ use Rattle.pfr_flash.specs.declared.names.ContentType.{ContentType}
 use Rattle.pfr_engine.specs.Acceptance.{Acceptance}
 use Rattle.pfr_engine.specs.Curves.{signature_magic}
 use Rattle.pfr_engine.specs.declared.engine.Curve.{Curve}
-use Rattle.pfr_chain.specs.Fields.{number_at}
+use Rattle.pfr_flash.specs.Numbers.{number_at}
 use Rattle.pfr_chain.specs.Types.{is_certificate}
 use Rattle.pfr_chain.specs.Keys.{public_key_at, signature_at, ask_of, MaySign}
 use Rattle.pfr_chain.specs.Form1.{IsRoot, IsKey, IsBlock0Entry, IsSignedBy, IsForm1}
 use Rattle.pfr_chain.specs.Form1Judge.{judge_use, judge_root, judge_key, judge_block0_entry, judge_signatures, judge_form1}
-use Rattle.pfr_chain.specs.Judging.{◌>>=◌, ◌>>◌}
+use Rattle.pfr_flash.specs.Judging.{◌>>=◌, ◌>>◌}
 use Rattle.pfr_chain.specs.declared.public_key.PublicKey.{PublicKey}
 use Rattle.pfr_chain.specs.declared.signature.Signature.{Signature}
 use Rattle.pfr_chain.specs.declared.fail.ChainFail.TheVariants.{KeyEntry, KeySignature}
-use Rattle.pfr_chain.proofs.Tests.{passed, passed_part, passed_unit, goes_on, Decides-true}
+use Rattle.pfr_flash.proofs.JudgingLemmas.{passed, passed_part, passed_unit, goes_on, Decides-true}
 
 pub use_holds : (key_id permissions : ℕ) (type : ContentType) (row : List ℕ) → judge_use key_id permissions type row ≡ Ok tt → MaySign key_id permissions type row
 unfolding judge_use

@@ -5,15 +5,15 @@ use Rattle.std.proofs.lemmas.Slice.Eq.{bytes_eq-Decides}
 use Rattle.pfr_flash.specs.Bytes.{bytes_at}
 use Rattle.pfr_flash.specs.declared.names.ContentType.{ContentType}
 use Rattle.pfr_engine.specs.Acceptance.{Acceptance}
-use Rattle.pfr_chain.specs.Fields.{number_at}
+use Rattle.pfr_flash.specs.Numbers.{number_at}
 use Rattle.pfr_chain.specs.Types.{is_certificate}
 use Rattle.pfr_chain.specs.Form2.{key_of, key_end, signature_of, signature_end, scheme_of, IsLength, IsLongRoot, HasSignature, IsLongKey, IsLongEntry, IsLongSignedBy, IsForm2}
 use Rattle.pfr_chain.specs.Form1Judge.{judge_use}
 use Rattle.pfr_chain.specs.Form2Judge.{is_key_length, has_signature, is_root_entry, judge_long_root, judge_long_key, judge_long_entry, judge_long_signatures, judge_form2}
-use Rattle.pfr_chain.specs.Judging.{◌>>=◌, ◌>>◌}
+use Rattle.pfr_flash.specs.Judging.{◌>>=◌, ◌>>◌}
 use Rattle.pfr_chain.specs.declared.form2.KeyPlace.{KeyPlace}
 use Rattle.pfr_chain.specs.declared.fail.ChainFail.TheVariants.{KeyEntry, KeySignature}
-use Rattle.pfr_chain.proofs.Tests.{passed, passed_part, passed_unit, goes_on, Decides-true}
+use Rattle.pfr_flash.proofs.JudgingLemmas.{passed, passed_part, passed_unit, goes_on, Decides-true}
 use Rattle.pfr_chain.proofs.Form1Law.{use_holds, use_ends}
 
 key_length_holds : (n : ℕ) → is_key_length n ≡ true → IsLength 4 256 n

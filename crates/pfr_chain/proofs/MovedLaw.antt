@@ -5,11 +5,11 @@ use Rattle.sha2.specs.Sha512.{sha384}
 use Rattle.pfr_flash.specs.Bytes.{bytes_at}
 use Rattle.pfr_flash.specs.declared.names.ContentType.{ContentType}
 use Rattle.pfr_engine.specs.Acceptance.{Acceptance}
-use Rattle.pfr_chain.specs.Fields.{number_at}
+use Rattle.pfr_flash.specs.Numbers.{number_at}
 use Rattle.pfr_chain.specs.Block.{block_length, head_at, content_length, BlockAt}
 use Rattle.pfr_chain.specs.Chain.{IsBlock1, IsChain}
 use Rattle.pfr_chain.specs.declared.judging.Chain.{Chain}
-use Rattle.pfr_chain.proofs.Parts.{same_part, same_front}
+use Rattle.pfr_flash.proofs.PartsLemmas.{same_part, same_front}
 
 -- the chain with its content counted from another place
 abbrev pub moved : ℕ → ℕ → Chain → Chain

@@ -1,14 +1,12 @@
 -- Types of content and their numbers.
-use Rattle.std.proofs.Common.{◌≡◌, ℕ, ◌+◌, ◌≤◌, List, Some, refl, ap, ◌∙◌, sym, arith}
+use Rattle.std.proofs.Common.{◌≡◌, ℕ, ◌+◌, List, Some, refl, ap, ◌∙◌, sym, arith}
 use Rattle.std.proofs.lemmas.Bool.Decides.{nat_tests}
-use Rattle.pfr_flash.specs.Bytes.{bytes_at}
 use Rattle.pfr_flash.specs.declared.names.ContentType.{ContentType}
 use Rattle.pfr_flash.specs.declared.names.ContentType.TheVariants.{PchManifest, PchCapsule, BmcManifest, BmcCapsule, Controller, PchManifestCancel, PchCapsuleCancel, BmcManifestCancel, BmcCapsuleCancel}
-use Rattle.byteorder.specs.Endian.{little_number}
-use Rattle.pfr_chain.specs.Fields.{number_at}
+use Rattle.pfr_flash.specs.Numbers.{number_at}
 use Rattle.pfr_chain.specs.Types.{number_of, type_of}
 use Rattle.pfr_chain.specs.Block.{BlockAt}
-use Rattle.pfr_chain.proofs.Parts.{part_of}
+use Rattle.pfr_flash.proofs.PartsLemmas.{number_in_part}
 
 -- each type is that of its number, and of no other
 pub type_of-number_of : (type : ContentType) → type_of (number_of type) ≡ Some type
@@ -26,11 +24,6 @@ type_of-number_of BmcCapsuleCancel = refl
 pub number_of-type_of : (number : ℕ) (type : ContentType) → type_of number ≡ Some type → number ≡ number_of type
 unfolding type_of
 number_of-type_of number type h = grind (arith, nat_tests)
-
--- a number inside of a part
-pub number_in_part : (bytes : List ℕ) (at count off : ℕ) → off + 4 ≤ count → number_at (bytes_at bytes at count) off ≡ number_at bytes (at + off)
-unfolding number_at
-number_in_part bytes at count off fits = ap (little_number 4) (part_of bytes at count off 4 fits)
 
 -- a block's type is the one that its number names
 pub BlockAt-type : (image : List ℕ) (place len : ℕ) (type : ContentType) (blen : ℕ) → BlockAt image place len type blen → type_of (number_at image (place + 8)) ≡ Some type

@@ -4,7 +4,7 @@ use Rattle.sha2.specs.Sha256.{sha256}
 use Rattle.sha2.specs.Sha512.{sha384}
 use Rattle.pfr_flash.specs.Bytes.{bytes_at}
 use Rattle.pfr_flash.specs.declared.names.ContentType.{ContentType}
-use Rattle.pfr_chain.specs.Fields.{number_at}
+use Rattle.pfr_flash.specs.Numbers.{number_at}
 use Rattle.pfr_chain.specs.Types.{number_of, is_certificate}
 use Rattle.pfr_chain.specs.declared.form.Form.{Form}
 use Rattle.pfr_chain.specs.declared.form.Form.TheVariants.{One, Two}

@@ -3,10 +3,10 @@ use Rattle.std.specs.Prelude.{ℕ, ◌-◌, ◌%◌, ◌==◌, ◌&&◌, ◌||�
 use Rattle.std.specs.Str.{bytes_eq}
 use Rattle.pfr_flash.specs.Bytes.{bytes_at}
 use Rattle.pfr_flash.specs.declared.names.ContentType.{ContentType}
-use Rattle.pfr_chain.specs.Fields.{number_at}
+use Rattle.pfr_flash.specs.Numbers.{number_at}
 use Rattle.pfr_chain.specs.Types.{number_of, is_certificate}
 use Rattle.pfr_chain.specs.Block.{block_length, content_length}
-use Rattle.pfr_chain.specs.Judging.{◌>>=◌, ◌>>◌, require, known}
+use Rattle.pfr_flash.specs.Judging.{◌>>=◌, ◌>>◌, require, known}
 use Rattle.pfr_chain.specs.declared.form.Form.{Form}
 use Rattle.pfr_chain.specs.declared.form.Form.TheVariants.{One, Two}
 use Rattle.pfr_chain.specs.declared.block0.Block0.{Block0}

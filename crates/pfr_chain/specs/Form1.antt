@@ -6,7 +6,7 @@ use Rattle.pfr_flash.specs.declared.names.ContentType.{ContentType}
 use Rattle.pfr_engine.specs.Acceptance.{Acceptance}
 use Rattle.pfr_engine.specs.Curves.{curve_of, signature_magic}
 use Rattle.pfr_engine.specs.declared.engine.Curve.{Curve}
-use Rattle.pfr_chain.specs.Fields.{number_at}
+use Rattle.pfr_flash.specs.Numbers.{number_at}
 use Rattle.pfr_chain.specs.Types.{is_certificate}
 use Rattle.pfr_chain.specs.Keys.{public_key_at, signature_at, ask_of, any, MaySign}
 use Rattle.pfr_chain.specs.declared.public_key.PublicKey.{PublicKey}

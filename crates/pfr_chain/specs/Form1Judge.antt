@@ -9,10 +9,10 @@ use Rattle.pfr_flash.specs.declared.names.ContentType.{ContentType}
 use Rattle.pfr_engine.specs.Acceptance.{Acceptance}
 use Rattle.pfr_engine.specs.Curves.{curve_of, signature_magic}
 use Rattle.pfr_engine.specs.declared.engine.Curve.{Curve}
-use Rattle.pfr_chain.specs.Fields.{number_at}
+use Rattle.pfr_flash.specs.Numbers.{number_at}
 use Rattle.pfr_chain.specs.Types.{is_certificate, permission_of}
 use Rattle.pfr_chain.specs.Keys.{public_key_at, signature_at, ask_of, any}
-use Rattle.pfr_chain.specs.Judging.{◌>>=◌, ◌>>◌, require, known}
+use Rattle.pfr_flash.specs.Judging.{◌>>=◌, ◌>>◌, require, known}
 use Rattle.pfr_chain.specs.declared.public_key.PublicKey.{PublicKey}
 use Rattle.pfr_chain.specs.declared.signature.Signature.{Signature}
 use Rattle.pfr_chain.specs.declared.fail.ChainFail.{ChainFail}

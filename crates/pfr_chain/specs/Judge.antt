@@ -6,7 +6,7 @@ use Rattle.pfr_flash.specs.Bytes.{bytes_at}
 use Rattle.pfr_flash.specs.declared.names.ContentType.{ContentType}
 use Rattle.pfr_engine.specs.Acceptance.{Acceptance}
 use Rattle.pfr_chain.specs.Block.{head_at}
-use Rattle.pfr_chain.specs.Judging.{◌>>=◌, ◌>>◌, require}
+use Rattle.pfr_flash.specs.Judging.{◌>>=◌, ◌>>◌, require}
 use Rattle.pfr_chain.specs.BlockJudge.{judge_block0, judge_content}
 use Rattle.pfr_chain.specs.Form1Judge.{judge_form1}
 use Rattle.pfr_chain.specs.Form2Judge.{judge_form2}

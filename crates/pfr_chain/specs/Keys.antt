@@ -11,7 +11,7 @@ use Rattle.pfr_engine.specs.declared.engine.Curve.{Curve}
 use Rattle.pfr_engine.specs.declared.engine.Curve.TheVariants.{C256, C384}
 use Rattle.pfr_engine.specs.declared.engine.Digest.{Digest}
 use Rattle.pfr_engine.specs.declared.engine.Digest.TheVariants.{D256, D384}
-use Rattle.pfr_chain.specs.Fields.{number_at}
+use Rattle.pfr_flash.specs.Numbers.{number_at}
 use Rattle.pfr_chain.specs.Types.{permission_of}
 use Rattle.pfr_chain.specs.declared.public_key.PublicKey.{PublicKey}
 use Rattle.pfr_chain.specs.declared.signature.Signature.{Signature}

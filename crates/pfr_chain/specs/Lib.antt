@@ -1,13 +1,11 @@
 pub use Rattle.pfr_engine.specs.Acceptance
 pub use Rattle.pfr_engine.specs.Curves
-pub mod Fields
 pub mod Types
 pub mod Keys
 pub mod Block
 pub mod Form1
 pub mod Form2
 pub mod Chain
-pub mod Judging
 pub mod BlockJudge
 pub mod Form1Judge
 pub mod Form2Judge

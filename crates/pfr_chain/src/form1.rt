@@ -1,16 +1,16 @@
 // Block 1 of form 1, whose keys lie on a curve.
 ghost use Rattle.std.specs.Prelude.{◌≡◌, ◌+◌, ◌≤◌, length, OnOk, IfErr};
-ghost use Rattle.pfr_chain.specs.Answer.{IsFound};
+ghost use Rattle.pfr_flash.specs.Answer.{IsFound};
+ghost use Rattle.pfr_chain.specs.Answer.{chain_failure};
 ghost use Rattle.pfr_chain.specs.Form1Judge.{judge_use, judge_root, judge_key, judge_block0_entry, judge_signatures, judge_form1};
 
 use crate::block0::BLOCK0;
 use crate::fail::ChainFail;
-use crate::fields::{number, part};
 use crate::public_key::PublicKey;
 use crate::signature::Signature;
 use crate::types::{cancels, permission_bit};
 use pfr_engine::{Curve, Engine, curve_from};
-use pfr_flash::{ContentType, FuseRow};
+use pfr_flash::{ContentType, FuseRow, number_at, part};
 use sha2::{Digest, Sha256};
 
 const ROOT_AT: usize = 144;
@@ -34,7 +34,7 @@ pub fn check_use(
 ) -> Result<(), ChainFail>
     ensures exact { result ≡ judge_use key_id permissions want cancelled.now }
     ensures id { OnOk result (key_id ≤ 255) }
-    ensures found { IfErr result IsFound }
+    ensures found { IfErr result (IsFound chain_failure) }
 {
     if key_id > 255 {
         return Err(ChainFail::KeyId);
@@ -53,9 +53,9 @@ pub fn check_use(
 fn root_curve(block: &[u8], root: &[u8; 32]) -> Result<Curve, ChainFail>
     requires { length block.now ≡ 1024 }
     ensures exact { result ≡ judge_root block.now root.now }
-    ensures found { IfErr result IsFound }
+    ensures found { IfErr result (IsFound chain_failure) }
 {
-    if number(block, BLOCK0) != 0xF27F_28D7 {
+    if number_at(block, BLOCK0) != 0xF27F_28D7 {
         return Err(ChainFail::Block1Magic);
     }
     let key = PublicKey::read(block, ROOT_AT);
@@ -84,7 +84,7 @@ fn key_id<E: Engine>(
 ) -> Result<u8, ChainFail>
     requires { length block.now ≡ 1024 }
     ensures exact { result ≡ judge_key block.now want curve cancelled.now (E.accepts engine.now) }
-    ensures found { IfErr result IsFound }
+    ensures found { IfErr result (IsFound chain_failure) }
 {
     let root = PublicKey::read(block, ROOT_AT);
     let key = PublicKey::read(block, KEY_AT);
@@ -115,11 +115,11 @@ fn check_block0_entry<E: Engine>(
     requires place { at + 104 ≤ 1024 }
     requires long { length block.now ≡ 1024 }
     ensures exact { result ≡ judge_block0_entry block.now at curve key.now (E.accepts engine.now) }
-    ensures found { IfErr result IsFound }
+    ensures found { IfErr result (IsFound chain_failure) }
 {
     let message = part(block, 0, BLOCK0);
     let signature = Signature::read(block, at + 4);
-    if number(block, at) != 0x1536_4367 || signature.magic != curve.signature_magic() {
+    if number_at(block, at) != 0x1536_4367 || signature.magic != curve.signature_magic() {
         return Err(ChainFail::Block0Entry);
     }
     if !engine.check(&signature.ask(curve, key, message)) {
@@ -139,7 +139,7 @@ fn signer<E: Engine>(
 ) -> Result<Option<u8>, ChainFail>
     requires { length block.now ≡ 1024 }
     ensures exact { result ≡ judge_signatures block.now want curve cancelled.now (E.accepts engine.now) }
-    ensures found { IfErr result IsFound }
+    ensures found { IfErr result (IsFound chain_failure) }
 {
     if cancels(want) {
         let root = PublicKey::read(block, ROOT_AT);
@@ -163,7 +163,7 @@ pub fn signing_key<E: Engine>(
 ) -> Result<Option<u8>, ChainFail>
     requires { length block.now ≡ 1024 }
     ensures exact { result ≡ judge_form1 block.now want root.now cancelled.now (E.accepts engine.now) }
-    ensures found { IfErr result IsFound }
+    ensures found { IfErr result (IsFound chain_failure) }
 {
     let curve = root_curve(block, root)?;
     signer(block, want, curve, cancelled, engine)

@@ -1,17 +1,17 @@
 // Block 1 of form 2, whose keys and signatures have lengths of their own.
 ghost use Rattle.std.specs.Prelude.{◌≡◌, ◌+◌, ◌≤◌, length, IsTrue, IfOk, IfErr};
-ghost use Rattle.pfr_chain.specs.Answer.{IsFound};
-ghost use Rattle.pfr_chain.specs.Fields.{number_at};
+ghost use Rattle.pfr_flash.specs.Answer.{IsFound};
+ghost use Rattle.pfr_chain.specs.Answer.{chain_failure};
+ghost use Rattle.pfr_flash.specs.Numbers.{number_at};
 ghost use Rattle.pfr_chain.specs.Form2.{key_of, key_end, signature_of, signature_end, scheme_of, root_hash};
 ghost use Rattle.pfr_chain.specs.Form2Judge.{is_key_length, has_signature, is_root_entry, judge_long_root, judge_long_key, judge_long_entry, judge_long_signatures, judge_form2};
 
 use crate::block0::BLOCK0;
 use crate::fail::ChainFail;
-use crate::fields::{number, part};
 use crate::form1::{ANY, check_use};
 use crate::types::cancels;
 use pfr_engine::Engine;
-use pfr_flash::{ContentType, FuseRow};
+use pfr_flash::{ContentType, FuseRow, number_at, part};
 use sha2::{Digest, Sha256};
 
 const ROOT_AT: usize = 144;
@@ -31,7 +31,7 @@ fn key_end(block: &[u8], at: usize) -> usize
     requires within { at + 20 ≤ length block.now }
     ensures { result ≡ key_end block.now at }
 {
-    at + 20 + number(block, at + 16) as usize
+    at + 20 + number_at(block, at + 16) as usize
 }
 
 // the key of an entry
@@ -40,7 +40,7 @@ fn key_of(block: &[u8], at: usize) -> &[u8]
     requires within { key_end block.now at ≤ length block.now }
     ensures { result.now ≡ key_of block.now at }
 {
-    part(block, at + 20, number(block, at + 16) as usize)
+    part(block, at + 20, number_at(block, at + 16) as usize)
 }
 
 // where the signature at a place ends
@@ -49,7 +49,7 @@ fn signature_end(block: &[u8], at: usize) -> usize
     requires within { at + 4 ≤ length block.now }
     ensures { result ≡ signature_end block.now at }
 {
-    at + 4 + number(block, at) as usize
+    at + 4 + number_at(block, at) as usize
 }
 
 // the signature at a place
@@ -58,7 +58,7 @@ fn signature_of(block: &[u8], at: usize) -> &[u8]
     requires within { signature_end block.now at ≤ length block.now }
     ensures { result.now ≡ signature_of block.now at }
 {
-    part(block, at + 4, number(block, at) as usize)
+    part(block, at + 4, number_at(block, at) as usize)
 }
 
 fn is_key_length(count: u32) -> bool
@@ -75,7 +75,7 @@ fn has_signature(block: &[u8], at: usize) -> bool
     ensures exact { result ≡ has_signature block.now at }
     ensures within { IsTrue result → signature_end block.now at ≤ length block.now }
 {
-    let count = number(block, at);
+    let count = number_at(block, at);
     count >= 4 && count <= 8000 && count % 4 == 0 && signature_end(block, at) <= block.len()
 }
 
@@ -87,10 +87,10 @@ fn is_root_entry(block: &[u8]) -> bool
     ensures most { IsTrue result → key_end block.now 144 ≤ 420 }
     ensures within { IsTrue result → key_end block.now 144 ≤ length block.now }
 {
-    number(block, ROOT_AT) == 0xA757_A047
-        && number(block, ROOT_AT + 4) == ANY
-        && number(block, ROOT_AT + 8) == ANY
-        && is_key_length(number(block, ROOT_AT + 16))
+    number_at(block, ROOT_AT) == 0xA757_A047
+        && number_at(block, ROOT_AT + 4) == ANY
+        && number_at(block, ROOT_AT + 8) == ANY
+        && is_key_length(number_at(block, ROOT_AT + 16))
         && key_end(block, ROOT_AT) <= block.len()
 }
 
@@ -115,9 +115,9 @@ fn root_end(block: &[u8], root: &[u8; 32]) -> Result<usize, ChainFail>
     ensures exact { result ≡ judge_long_root block.now root.now }
     ensures end { IfOk result (λ end. end ≡ key_end block.now 144) }
     ensures most { IfOk result (λ end. end ≤ 420) }
-    ensures found { IfErr result IsFound }
+    ensures found { IfErr result (IsFound chain_failure) }
 {
-    if number(block, BLOCK0) != 0xF27F_28D8 {
+    if number_at(block, BLOCK0) != 0xF27F_28D8 {
         return Err(ChainFail::Block1Magic);
     }
     if !is_root_entry(block) {
@@ -145,12 +145,12 @@ fn key_place<E: Engine>(
     ensures exact { result ≡ judge_long_key block.now at want cancelled.now (E.accepts engine.now) }
     ensures key { IfOk result (λ _. key_end block.now at ≤ length block.now) }
     ensures end { IfOk result (λ key. key.end ≤ length block.now) }
-    ensures found { IfErr result IsFound }
+    ensures found { IfErr result (IsFound chain_failure) }
 {
-    let scheme = number(block, SCHEME_AT);
-    let count = number(block, at + 16);
-    if number(block, at) != 0x1471_1C30
-        || number(block, at + 12) != scheme
+    let scheme = number_at(block, SCHEME_AT);
+    let count = number_at(block, at + 16);
+    if number_at(block, at) != 0x1471_1C30
+        || number_at(block, at + 12) != scheme
         || !is_key_length(count)
     {
         return Err(ChainFail::KeyEntry);
@@ -159,8 +159,8 @@ fn key_place<E: Engine>(
     if !has_signature(block, signed) {
         return Err(ChainFail::KeyEntry);
     }
-    let id = number(block, at + 8);
-    check_use(id, number(block, at + 4), want, cancelled)?;
+    let id = number_at(block, at + 8);
+    check_use(id, number_at(block, at + 4), want, cancelled)?;
     let root = key_of(block, ROOT_AT);
     let message = part(block, at + 4, 16 + count as usize);
     if !engine.check_long(scheme, root, message, signature_of(block, signed)) {
@@ -179,11 +179,14 @@ fn check_entry<E: Engine>(block: &[u8], at: usize, key: &[u8], engine: &E) -> Re
     requires most { length block.now ≤ 8320 }
     requires place { at ≤ 8320 }
     ensures exact { result ≡ judge_long_entry block.now at key.now (E.accepts engine.now) }
-    ensures found { IfErr result IsFound }
+    ensures found { IfErr result (IsFound chain_failure) }
 {
     let message = part(block, 0, BLOCK0);
-    let scheme = number(block, SCHEME_AT);
-    if at + 8 > block.len() || number(block, at) != 0x1536_4368 || !has_signature(block, at + 4) {
+    let scheme = number_at(block, SCHEME_AT);
+    if at + 8 > block.len()
+        || number_at(block, at) != 0x1536_4368
+        || !has_signature(block, at + 4)
+    {
         return Err(ChainFail::Block0Entry);
     }
     if !engine.check_long(scheme, key, message, signature_of(block, at + 4)) {
@@ -206,7 +209,7 @@ fn signer<E: Engine>(
     requires root { key_end block.now 144 ≤ length block.now }
     requires place { at ≤ 420 }
     ensures exact { result ≡ judge_long_signatures block.now at want cancelled.now (E.accepts engine.now) }
-    ensures found { IfErr result IsFound }
+    ensures found { IfErr result (IsFound chain_failure) }
 {
     if cancels(want) {
         check_entry(block, at, key_of(block, ROOT_AT), engine)?;
@@ -229,7 +232,7 @@ pub fn signing_key<E: Engine>(
     requires least { 1024 ≤ length block.now }
     requires most { length block.now ≤ 8320 }
     ensures exact { result ≡ judge_form2 block.now want root.now cancelled.now (E.accepts engine.now) }
-    ensures found { IfErr result IsFound }
+    ensures found { IfErr result (IsFound chain_failure) }
 {
     let at = root_end(block, root)?;
     signer(block, at, want, cancelled, engine)

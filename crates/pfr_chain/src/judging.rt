@@ -2,21 +2,21 @@
 ghost use Rattle.std.specs.Prelude.{◌≡◌, ◌+◌, ◌≤◌, length, IfOk, IfErr, Ok, Some};
 ghost use Rattle.pfr_flash.specs.FlashState.{now, size_of};
 ghost use Rattle.pfr_flash.specs.Reading.{EndsAt, failed_by};
-ghost use Rattle.pfr_chain.specs.Answer.{Answers, IsFound, chain_failure};
-ghost use Rattle.pfr_chain.specs.Fields.{number_at};
+ghost use Rattle.pfr_flash.specs.Answer.{Answers, IsFound};
+ghost use Rattle.pfr_chain.specs.Answer.{chain_failure};
+ghost use Rattle.pfr_flash.specs.Numbers.{number_at};
 ghost use Rattle.pfr_chain.specs.Types.{type_of};
 ghost use Rattle.pfr_chain.specs.Chain.{IsChain};
 ghost use Rattle.pfr_chain.specs.Judge.{judge, judge_block1};
 
 use crate::block0::{BLOCK0, LONGEST, SHORTEST, check_digests, read_block0};
 use crate::fail::ChainFail;
-use crate::fields::number;
 use crate::form::Form;
 use crate::hashing::digests_at;
 use crate::types::type_from;
 use crate::{form1, form2};
 use pfr_engine::Engine;
-use pfr_flash::{ContentType, Flash, FlashFail, FuseRow};
+use pfr_flash::{ContentType, Flash, FlashFail, FuseRow, number_at};
 
 /// Where a chain's content lies, and the id of the key that signed it: none for a certificate.
 #[derive(Clone, Copy, Debug, PartialEq, Eq)]
@@ -40,7 +40,7 @@ fn signing_key<E: Engine>(
     requires most { length block.now ≤ 8320 }
     requires form1 { form ≡ Form.One → length block.now ≡ 1024 }
     ensures exact { result ≡ judge_block1 form block.now want root.now cancelled.now (E.accepts engine.now) }
-    ensures found { IfErr result IsFound }
+    ensures found { IfErr result (IsFound chain_failure) }
 {
     match form {
         Form::One => form1::signing_key(block, want, root, cancelled, engine),
@@ -61,7 +61,7 @@ fn judged<F: Flash, E: Engine>(
 ) -> Result<Chain, ChainFail>
     requires { place + len ≤ size_of (F.device flash.old) }
     ensures exact { let image = now (F.device flash.old) in
-        Answers (F.device flash.old) (F.device flash.new) result (judge image place len want root.now cancelled.now (E.accepts engine.now)) }
+        Answers chain_failure result (judge image place len want root.now cancelled.now (E.accepts engine.now)) }
     ensures ends { EndsAt (failed_by chain_failure result) (F.device flash.old) (F.device flash.new) }
 {
     // Places in a flash fit a u32, as its size does.
@@ -106,20 +106,20 @@ pub fn verify<F: Flash, E: Engine>(
     // A chain is found, unless the device fails.
     ensures only { let image = now (F.device flash.old) in
         (chain : Chain) → IsChain image place len want root.now cancelled.now (E.accepts engine.now) chain →
-        Answers (F.device flash.old) (F.device flash.new) result (Ok chain) }
+        Answers chain_failure result (Ok chain) }
     // Its content is not empty, and lies within the length.
     ensures some { IfOk result (λ chain. 1 ≤ chain.length) }
     ensures within { IfOk result (λ chain. chain.content_at + chain.length ≤ place + len) }
     // Which cause it is: the first in order.
     ensures exact { let image = now (F.device flash.old) in
-        Answers (F.device flash.old) (F.device flash.new) result (judge image place len want root.now cancelled.now (E.accepts engine.now)) }
+        Answers chain_failure result (judge image place len want root.now cancelled.now (E.accepts engine.now)) }
     ensures ends { EndsAt (failed_by chain_failure result) (F.device flash.old) (F.device flash.new) }
 {
     judged(flash, place, len, want, root, cancelled, engine)
 }
 
 /// The type whose number stands in Block 0 at `place`, whatever its magic: none where no type has that number.
-#[tactic(auto, using(crate::proofs::Parts::number_at_part))]
+#[tactic(auto, using(pfr_flash::proofs::PartsLemmas::number_at_part))]
 pub fn content_type<F: Flash>(flash: &mut F, place: u32) -> Result<Option<ContentType>, FlashFail>
     requires { place + 128 ≤ size_of (F.device flash.old) }
     ensures exact { IfOk result (λ found. found ≡ type_of (number_at (now (F.device flash.old)) (place + 8))) }
@@ -129,5 +129,5 @@ pub fn content_type<F: Flash>(flash: &mut F, place: u32) -> Result<Option<Conten
     let _size = flash.size();
     let mut bytes = [0; 4];
     flash.read(place + 8, &mut bytes)?;
-    Ok(type_from(number(&bytes, 0)))
+    Ok(type_from(number_at(&bytes, 0)))
 }

@@ -4,7 +4,6 @@
 mod block0;
 mod both_hashers;
 mod fail;
-mod fields;
 mod form;
 mod form1;
 mod form2;
@@ -18,3 +17,5 @@ pub use fail::ChainFail;
 pub use hashing::{digest256_at, digest384_at};
 pub use judging::{Chain, content_type, verify};
 pub use pfr_engine::{Ask, Curve, Digest, Engine, EngineFail, EngineWhy, ListEngine, curve_from};
+pub use signature::digest_on;
+pub use types::type_number;

@@ -2,7 +2,7 @@
 ghost use Rattle.std.specs.Prelude.{◌≡◌, ◌+◌, ◌≤◌, length};
 ghost use Rattle.pfr_chain.specs.Keys.{public_key_at};
 
-use crate::fields::{array_at, number};
+use pfr_flash::{array_at, number_at};
 
 /// A key and what it may sign, as the root entry and the key entry have it.
 #[derive(Clone, Copy, Debug)]
@@ -22,10 +22,10 @@ impl PublicKey {
         ensures { result ≡ public_key_at bytes.now at }
     {
         PublicKey {
-            magic: number(bytes, at),
-            curve: number(bytes, at + 4),
-            permissions: number(bytes, at + 8),
-            key_id: number(bytes, at + 12),
+            magic: number_at(bytes, at),
+            curve: number_at(bytes, at + 4),
+            permissions: number_at(bytes, at + 8),
+            key_id: number_at(bytes, at + 12),
             x: array_at(bytes, at + 16),
             y: array_at(bytes, at + 64),
         }

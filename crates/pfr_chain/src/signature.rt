@@ -2,9 +2,9 @@
 ghost use Rattle.std.specs.Prelude.{◌≡◌, ◌+◌, ◌≤◌, length};
 ghost use Rattle.pfr_chain.specs.Keys.{signature_at, digest_on, ask_of};
 
-use crate::fields::{array_at, number};
 use crate::public_key::PublicKey;
 use pfr_engine::{Ask, Curve, Digest};
+use pfr_flash::{array_at, number_at};
 use sha2::{Digest as _, Sha256, Sha384};
 
 /// A signature, and the magic of its curve.
@@ -22,7 +22,7 @@ impl Signature {
         ensures { result ≡ signature_at bytes.now at }
     {
         Signature {
-            magic: number(bytes, at),
+            magic: number_at(bytes, at),
             r: array_at(bytes, at + 4),
             s: array_at(bytes, at + 52),
         }
@@ -43,8 +43,8 @@ impl Signature {
     }
 }
 
-// the digest that is signed on a curve
-fn digest_on(curve: Curve, message: &[u8]) -> Digest
+/// The digest that is signed on a curve: SHA-256 on P-256, SHA-384 on P-384.
+pub fn digest_on(curve: Curve, message: &[u8]) -> Digest
     ensures { result ≡ digest_on curve message.now }
 {
     match curve {

@@ -1,8 +1,6 @@
 -- What stays a list of bytes.
-use Rattle.std.proofs.Common.{◌≡◌, ℕ, zero, suc, ◌+◌, ◌*◌, ◌≤◌, ◌<◌, All, List, [], ◌∷◌, ◌++◌, length, get_or, take, drop, replicate, ⊎_elim, refl, arith, bit_and, bit_or, length-take, get_or-take, get_or-drop}
-use Rattle.std.proofs.lemmas.List.{get_or_past, length-replicate, get_or-replicate}
+use Rattle.std.proofs.Common.{ℕ, zero, suc, ◌*◌, ◌<◌, All, List, [], ◌∷◌, ◌++◌, length, take, drop, replicate, arith, bit_and}
 use Rattle.std.proofs.lemmas.List.Elements.{All-head, All-tail}
-use Rattle.std.proofs.lemmas.Bool.{cases_lt}
 use Rattle.std.proofs.lemmas.Nat.{and_le_l}
 use Rattle.pfr_flash.specs.Bytes.{AreBytes, blank, bytes_at, written, and_bytes, continued}
 use Rattle.pfr_flash.specs.Operation.{Operation, Erase, Program, Torn, applied, play, torn_by}

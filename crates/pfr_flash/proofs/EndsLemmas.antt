@@ -1,5 +1,5 @@
 -- Calls that only read and end at the first read that fails.
-use Rattle.std.proofs.Common.{◌≡◌, ◌≤◌, true, false, refl, sym, ap, ◌∙◌, subst, arith, ◌⊎◌, inl, inr, Option, Some, None, Result, Ok, Err, IfErr}
+use Rattle.std.proofs.Common.{◌≡◌, ◌≤◌, false, refl, sym, ap, ◌∙◌, subst, arith, inl, inr, Option, Some, None, Result, Ok, Err, IfErr}
 use Rattle.pfr_flash.specs.FlashState.{FlashState, now, raised_by}
 use Rattle.pfr_flash.specs.Moved.{ReadFaulted, at_read, none}
 use Rattle.pfr_flash.specs.Reading.{OnlyReads, FailsReading, left_at, EndsAt, failed_by}

@@ -1,9 +1,8 @@
 -- That a device holds bytes: at each moment, and after each call.
-use Rattle.std.proofs.Common.{◌≡◌, ℕ, ◌+◌, Bool, true, false, cond, eqb, All, List, [], ◌∷◌, ◌++◌, take, sym, subst, refl, Option, Some, None, Result, ◌⊎◌, inl, inr}
-use Rattle.std.proofs.lemmas.Bool.{cases_Bool}
+use Rattle.std.proofs.Common.{◌≡◌, ℕ, ◌+◌, Bool, true, false, cond, eqb, All, List, [], ◌∷◌, ◌++◌, take, sym, subst, Option, Some, None, Result}
 use Rattle.std.proofs.lemmas.List.Elements.{All-push, All-take}
 use Rattle.pfr_flash.specs.Bytes.{AreBytes, bytes_at}
-use Rattle.pfr_flash.specs.Operation.{Operation, play, torn_by}
+use Rattle.pfr_flash.specs.Operation.{Operation, torn_by}
 use Rattle.pfr_flash.specs.FlashState.{FlashState, Due, Ending, Off, Full, Cut, Broken, Done, now, upto, op_count_of, due_after, ending, after, after_ending}
 use Rattle.pfr_flash.specs.Flash.{Does}
 use Rattle.pfr_flash.specs.Holding.{WritesBytes, tear_of, HoldsBytes}

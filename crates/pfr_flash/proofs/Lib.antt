@@ -1,4 +1,6 @@
+pub mod JudgingLemmas
 pub mod BytesLemmas
+pub mod PartsLemmas
 pub mod AreBytesLemmas
 pub mod PlayLemmas
 pub mod CellsLemmas
@@ -10,9 +12,14 @@ pub mod MemLemmas
 pub mod MovedLemmas
 pub mod ReadingLemmas
 pub mod EndsLemmas
+pub mod AnswerLemmas
 pub mod RangeLemmas
 pub mod PlanLemmas
 pub mod FuseLemmas
 pub mod LayoutLemmas
 pub mod StateLemmas
 pub mod FollowsLemmas
+pub mod CutLemmas
+pub mod LosingLemmas
+pub mod ClearingLemmas
+pub mod LeavingLemmas

@@ -1,5 +1,5 @@
 -- A flash in memory does what its trait says.
-use Rattle.std.proofs.Common.{◌≡◌, ℕ, ◌+◌, ◌-◌, Bool, true, false, eqb, ltb, List, [], ◌∷◌, ◌++◌, length, get_or, refl, sym, ap, ◌∙◌, subst, arith, Option, Some, None, Result, Ok, Err, ◌⊎◌, inl, inr}
+use Rattle.std.proofs.Common.{◌≡◌, ℕ, ◌+◌, ◌-◌, Bool, true, false, eqb, ltb, List, [], ◌∷◌, ◌++◌, length, refl, sym, ap, ◌∙◌, subst, arith, Option, Some, None, Result, Ok, Err, ◌⊎◌, inl, inr}
 use Rattle.std.proofs.lemmas.Bool.{cases_Bool}
 use Rattle.std.proofs.lemmas.List.{get_or_append_left, get_or_push}
 use Rattle.std.proofs.lemmas.Bool.Decides.{nat_tests}
@@ -18,7 +18,6 @@ use Rattle.pfr_flash.specs.declared.flash.FlashFail.TheVariants.{Fault, Lost}
 use Rattle.pfr_flash.specs.Bytes.{AreBytes}
 use Rattle.pfr_flash.specs.Holding.{HoldsBytes, WritesBytes, tear_of}
 use Rattle.pfr_flash.proofs.TearLemmas.{FitsIn}
-use Rattle.pfr_flash.proofs.AreBytesLemmas.{AreBytes-nil}
 use Rattle.pfr_flash.proofs.HoldingLemmas.{HoldsBytes-after}
 use Rattle.pfr_flash.proofs.DoesLemmas.{does, reads_ok, reads_lost, reads_fault}
 

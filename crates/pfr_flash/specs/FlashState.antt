@@ -1,6 +1,6 @@
 -- A flash device as contracts see it.
-use Rattle.std.specs.Prelude.{ℕ, ◌+◌, ◌-◌, ◌^◌, ◌≤◌, min, max, Bool, false, ◌==◌, if◌then◌else◌, List, [], ◌∷◌, ◌++◌, length, take, Option, Some, None, Result, Ok, Err}
-use Rattle.pfr_flash.specs.Operation.{Operation, play, torn_by}
+use Rattle.std.specs.Prelude.{ℕ, ◌+◌, ◌-◌, ◌^◌, ◌≤◌, min, max, Bool, false, ◌==◌, if◌then◌else◌, List, [], ◌∷◌, ◌++◌, length, Option, Some, None, Result, Ok, Err}
+use Rattle.pfr_flash.specs.Operation.{Operation, play, play_first, torn_by}
 use Rattle.pfr_flash.specs.declared.flash.FlashFail.{FlashFail}
 use Rattle.pfr_flash.specs.declared.flash.FlashFail.TheVariants.{Fault, Lost}
 
@@ -28,7 +28,7 @@ pub record FlashState : Type 0 where
 
 -- the bytes after the first k operations
 abbrev pub upto : FlashState → ℕ → List ℕ
-upto d k = play d.start (take k d.ops)
+upto d k = play_first k d.start d.ops
 
 -- the bytes as they are
 abbrev pub now : FlashState → List ℕ

@@ -8,7 +8,7 @@ use Rattle.pfr_flash.specs.Layout.{judge_layout}
 use Rattle.pfr_flash.specs.declared.layout.LayoutRule.{LayoutRule}
 use Rattle.pfr_flash.specs.declared.names.Bank.TheVariants.{Bmc, Pch}
 use Rattle.pfr_flash.proofs.LayoutLemmas.{judged_valid, valid_judged}
-use Rattle.pfr_fuses.specs.Answer.{known, ◌>>=◌}
+use Rattle.pfr_flash.specs.Judging.{known, ◌>>=◌}
 use Rattle.pfr_fuses.specs.Slots.{IsSet, IsBlank, IsProvisionedBy, IsUnset, HasBlank, slot_at, slots_from, is_set, is_blank}
 use Rattle.pfr_fuses.specs.Provisioning.{IsFirstBlank, IsProvisionable, IsBarred, blank_from, found_first, judge_slots, judge_places, judge_provision, layout_judged}
 use Rattle.pfr_fuses.specs.declared.root_slot.RootSlot.{RootSlot}

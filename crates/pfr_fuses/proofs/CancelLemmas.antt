@@ -1,10 +1,13 @@
 -- What cancelling a key leaves.
-use Rattle.std.proofs.Common.{◌≡◌, ℕ, ◌+◌, ◌≤◌, ◌<◌, List, length, Result, Ok, Err, OnOk, OnErr, refl, sym, ap, ◌∙◌, subst, arith, ◌⊎◌, inl, inr}
+use Rattle.std.proofs.Common.{◌≡◌, ℕ, ◌+◌, ◌≤◌, ◌<◌, List, length, Result, Ok, OnOk, OnErr, refl, sym, ap, ◌∙◌, subst, arith, ◌⊎◌, inl, inr}
 use Rattle.std.specs.Prelude.{◌↔◌, ◌≢◌}
 use Rattle.std.proofs.lemmas.Bool.{cases_eq}
+use Rattle.std.proofs.lemmas.Result.{on_ok_weaker}
 use Rattle.pfr_flash.specs.Bytes.{bytes_at}
 use Rattle.pfr_flash.specs.FlashState.{FlashState, now, size_of}
-use Rattle.pfr_flash.specs.FuseRow.{IsCleared, MayClear, with_cleared}
+use Rattle.pfr_flash.specs.FuseRow.{IsCleared, with_cleared}
+use Rattle.pfr_flash.specs.Losing.{AddsAtMost, OnlyLoses}
+use Rattle.pfr_flash.specs.Operation.{play}
 use Rattle.pfr_flash.specs.Plan.{Follows}
 use Rattle.pfr_flash.specs.Range.{AllWithin, IsWithin, SameOutside}
 use Rattle.pfr_flash.specs.declared.names.Bank.{Bank}
@@ -12,19 +15,22 @@ use Rattle.pfr_flash.specs.declared.names.Bank.TheVariants.{Bmc, Pch}
 use Rattle.pfr_flash.specs.declared.names.ContentType.{ContentType}
 use Rattle.pfr_flash.specs.declared.names.ContentType.TheVariants.{PchManifest, PchCapsule, BmcManifest, BmcCapsule}
 use Rattle.pfr_flash.specs.declared.flash.FlashFail.{FlashFail}
-use Rattle.pfr_flash.proofs.FollowsLemmas.{Follows-now, Follows-outside, DoesPart-now}
-use Rattle.pfr_flash.proofs.FuseLemmas.{IsCleared-program}
+use Rattle.pfr_flash.proofs.ClearingLemmas.{clearing-within, clearing-programs, clearing-part}
+use Rattle.pfr_flash.proofs.CutLemmas.{AddsAtMost-plan}
+use Rattle.pfr_flash.proofs.FollowsLemmas.{Follows-outside, DoesPart-now}
+use Rattle.pfr_flash.proofs.FuseLemmas.{MayClear, IsCleared-program}
+use Rattle.pfr_flash.proofs.LosingLemmas.{AllLose-programs, OnlyLoses-plan}
 use Rattle.pfr_flash.proofs.RangeLemmas.{length-now}
 use Rattle.pfr_fuses.specs.FuseMap.{IsSigning, IsBit, IsCancelBit, IsCancelled, profile_of, row_at}
 use Rattle.pfr_fuses.specs.FusesState.{FusesState, floor_row, row_of}
 use Rattle.pfr_fuses.specs.FusesOf.{RowStands, row_fuses, fuses_of}
 use Rattle.pfr_fuses.specs.Changes.{Cancels, CancelsAtMost, SameProvision, StaysButRow, cancellation, with_cancelled, with_row}
-use Rattle.pfr_fuses.specs.Growth.{NeverGoesBack, OnlyLoses, KeepsProvision, AddsAtMost, Adds}
+use Rattle.pfr_fuses.specs.Growth.{NeverGoesBack, KeepsProvision, Adds}
 use Rattle.pfr_fuses.specs.declared.profile.Profile.TheVariants.{Two}
-use Rattle.pfr_fuses.proofs.ClearingLemmas.{clearing-within, clearing-programs, clearing-part, row_bit-two, row_bit-stays}
+use Rattle.pfr_fuses.proofs.AnswerLemmas.{done_now, on_either, on_ok_with}
+use Rattle.pfr_fuses.proofs.ClearingLemmas.{row_bit-two, row_bit-stays}
 use Rattle.pfr_fuses.proofs.ExactLemmas.{ChangedAt, fuses_of-but_row, row_kept, row-cleared}
-use Rattle.pfr_fuses.proofs.GrowthLemmas.{profile-outside, NeverGoesBack-programs, KeepsProvision-plan, Adds-within, AddsAtMost-plan, slots-outside}
-use Rattle.pfr_fuses.proofs.LosingLemmas.{AllLose-programs, OnlyLoses-plan}
+use Rattle.pfr_fuses.proofs.GrowthLemmas.{profile-outside, NeverGoesBack-programs, KeepsProvision-plan, Adds-within, slots-outside}
 use Rattle.pfr_fuses.proofs.StaysLemmas.{rows_apart, row_behind_floors, row_in_sector, floor_bits-outside, row_bits-outside, FloorStands-same, RowStands-same}
 
 -- ---- what is kept
@@ -192,14 +198,14 @@ module _ (type : ContentType) (id : ℕ) (old new : FlashState) (fuses after : F
 
   pub cancel-grows : NeverGoesBack old new
   cancel-grows = NeverGoesBack-programs (row_at Two type) 32 (cancellation type id) old new size follows.worked.moved.start follows.part
-      (clearing-programs (row_at Two type) 32 id (omega arith) (omega (arith, (row_in_sector type signing).1))) within (inl (omega (arith, (row_in_sector type signing).0)))
+      (clearing-programs 32768 (row_at Two type) 32 id (omega arith) (omega (arith, (row_in_sector type signing).1))) within (inl (omega (arith, (row_in_sector type signing).0)))
 
   pub cancel-provision : KeepsProvision old new
   cancel-provision = KeepsProvision-plan (row_at Two type) 32 (cancellation type id) old new size follows.worked.moved.start follows.part (omega (arith, (row_in_sector type signing).0)) within
 
   pub cancel-loses : OnlyLoses 0 32768 old new
-  cancel-loses = OnlyLoses-plan 0 32768 (omega arith) (cancellation type id) old new size follows.worked.moved.start follows.part
-      (AllLose-programs 0 32768 (cancellation type id) (clearing-programs (row_at Two type) 32 id (omega arith) (omega (arith, (row_in_sector type signing).1))))
+  cancel-loses = OnlyLoses-plan 32768 0 32768 (omega arith) (cancellation type id) old new size follows.worked.moved.start follows.part
+      (AllLose-programs 32768 0 32768 (cancellation type id) (clearing-programs 32768 (row_at Two type) 32 id (omega arith) (omega (arith, (row_in_sector type signing).1))))
 
   pub cancel-count : AddsAtMost 1 old new
   cancel-count = AddsAtMost-plan 1 (cancellation type id) old new follows.part (omega arith)
@@ -208,54 +214,37 @@ module _ (type : ContentType) (id : ℕ) (old new : FlashState) (fuses after : F
   cancel-store = cancels_at_most type id (now old) (now new) changed may most
 
   pub cancel-stays : OnOk result (after ≡ with_cancelled fuses type id) → OnErr result (after ≡ fuses) → StaysButRow type (now old) fuses (now new) after
-  cancel-stays ok err = by_result result ok err
-    where
-      by_result : (r : Result (Unit {0}) FlashFail) → OnOk r (after ≡ with_cancelled fuses type id) → OnErr r (after ≡ fuses) → StaysButRow type (now old) fuses (now new) after
-      by_result (Ok u) is none = stays_but type (now old) (now new) fuses after changed
-          (subst (λ (kept : FusesState). SameElse fuses type kept) (sym is) (same_with_row fuses type (with_cleared (row_of fuses type) id) signing))
-      by_result (Err f) none is = stays_but type (now old) (now new) fuses after changed (subst (λ (kept : FusesState). SameElse fuses type kept) (sym is) (same_fuses fuses type))
+  cancel-stays ok err = on_either result ok err
+      (λ is. stays_but type (now old) (now new) fuses after changed (subst (λ (kept : FusesState). SameElse fuses type kept) (sym is) (same_with_row fuses type (with_cleared (row_of fuses type) id) signing)))
+      (λ is. stays_but type (now old) (now new) fuses after changed (subst (λ (kept : FusesState). SameElse fuses type kept) (sym is) (same_fuses fuses type)))
+
+  done : OnOk result (now new ≡ play (now old) (cancellation type id))
+  done = done_now (cancellation type id) old new result follows
+
+  cleared : now new ≡ play (now old) (cancellation type id) → IsCleared (bytes_at (now new) (row_at Two type) 32) id
+  cleared is = subst (λ (image : List ℕ). IsCleared (bytes_at image (row_at Two type) 32) id) (sym is) (IsCleared-program (now old) (row_at Two type) 32 id (omega arith) fits)
 
   pub cancel-ok : RowStands (now old) fuses type → OnOk result (Cancels fuses type id after) → OnOk result (RowStands (now new) after type)
-  cancel-ok stands cancels = by_result result follows cancels
-    where
-      by_result : (r : Result (Unit {0}) FlashFail) → Follows (cancellation type id) old new r → OnOk r (Cancels fuses type id after) → OnOk r (RowStands (now new) after type)
-      by_result (Ok u) h c = row_stands_cancelled type id (now old) (now new) fuses after changed may
-          (subst (λ (image : List ℕ). IsCleared (bytes_at image (row_at Two type) 32) id) (sym (Follows-now (cancellation type id) old new u h)) (IsCleared-program (now old) (row_at Two type) 32 id (omega arith) fits))
-          c stands
-      by_result (Err f) h c = tt
+  cancel-ok stands cancels = on_ok_with result done cancels (λ is c. row_stands_cancelled type id (now old) (now new) fuses after changed may (cleared is) c stands)
 
   pub cancel-done : OnOk result (IsCancelled (now new) type id)
-  cancel-done = by_result result follows
-    where
-      by_result : (r : Result (Unit {0}) FlashFail) → Follows (cancellation type id) old new r → OnOk r (IsCancelled (now new) type id)
-      by_result (Ok u) h =
-          let bit : IsBit (now new) (row_at Two type) 32 id = record {
-            within = omega arith;
-            cleared = subst (λ (image : List ℕ). IsCleared (bytes_at image (row_at Two type) 32) id) (sym (Follows-now (cancellation type id) old new u h)) (IsCleared-program (now old) (row_at Two type) 32 id (omega arith) fits);
-          } in
-          record { signing = signing; bit = (row_bit-two (now new) type id (new_two type (now old) (now new) changed)).1 bit }
-      by_result (Err f) h = tt
+  cancel-done = on_ok_weaker result (λ is.
+      let bit : IsBit (now new) (row_at Two type) 32 id = record { within = omega arith; cleared = cleared is } in
+      record { signing = signing; bit = (row_bit-two (now new) type id (new_two type (now old) (now new) changed)).1 bit }) done
 
   -- ---- what the store says
   says_kept : fuses_of (now old) ≡ Ok fuses → SaysBut type (now new) fuses
   says_kept was = fuses_of-but_row type (now old) (now new) fuses signing (changed_at type (now old) (now new) changed) was
 
   pub cancel-rest : OnOk result (after ≡ with_cancelled fuses type id) → OnErr result (after ≡ fuses) → fuses_of (now old) ≡ Ok fuses → fuses_of (now new) ≡ Ok (with_row after type (row_fuses (now new) type))
-  cancel-rest ok err was = by_result result ok err
-    where
-      by_result : (r : Result (Unit {0}) FlashFail) → OnOk r (after ≡ with_cancelled fuses type id) → OnErr r (after ≡ fuses) → SaysBut type (now new) after
-      by_result (Ok u) is none = says_kept was
-          ∙ ap (λ (kept : FusesState). Ok kept)
-          (sym (ap (λ (kept : FusesState). with_row kept type (row_fuses (now new) type)) is ∙ row_again fuses type (with_cleared (row_of fuses type) id) (row_fuses (now new) type) signing))
-      by_result (Err f) none is = subst (SaysBut type (now new)) (sym is) (says_kept was)
+  cancel-rest ok err was = on_either result ok err
+      (λ is. says_kept was ∙ ap (λ (kept : FusesState). Ok kept)
+      (sym (ap (λ (kept : FusesState). with_row kept type (row_fuses (now new) type)) is ∙ row_again fuses type (with_cleared (row_of fuses type) id) (row_fuses (now new) type) signing)))
+      (λ is. subst (SaysBut type (now new)) (sym is) (says_kept was))
 
   pub cancel-exact : OnOk result (after ≡ with_cancelled fuses type id) → OnOk result (fuses_of (now old) ≡ Ok fuses → fuses_of (now new) ≡ Ok after)
-  cancel-exact ok = by_result result follows ok
-    where
-      by_result : (r : Result (Unit {0}) FlashFail) → Follows (cancellation type id) old new r → OnOk r (after ≡ with_cancelled fuses type id) → OnOk r (fuses_of (now old) ≡ Ok fuses → fuses_of (now new) ≡ Ok after)
-      by_result (Ok u) h is = λ was.
-          let row : row_fuses (now new) type ≡ with_cleared (row_of fuses type) id =
-          row-cleared type (now old) (now new) id (changed_at type (now old) (now new) changed) most (Follows-now (cancellation type id) old new u h) (omega (arith, (row_in_sector type signing).1))
-          ∙ ap (λ (r : List ℕ). with_cleared r id) (sym (row_kept (now old) fuses type signing was)) in
-          says_kept was ∙ ap (λ (a : FusesState). Ok a) (ap (λ (r : List ℕ). with_row fuses type r) row ∙ sym is)
-      by_result (Err f) h is = tt
+  cancel-exact ok = on_ok_with result done ok (λ is kept was.
+      let row : row_fuses (now new) type ≡ with_cleared (row_of fuses type) id =
+      row-cleared type (now old) (now new) id (changed_at type (now old) (now new) changed) most is (omega (arith, (row_in_sector type signing).1))
+      ∙ ap (λ (r : List ℕ). with_cleared r id) (sym (row_kept (now old) fuses type signing was)) in
+      says_kept was ∙ ap (λ (a : FusesState). Ok a) (ap (λ (r : List ℕ). with_row fuses type r) row ∙ sym kept))

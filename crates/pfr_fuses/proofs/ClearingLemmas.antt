@@ -1,37 +1,13 @@
--- What a plan that clears one fuse leaves.
-use Rattle.std.proofs.Common.{◌≡◌, ℕ, ◌+◌, ◌*◌, ◌/◌, ◌≤◌, ◌<◌, List, [], ◌∷◌, length, sym, subst, arith}
+-- The fuses of a store of profile 2, where one may be cleared.
+use Rattle.std.proofs.Common.{◌≡◌, ℕ, List, sym, subst}
 use Rattle.std.specs.Prelude.{◌↔◌, ◌≢◌}
-use Rattle.pfr_flash.specs.FuseRow.{MayClear, fuse_byte}
-use Rattle.pfr_flash.specs.Operation.{Operation, Program, applied, play}
-use Rattle.pfr_flash.specs.Plan.{IsPart}
-use Rattle.pfr_flash.specs.Range.{AllWithin}
-use Rattle.pfr_flash.proofs.FuseLemmas.{MayClear-program, MayClear-torn}
+use Rattle.pfr_flash.proofs.FuseLemmas.{MayClear}
 use Rattle.pfr_flash.specs.declared.names.Bank.{Bank}
 use Rattle.pfr_flash.specs.declared.names.ContentType.{ContentType}
 use Rattle.pfr_fuses.specs.FuseMap.{IsBit, IsFloorBit, IsCancelBit, profile_of, floor_at, floor_width, row_at, row_width}
-use Rattle.pfr_fuses.specs.Changes.{clearing}
 use Rattle.pfr_fuses.specs.declared.profile.Profile.{Profile}
 use Rattle.pfr_fuses.specs.declared.profile.Profile.TheVariants.{Two}
-use Rattle.pfr_fuses.proofs.GrowthLemmas.{AllPrograms, part_step, part_end}
 
-pub clearing-within : (at width bit : ℕ) → bit < 8 * width → AllWithin at width (clearing at bit)
-clearing-within at width bit h = (record { low = omega arith; high = omega arith }, tt)
-
-pub clearing-programs : (at width bit : ℕ) → bit < 8 * width → at + width ≤ 32768 → AllPrograms 32768 (clearing at bit)
-clearing-programs at width bit h fits = (omega arith, tt)
-
-pub MayClear-refl : (at width bit : ℕ) (image : List ℕ) → MayClear at width bit image image
-MayClear-refl at width bit image = record { stays = λ k below other. (λ z. z, λ z. z); keeps = λ z. z }
-
--- however it ends, no other fuse of the row changes
-pub clearing-part : (image : List ℕ) (at width bit : ℕ) (added : List Operation) → bit < 8 * width → at + width ≤ length image → IsPart image (clearing at bit) added
-    → MayClear at width bit image (play image added)
-clearing-part image at width bit added inside fits h =
-    part_step (λ (after : List ℕ). MayClear at width bit image after) image (Program (at + bit / 8) (fuse_byte bit ∷ [])) [] added h (MayClear-refl at width bit image)
-    (λ done t. MayClear-torn image at width bit done inside fits t)
-    (λ ops q. part_end (λ (after : List ℕ). MayClear at width bit image after) (applied image (Program (at + bit / 8) (fuse_byte bit ∷ []))) ops q (MayClear-program image at width bit inside fits))
-
--- ---- the bits of a store of profile 2
 pub floor_bit-two : (nv : List ℕ) (bank : Bank) (k : ℕ) → profile_of nv ≡ Two → (IsFloorBit nv bank k ↔ IsBit nv (floor_at Two bank) 16 k)
 floor_bit-two nv bank k two = subst (λ (p : Profile). (IsBit nv (floor_at p bank) (floor_width p) k ↔ IsBit nv (floor_at Two bank) 16 k)) (sym two) (λ b. b, λ b. b)
 

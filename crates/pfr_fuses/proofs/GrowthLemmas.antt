@@ -1,99 +1,21 @@
 -- Fuses at each count of operations.
-use Rattle.std.proofs.Common.{◌≡◌, ℕ, zero, suc, ◌+◌, ◌-◌, ◌*◌, ◌≤◌, ◌<◌, List, [], ◌∷◌, length, take, get_or, refl, sym, ap, ◌∙◌, subst, arith, length-append, ◌⊎◌, inl, inr}
+use Rattle.std.proofs.Common.{◌≡◌, ℕ, ◌+◌, ◌-◌, ◌*◌, ◌≤◌, ◌<◌, List, [], ◌∷◌, length, take, get_or, refl, sym, ap, ◌∙◌, subst, arith, ◌⊎◌, inl, inr}
 use Rattle.std.proofs.lemmas.Bool.{cases_lt}
-use Rattle.std.proofs.lemmas.List.{append-nil}
-use Rattle.pfr_flash.specs.Operation.{Operation, Erase, Program, Torn, applied, play, IsTorn}
+use Rattle.pfr_flash.specs.Operation.{Operation, play}
 use Rattle.pfr_flash.specs.FlashState.{FlashState, now, upto, size_of, op_count_of}
 use Rattle.pfr_flash.specs.Moved.{Extends}
-use Rattle.pfr_flash.specs.Plan.{IsPart, DoesPart}
+use Rattle.pfr_flash.specs.Plan.{DoesPart}
 use Rattle.pfr_flash.specs.Range.{IsWithin, AllWithin, SameOutside, OnlyClears}
-use Rattle.pfr_flash.proofs.PlayLemmas.{length-applied, length-play}
+use Rattle.pfr_flash.proofs.CutLemmas.{AllPrograms, at_each, clears_between}
+use Rattle.pfr_flash.proofs.PlayLemmas.{length-play}
 use Rattle.pfr_flash.proofs.PlanLemmas.{AllWithin-part}
 use Rattle.pfr_flash.proofs.FuseLemmas.{IsCleared-stays}
-use Rattle.pfr_flash.proofs.RangeLemmas.{SameOutside-play, bytes_at-outside, length-now, OnlyClears-refl, OnlyClears-program, OnlyClears-torn, then_clears}
-use Rattle.pfr_flash.proofs.StateLemmas.{upto-added, upto-Extends, IsPart-take}
+use Rattle.pfr_flash.proofs.RangeLemmas.{SameOutside-play, bytes_at-outside, length-now}
+use Rattle.pfr_flash.proofs.StateLemmas.{upto-added, upto-Extends}
 use Rattle.pfr_fuses.specs.Slots.{IsSet, IsProvisionedBy, IsUnset, slot_at}
 use Rattle.pfr_fuses.specs.FuseMap.{IsBit, profile_of, floor_at, floor_width, row_at, row_width}
-use Rattle.pfr_fuses.specs.Growth.{Grows, NeverGoesBack, KeepsProvision, AddsAtMost, AllAre, Adds}
+use Rattle.pfr_fuses.specs.Growth.{Grows, NeverGoesBack, KeepsProvision, AllAre, Adds}
 use Rattle.pfr_fuses.specs.declared.profile.Profile.{Profile}
-
--- ---- a part of a plan, an operation at a time
-pub part_step : (P : List ℕ → Type 0) (image : List ℕ) (op : Operation) (plan added : List Operation) → IsPart image (op ∷ plan) added → P image
-    → ((done : Operation) → IsTorn image op done → P (applied image done)) → ((ops : List Operation) → IsPart (applied image op) plan ops → P (play (applied image op) ops))
-    → P (play image added)
-part_step P image op plan [] h none torn rest = none
-part_step P image op plan (done ∷ ops) h none torn rest = by_part h
-  where
-    by_part : (((done ≡ op) × IsPart (applied image op) plan ops) ⊎ (IsTorn image op done × (ops ≡ []))) → P (play (applied image done) ops)
-    by_part (inl whole) = subst (λ (o : Operation). P (play (applied image o) ops)) (sym whole.0) (rest ops whole.1)
-    by_part (inr t) = subst (λ (o : List Operation). P (play (applied image done) o)) (sym t.1) (torn done t.0)
-
--- nothing is part of an empty plan but nothing
-pub part_end : (P : List ℕ → Type 0) (image : List ℕ) (added : List Operation) → IsPart image [] added → P image → P (play image added)
-part_end P image [] h p = p
-part_end P image (op ∷ ops) h p = absurd h
-
--- what holds after each part of a plan holds at each count
-pub at_each : (P : List ℕ → Type 0) (plan : List Operation) (old new : FlashState) → new.start ≡ old.start → DoesPart plan old new
-    → ((added : List Operation) → IsPart (now old) plan added → P (play (now old) added)) → (n : ℕ) → op_count_of old ≤ n → P (upto new n)
-at_each P plan old new start h each n le =
-    let more : op_count_of old + (n - op_count_of old) ≡ n = omega arith in
-    let image : upto new (op_count_of old + (n - op_count_of old)) ≡ play (now old) (take (n - op_count_of old) h.added) = upto-added old new h.added (n - op_count_of old) start h.is in
-    subst (λ (k : ℕ). P (upto new k)) more
-    (subst P (sym image) (each (take (n - op_count_of old) h.added) (IsPart-take (now old) plan h.added (n - op_count_of old) h.part)))
-
--- ---- plans that only program
-abbrev pub IsProgram : ℕ → Operation → Type 0
-IsProgram size (Erase sector) = ⊥
-IsProgram size (Program at bytes) = at + length bytes ≤ size
-IsProgram size (Torn at after) = ⊥
-
-abbrev pub AllPrograms : ℕ → List Operation → Type 0
-AllPrograms size [] = Unit {0}
-AllPrograms size (op ∷ ops) = IsProgram size op × AllPrograms size ops
-
-pub program_clears : (image : List ℕ) (op : Operation) → IsProgram (length image) op → OnlyClears image (applied image op)
-program_clears image (Erase sector) h = absurd h
-program_clears image (Program at bytes) h = OnlyClears-program image at bytes h
-program_clears image (Torn at after) h = absurd h
-
-pub torn_clears : (image : List ℕ) (op done : Operation) → IsProgram (length image) op → IsTorn image op done → OnlyClears image (applied image done)
-torn_clears image (Erase sector) done h t = absurd h
-torn_clears image (Program at bytes) done h t = OnlyClears-torn image at bytes done t
-torn_clears image (Torn at after) done h t = absurd h
-
-pub part_clears : (size : ℕ) (image : List ℕ) (plan added : List Operation) → length image ≡ size → AllPrograms size plan → IsPart image plan added → OnlyClears image (play image added)
-part_clears size image [] added e h p = part_end (λ (after : List ℕ). OnlyClears image after) image added p (OnlyClears-refl image)
-part_clears size image (op ∷ plan) added e h p =
-    let fits : IsProgram (length image) op = subst (λ (n : ℕ). IsProgram n op) (sym e) h.0 in
-    part_step (λ (after : List ℕ). OnlyClears image after) image op plan added p (OnlyClears-refl image) (λ done t. torn_clears image op done fits t)
-    (λ ops q. then_clears (program_clears image op fits) (part_clears size (applied image op) plan ops (length-applied image op ∙ e) h.1 q))
-
-take_nil : (j : ℕ) → take {A = Operation} j [] ≡ []
-take_nil zero = refl
-take_nil (suc j) = refl
-
-clears_nothing : (image : List ℕ) (ops : List Operation) (i j : ℕ) → ops ≡ [] → OnlyClears (play image (take i ops)) (play image (take j ops))
-clears_nothing image ops i j e =
-    let a : take i ops ≡ [] = ap (λ (o : List Operation). take i o) e ∙ take_nil i in
-    let b : take j ops ≡ [] = ap (λ (o : List Operation). take j o) e ∙ take_nil j in
-    rw (a, b) (OnlyClears-refl image)
-
--- between any two moments of such a plan bits are only cleared
-pub clears_between : (size : ℕ) (image : List ℕ) (plan added : List Operation) (i j : ℕ) → length image ≡ size → AllPrograms size plan → IsPart image plan added → i ≤ j
-    → OnlyClears (play image (take i added)) (play image (take j added))
-clears_between size image plan added zero j e h p le = part_clears size image plan (take j added) e h (IsPart-take image plan added j p)
-clears_between size image plan added (suc i) zero e h p le = absurd (omega arith)
-clears_between size image plan [] (suc i) (suc j) e h p le = OnlyClears-refl image
-clears_between size image [] (op ∷ ops) (suc i) (suc j) e h p le = absurd p
-clears_between size image (next ∷ plan) (op ∷ ops) (suc i) (suc j) e h p le =
-    by_part (λ q. clears_between size (applied image next) plan ops i j (length-applied image next ∙ e) h.1 q (omega arith)) p
-  where
-    by_part : (IsPart (applied image next) plan ops → OnlyClears (play (applied image next) (take i ops)) (play (applied image next) (take j ops)))
-        → (((op ≡ next) × IsPart (applied image next) plan ops) ⊎ (IsTorn image next op × (ops ≡ [])))
-        → OnlyClears (play (applied image op) (take i ops)) (play (applied image op) (take j ops))
-    by_part later (inl whole) = subst (λ (o : Operation). OnlyClears (play (applied image o) (take i ops)) (play (applied image o) (take j ops))) (sym whole.0) (later whole.1)
-    by_part later (inr torn) = clears_nothing (applied image op) ops i j torn.1
 
 -- ---- the profile
 pub profile_of-gate : (old new : List ℕ) → get_or new 0xA00 0 ≡ get_or old 0xA00 0 → profile_of new ≡ profile_of old
@@ -144,11 +66,6 @@ NeverGoesBack-programs from len plan old new size start h programs within apart 
         Grows-clears (upto new m) (upto new n) (same_profile n above ∙ sym (same_profile m low))
         (subst (λ (a : List ℕ). OnlyClears a (upto new n)) (sym (at_place m low))
         (subst (λ (b : List ℕ). OnlyClears (play (now old) (take (m - op_count_of old) h.added)) b) (sym (at_place n above)) clears))
-
--- nor does one that does no operation
-pub NeverGoesBack-none : (old new : FlashState) → size_of old ≡ 32768 → new.start ≡ old.start → new.ops ≡ old.ops → NeverGoesBack old new
-NeverGoesBack-none old new size start ops =
-    NeverGoesBack-programs 0 0 [] old new size start (record { added = []; is = ops ∙ sym (append-nil old.ops); part = tt }) tt tt (inr (omega arith))
 
 -- two calls, or runs of calls, in a row
 pub NeverGoesBack-trans : (a b c : FlashState) → c.start ≡ b.start → Extends b.ops c.ops → NeverGoesBack a b → NeverGoesBack b c → NeverGoesBack a c
@@ -245,19 +162,3 @@ AllAre-within from len (op ∷ ops) h = (h.0, AllAre-within from len ops h.1)
 
 pub Adds-within : (from len : ℕ) (plan : List Operation) (old new : FlashState) → AllWithin from len plan → DoesPart plan old new → Adds (λ op. IsWithin from len op) old new
 Adds-within from len plan old new within h = record { added = h.added; is = h.is; all = AllAre-within from len h.added (AllWithin-part from len (now old) plan h.added within h.part) }
-
--- no more than the plan has
-pub part_length : (image : List ℕ) (plan added : List Operation) → IsPart image plan added → length added ≤ length plan
-part_length image plan [] h = omega arith
-part_length image [] (op ∷ ops) h = absurd h
-part_length image (next ∷ plan) (op ∷ ops) h = by_part (λ q. part_length (applied image next) plan ops q) h
-  where
-    by_part : (IsPart (applied image next) plan ops → length ops ≤ length plan) → (((op ≡ next) × IsPart (applied image next) plan ops) ⊎ (IsTorn image next op × (ops ≡ [])))
-        → length (op ∷ ops) ≤ length (next ∷ plan)
-    by_part later (inl whole) = omega (arith, later whole.1)
-    by_part later (inr torn) = let none : length ops ≡ 0 = ap (λ (o : List Operation). length o) torn.1 in omega (arith, none)
-
-pub AddsAtMost-plan : (count : ℕ) (plan : List Operation) (old new : FlashState) → DoesPart plan old new → length plan ≤ count → AddsAtMost count old new
-AddsAtMost-plan count plan old new h few =
-    let all : op_count_of new ≡ op_count_of old + length h.added = ap (λ (ops : List Operation). length ops) h.is ∙ length-append old.ops h.added in
-    omega (arith, all, part_length (now old) plan h.added h.part, few)

@@ -1,3 +1,4 @@
+pub mod AnswerLemmas
 pub mod FloorLemmas
 pub mod SlotLemmas
 pub mod StandsLemmas
@@ -14,4 +15,3 @@ pub mod RootSlotLemmas
 pub mod BlankLemmas
 pub mod ProvisionLemmas
 pub mod ExactLemmas
-pub mod LosingLemmas

@@ -1,9 +1,10 @@
 -- What a migration leaves, whole or cut short.
-use Rattle.std.proofs.Common.{◌≡◌, ℕ, ◌+◌, ◌≤◌, ◌<◌, List, [], ◌∷◌, ◌++◌, length, get_or, take, Result, Ok, Err, OnOk, OnErr, refl, sym, ap, ◌∙◌, subst, arith, bit_and, append_assoc, length-append, ◌⊎◌, inl, inr}
+use Rattle.std.proofs.Common.{◌≡◌, ℕ, ◌+◌, ◌≤◌, ◌<◌, List, [], ◌∷◌, ◌++◌, length, get_or, take, Result, Ok, OnOk, OnErr, refl, sym, ap, ◌∙◌, subst, arith, bit_and, append_assoc, length-append, ◌⊎◌, inl, inr}
 use Rattle.std.specs.Int.Bits.{and_zero_r}
 use Rattle.std.proofs.lemmas.List.{ext_get_or, drop_at, take_at, append-nil}
 use Rattle.pfr_flash.specs.Bytes.{blank, bytes_at, written, and_bytes, continued}
 use Rattle.pfr_flash.specs.FlashState.{FlashState, now, upto, size_of, op_count_of}
+use Rattle.pfr_flash.specs.Losing.{AddsAtMost, OnlyLoses}
 use Rattle.pfr_flash.specs.Operation.{Operation, Erase, Program, applied, play, IsTorn}
 use Rattle.pfr_flash.specs.Plan.{IsPart, Follows}
 use Rattle.pfr_flash.specs.Range.{IsWithin, AllWithin, SameOutside}
@@ -13,8 +14,10 @@ use Rattle.pfr_flash.specs.declared.names.ContentType.{ContentType}
 use Rattle.pfr_flash.specs.declared.names.ContentType.TheVariants.{PchManifest, PchCapsule, BmcManifest, BmcCapsule}
 use Rattle.pfr_flash.specs.declared.flash.FlashFail.{FlashFail}
 use Rattle.pfr_flash.proofs.BytesLemmas.{length-blank, get_or-blank, get_or-written_inside, length-bytes_at, get_or-bytes_at, bytes_at-written, and_bytes-ones, continued-whole}
-use Rattle.pfr_flash.proofs.FollowsLemmas.{Follows-now, DoesPart-now}
+use Rattle.pfr_flash.proofs.CutLemmas.{part_step, part_end, at_each, AddsAtMost-plan}
+use Rattle.pfr_flash.proofs.FollowsLemmas.{DoesPart-now}
 use Rattle.pfr_flash.proofs.FuseLemmas.{applied-byte}
+use Rattle.pfr_flash.proofs.LosingLemmas.{OnlyLoses-plan}
 use Rattle.pfr_flash.proofs.PlayLemmas.{length-applied}
 use Rattle.pfr_flash.proofs.RangeLemmas.{SameOutside-applied, SameOutside-torn, SameOutside-wider, then_outside, bytes_at-outside, length-now, IsTorn-within}
 use Rattle.pfr_fuses.specs.RootSlot.{provision_in}
@@ -23,11 +26,11 @@ use Rattle.pfr_fuses.specs.FuseMap.{IsSigning, IsCancelBit, profile_of, floor_at
 use Rattle.pfr_fuses.specs.FusesState.{FusesState, floor_row, row_of}
 use Rattle.pfr_fuses.specs.FusesOf.{Stands, FloorStands, RowStands, floor_fuses, row_fuses, fuses_with, fuses_of}
 use Rattle.pfr_fuses.specs.Changes.{AreRows, IsMigrating, migrated, migration}
-use Rattle.pfr_fuses.specs.Growth.{Grows, NeverGoesBack, OnlyLoses, KeepsProvision, AllAre, Adds, AddsAtMost}
+use Rattle.pfr_fuses.specs.Growth.{Grows, NeverGoesBack, KeepsProvision, AllAre, Adds}
 use Rattle.pfr_fuses.specs.declared.profile.Profile.{Profile}
 use Rattle.pfr_fuses.specs.declared.profile.Profile.TheVariants.{One, Two}
-use Rattle.pfr_fuses.proofs.GrowthLemmas.{part_step, part_end, at_each, profile-outside, slots-outside, IsProvisionedBy-same, KeepsProvision-plan, AddsAtMost-plan}
-use Rattle.pfr_fuses.proofs.LosingLemmas.{OnlyLoses-plan}
+use Rattle.pfr_fuses.proofs.AnswerLemmas.{done_now, on_either, on_err, on_ok_with}
+use Rattle.pfr_fuses.proofs.GrowthLemmas.{profile-outside, slots-outside, IsProvisionedBy-same, KeepsProvision-plan}
 use Rattle.pfr_fuses.proofs.StandsLemmas.{floor_narrow, row_narrow, floor_stands, row_stands, fuses_of-found, fuses_of-ok}
 use Rattle.pfr_fuses.proofs.StaysLemmas.{floor_bits-outside, row_bits-outside, floor_fuses-outside, row_fuses-outside, FloorStands-same, RowStands-same}
 
@@ -429,7 +432,7 @@ module _ (old new : FlashState) (fuses after : FusesState) (result : Result (Uni
   migrate-provision = KeepsProvision-plan 2048 30720 (migration fuses) old new size follows.worked.moved.start follows.part (omega arith) (behind_slots fuses rows)
 
   pub migrate-loses : OnlyLoses 0 4096 old new
-  migrate-loses = OnlyLoses-plan 0 4096 (omega arith) (migration fuses) old new size follows.worked.moved.start follows.part
+  migrate-loses = OnlyLoses-plan 32768 0 4096 (omega arith) (migration fuses) old new size follows.worked.moved.start follows.part
       (inr (inl (omega arith)), (inr (inl (omega arith)), (inl (omega arith), tt)))
 
   pub migrate-count : AddsAtMost 3 old new
@@ -439,37 +442,25 @@ module _ (old new : FlashState) (fuses after : FusesState) (result : Result (Uni
   migrate-adds = record { added = follows.part.added; is = follows.part.is; all = AllAre-part IsMigrating torn_migrating (now old) (migration fuses) follows.part.added (migrating fuses rows) follows.part.part }
 
   pub migrate-err : OnErr result (after ≡ fuses) → OnErr result (Stands (now new) (record fuses { profile = profile_of (now new) }))
-  migrate-err err = by_result result
-    where
-      by_result : (r : Result (Unit {0}) FlashFail) → OnErr r (Stands (now new) (record fuses { profile = profile_of (now new) }))
-      by_result (Ok u) = tt
-      by_result (Err f) = then_stands (now old) fuses (now new) (profile_of (now new)) stands last refl
+  migrate-err err = on_err result (then_stands (now old) fuses (now new) (profile_of (now new)) stands last refl)
+
+  done : OnOk result (now new ≡ play (now old) (migration fuses))
+  done = done_now (migration fuses) old new result follows
 
   new_two : now new ≡ play (now old) (migration fuses) → profile_of (now new) ≡ Two
   new_two is = ap profile_of is ∙ whole_two (now old) fuses old_size old_one rows fit (first_holds (now old) fuses stands)
 
   pub migrate-ok : OnOk result (after ≡ record fuses { profile = Two }) → OnOk result (Stands (now new) after)
-  migrate-ok ok = by_result result follows ok
-    where
-      by_result : (r : Result (Unit {0}) FlashFail) → Follows (migration fuses) old new r → OnOk r (after ≡ record fuses { profile = Two }) → OnOk r (Stands (now new) after)
-      by_result (Ok u) h is = subst (λ (kept : FusesState). Stands (now new) kept) (sym is)
-          (then_stands (now old) fuses (now new) Two stands last (sym (new_two (Follows-now (migration fuses) old new u h))))
-      by_result (Err f) h is = tt
+  migrate-ok ok = on_ok_with result done ok
+      (λ is kept. subst (λ (k : FusesState). Stands (now new) k) (sym kept) (then_stands (now old) fuses (now new) Two stands last (sym (new_two is))))
 
   says_now : fuses_of (now old) ≡ Ok fuses → Says (now new) fuses
   says_now was = last.says was
 
   pub migrate-exact : OnOk result (after ≡ record fuses { profile = Two }) → OnOk result (fuses_of (now old) ≡ Ok fuses → fuses_of (now new) ≡ Ok after)
-  migrate-exact ok = by_result result follows ok
-    where
-      by_result : (r : Result (Unit {0}) FlashFail) → Follows (migration fuses) old new r → OnOk r (after ≡ record fuses { profile = Two }) → OnOk r (fuses_of (now old) ≡ Ok fuses → fuses_of (now new) ≡ Ok after)
-      by_result (Ok u) h is = λ was.
-          says_now was ∙ ap (λ (p : Profile). Ok (record fuses { profile = p })) (new_two (Follows-now (migration fuses) old new u h)) ∙ ap (λ (kept : FusesState). Ok kept) (sym is)
-      by_result (Err f) h is = tt
+  migrate-exact ok = on_ok_with result done ok
+      (λ is kept was. says_now was ∙ ap (λ (p : Profile). Ok (record fuses { profile = p })) (new_two is) ∙ ap (λ (k : FusesState). Ok k) (sym kept))
 
   pub migrate-rest : OnOk result (after ≡ record fuses { profile = Two }) → OnErr result (after ≡ fuses) → fuses_of (now old) ≡ Ok fuses → fuses_of (now new) ≡ Ok (record after { profile = profile_of (now new) })
-  migrate-rest ok err was = by_result result ok err
-    where
-      by_result : (r : Result (Unit {0}) FlashFail) → OnOk r (after ≡ record fuses { profile = Two }) → OnErr r (after ≡ fuses) → Says (now new) after
-      by_result (Ok u) is none = subst (λ (kept : FusesState). Says (now new) kept) (sym is) (says_now was)
-      by_result (Err f) none is = subst (λ (kept : FusesState). Says (now new) kept) (sym is) (says_now was)
+  migrate-rest ok err was = on_either result ok err
+      (λ is. subst (λ (kept : FusesState). Says (now new) kept) (sym is) (says_now was)) (λ is. subst (λ (kept : FusesState). Says (now new) kept) (sym is) (says_now was))

@@ -1,15 +1,17 @@
 -- What a provision leaves, whole or cut short.
-use Rattle.std.proofs.Common.{◌≡◌, ℕ, zero, suc, ◌+◌, ◌-◌, ◌*◌, ◌≤◌, ◌<◌, true, false, List, [], ◌∷◌, length, length-append, take, get_or, None, Result, Ok, Err, OnOk, IfErr, refl, sym, ap, ◌∙◌, subst, arith, bit_and, ◌⊎◌, inl, inr}
-use Rattle.std.specs.Prelude.{◌≢◌}
+use Rattle.std.proofs.Common.{◌≡◌, ℕ, zero, suc, ◌+◌, ◌-◌, ◌*◌, ◌≤◌, ◌<◌, true, false, List, [], ◌∷◌, length, length-append, take, get_or, Option, Some, None, Result, Ok, Err, OnOk, IfErr, refl, sym, ap, ◌∙◌, subst, arith, bit_and, ◌⊎◌, inl, inr}
+use Rattle.std.specs.Prelude.{◌≢◌, MatchOption}
 use Rattle.std.specs.Int.Bits.{and_zero_r}
 use Rattle.std.proofs.lemmas.Bool.{cases_Bool, cases_eq, cases_lt}
 use Rattle.std.proofs.lemmas.Bool.Decides.{not_from_Decides}
 use Rattle.std.proofs.lemmas.List.{ext_get_or, append-nil}
 use Rattle.pfr_flash.specs.Bytes.{bytes_at, written, and_bytes}
 use Rattle.pfr_flash.specs.FlashState.{FlashState, now, upto, size_of, op_count_of}
+use Rattle.pfr_flash.specs.Answer.{Answers}
+use Rattle.pfr_flash.specs.Losing.{AddsAtMost, OnlyLoses}
 use Rattle.pfr_flash.specs.Moved.{Worked}
 use Rattle.pfr_flash.specs.Operation.{Operation, Program, applied, play, IsTorn}
-use Rattle.pfr_flash.specs.Plan.{IsPart, DoesPart, Follows}
+use Rattle.pfr_flash.specs.Plan.{FailsWorking, IsPart, DoesPart, Follows}
 use Rattle.pfr_flash.specs.Range.{IsWithin, AllWithin, SameOutside}
 use Rattle.pfr_flash.specs.Reading.{OnlyReads, EndsAt}
 use Rattle.pfr_flash.specs.declared.names.Bank.{Bank}
@@ -18,52 +20,52 @@ use Rattle.pfr_flash.specs.declared.names.ContentType.{ContentType}
 use Rattle.pfr_flash.specs.declared.names.ContentType.TheVariants.{PchManifest, PchCapsule, BmcManifest, BmcCapsule}
 use Rattle.pfr_flash.specs.declared.flash.FlashFail.{FlashFail}
 use Rattle.pfr_flash.proofs.BytesLemmas.{length-bytes_at, get_or-bytes_at, bytes_at-written, and_bytes-ones, get_or-written_inside}
-use Rattle.pfr_flash.proofs.EndsLemmas.{ends_reads}
+use Rattle.pfr_flash.proofs.CutLemmas.{AllPrograms, part_step, part_end, part_length, AddsAtMost-plan}
+use Rattle.pfr_flash.proofs.EndsLemmas.{ends_reads, ends_content, ends_fails}
 use Rattle.pfr_flash.proofs.FollowsLemmas.{FailsWorking-reading, Follows-reads, Follows-then, Follows-first, Follows-now, DoesPart-now}
 use Rattle.pfr_flash.proofs.FuseLemmas.{applied-byte}
+use Rattle.pfr_flash.proofs.LosingLemmas.{AllLose-programs, OnlyLoses-plan}
 use Rattle.pfr_flash.proofs.PlayLemmas.{length-applied}
 use Rattle.pfr_flash.proofs.PlanLemmas.{DoesPart-outside}
 use Rattle.pfr_flash.proofs.StateLemmas.{upto-added}
 use Rattle.pfr_flash.proofs.RangeLemmas.{SameOutside-applied, SameOutside-torn, SameOutside-refl, SameOutside-wider, then_outside, bytes_at-outside, length-now}
-use Rattle.pfr_fuses.specs.Answer.{Refuses, fuse_failure}
+use Rattle.pfr_fuses.specs.Answer.{fuse_failure}
 use Rattle.pfr_fuses.specs.RootSlot.{IsSlot, slot_of, slot_bytes, provision_in}
 use Rattle.pfr_fuses.specs.Slots.{IsSet, IsBlank, IsProvisionedBy, IsUnset, slot_at, is_blank}
 use Rattle.pfr_fuses.specs.FuseMap.{IsSigning, profile_of, floor_at, row_at}
-use Rattle.pfr_fuses.specs.Growth.{NeverGoesBack, OnlyLoses, KeepsProvision, AddsAtMost, Adds}
-use Rattle.pfr_fuses.specs.Provisioning.{CanProvision, IsBarred, FollowsAs, IsFirstBlank, IsProvisionable, IsProvisionedWith, IsUsedUp, KeepsFuses, ProvisionFails, Provisions, judge_provision, provision_plan}
+use Rattle.pfr_fuses.specs.Growth.{NeverGoesBack, KeepsProvision, Adds}
+use Rattle.pfr_fuses.specs.Provisioning.{CanProvision, IsBarred, FollowsAs, IsFirstBlank, IsProvisionable, IsProvisionedWith, IsUsedUp, KeepsFuses, LeavesProvision, ProvisionFails, Provisions, judge_provision, provision_plan}
 use Rattle.pfr_fuses.specs.declared.root_slot.RootSlot.{RootSlot}
 use Rattle.pfr_fuses.specs.declared.fuse_fail.FuseFail.{FuseFail}
-use Rattle.pfr_fuses.specs.declared.fuse_fail.FuseFail.TheVariants.{NotProvisioned, SlotsSpent, AlreadyProvisioned, LayoutBad, Flash}
+use Rattle.pfr_fuses.specs.declared.fuse_fail.FuseFail.TheVariants.{Flash}
 use Rattle.pfr_fuses.specs.declared.profile.Profile.{Profile}
 use Rattle.pfr_fuses.specs.declared.profile.Profile.TheVariants.{One, Two}
 use Rattle.pfr_fuses.proofs.BlankLemmas.{judged-ok, judged-err, provisionable-judged}
-use Rattle.pfr_fuses.proofs.GrowthLemmas.{AllPrograms, part_step, part_end, part_length, profile-outside, NeverGoesBack-programs, KeepsProvision-none, KeepsProvision-last, Adds-within, AddsAtMost-plan}
-use Rattle.pfr_fuses.proofs.LosingLemmas.{AllLose-programs, OnlyLoses-plan}
+use Rattle.pfr_fuses.proofs.GrowthLemmas.{profile-outside, NeverGoesBack-programs, KeepsProvision-none, KeepsProvision-last, Adds-within}
 use Rattle.pfr_fuses.proofs.RootSlotLemmas.{length-slot, slot_of-bytes}
 use Rattle.pfr_fuses.proofs.SlotLemmas.{Decides-is_blank}
 use Rattle.pfr_fuses.proofs.StaysLemmas.{AreOutside, floor_bits-outside, row_bits-outside}
 
 -- ---- the answer, by its parts
+-- the cause of a refusal, whatever else would have been answered
 abbrev refused : {A : Type 0} → FuseFail → Result A FuseFail
 refused cause = Err cause
 
-same_cause : (other cause : FuseFail) → refused {A = ℕ} other ≡ refused cause → refused {A = Unit {0}} other ≡ refused cause
-same_cause other cause h = let e : other ≡ cause = cc in ap (λ (c : FuseFail). refused {A = Unit {0}} c) e
+same_cause : (failed : Option FlashFail) (other cause : FuseFail) → MatchOption failed (refused {A = ℕ} other ≡ refused cause) (λ fail. Unit {0}) → MatchOption failed (refused {A = Unit {0}} other ≡ refused cause) (λ fail. Unit {0})
+same_cause None other cause h = let e : other ≡ cause = cc in ap (λ (c : FuseFail). refused c) e
+same_cause (Some fail) other cause h = tt
 
 -- the store was only read, and a cause was found or a read failed
-pub provisions-refused : (what : RootSlot) (old new : FlashState) (cause : FuseFail) (judged : Result ℕ FuseFail) → Refuses old new cause judged → EndsAt (fuse_failure cause) old new → Provisions what old new (Err cause) judged
-provisions-refused what old new (Flash f) (Ok number) h reads =
-    let none : Follows {A = Unit {0}} [] old new (Err f) = Follows-reads old new (Err f) reads in
-    Follows-first [] (provision_plan number what) old new f none
-provisions-refused what old new (Flash f) (Err other) h reads = (h, reads)
-provisions-refused what old new NotProvisioned (Ok number) h reads = absurd cc
-provisions-refused what old new NotProvisioned (Err other) h reads = (same_cause other NotProvisioned h, reads)
-provisions-refused what old new SlotsSpent (Ok number) h reads = absurd cc
-provisions-refused what old new SlotsSpent (Err other) h reads = (same_cause other SlotsSpent h, reads)
-provisions-refused what old new AlreadyProvisioned (Ok number) h reads = absurd cc
-provisions-refused what old new AlreadyProvisioned (Err other) h reads = (same_cause other AlreadyProvisioned h, reads)
-provisions-refused what old new (LayoutBad bank rule) (Ok number) h reads = absurd cc
-provisions-refused what old new (LayoutBad bank rule) (Err other) h reads = (same_cause other (LayoutBad bank rule) h, reads)
+not_followed : (plan : List Operation) (old new : FlashState) (number : ℕ) (cause : FuseFail) (failed : Option FlashFail) → MatchOption failed (Ok number ≡ Err cause) (λ fail. Unit {0}) → EndsAt failed old new
+    → MatchOption failed ⊥ (λ fail. Follows {A = Unit {0}} plan old new (Err fail))
+not_followed plan old new number cause None h reads = cc
+not_followed plan old new number cause (Some fail) h reads =
+    let none : Follows {A = Unit {0}} [] old new (Err fail) = Follows-reads old new (Err fail) reads in
+    Follows-first [] plan old new fail none
+
+pub provisions-refused : (what : RootSlot) (old new : FlashState) (cause : FuseFail) (judged : Result ℕ FuseFail) → Answers fuse_failure (Err cause) judged → EndsAt (fuse_failure cause) old new → Provisions what old new (Err cause) judged
+provisions-refused what old new cause (Ok number) h reads = not_followed (provision_plan number what) old new number cause (fuse_failure cause) h reads
+provisions-refused what old new cause (Err other) h reads = (same_cause (fuse_failure cause) other cause h, reads)
 
 read_first : {A : Type 0} (plan : List Operation) (old middle new : FlashState) (result : Result A FlashFail) → EndsAt None old middle → Follows plan middle new result → Follows plan old new result
 read_first plan old middle new result reads h =
@@ -275,13 +277,13 @@ record Did (plan : List Operation) (old new : FlashState) : Type 0 where
   part : DoesPart plan old new
   worked : Worked old new
 
+failed_did : (plan : List Operation) (old new : FlashState) (failed : Option FlashFail) → MatchOption failed ⊥ (λ f. Follows {A = Unit {0}} plan old new (Err f)) → Did plan old new
+failed_did plan old new None h = absurd h
+failed_did plan old new (Some f) h = record { part = h.part; worked = h.worked }
+
 follows_did : (plan : List Operation) (old new : FlashState) (result : Result (Unit {0}) FuseFail) → FollowsAs plan old new result → Did plan old new
 follows_did plan old new (Ok u) h = record { part = h.part; worked = h.worked }
-follows_did plan old new (Err (Flash f)) h = record { part = h.part; worked = h.worked }
-follows_did plan old new (Err NotProvisioned) h = absurd h
-follows_did plan old new (Err SlotsSpent) h = absurd h
-follows_did plan old new (Err AlreadyProvisioned) h = absurd h
-follows_did plan old new (Err (LayoutBad bank rule)) h = absurd h
+follows_did plan old new (Err cause) h = failed_did plan old new (fuse_failure cause) h
 
 reads_did : (old new : FlashState) → OnlyReads old new → Did [] old new
 reads_did old new h = record { part = record { added = []; is = h.ops ∙ sym (append-nil old.ops); part = tt {0} }; worked = h.worked }
@@ -334,29 +336,28 @@ provision_found old new what bmc_size pch_size (Ok u) (Ok number) is h = (number
 provision_found old new what bmc_size pch_size (Ok u) (Err cause) is h = let e = h.0 in absurd cc
 provision_found old new what bmc_size pch_size (Err cause) judged is h = tt {0}
 
-barred : (old new : FlashState) (what : RootSlot) (bmc_size pch_size : ℕ) (cause other : FuseFail) → judge_provision (now old) what bmc_size pch_size ≡ Err other → refused {A = Unit {0}} other ≡ refused cause
-    → IsBarred (now old) what bmc_size pch_size cause
-barred old new what bmc_size pch_size cause other is same =
-    let e : other ≡ cause = cc in judged-err (now old) what bmc_size pch_size cause (is ∙ ap (λ (c : FuseFail). refused {A = ℕ} c) e)
+-- a plan that failed, or a judgement that barred it
+fails_after : (old new : FlashState) (what : RootSlot) (Barred : Type 0) (number : ℕ) (failed : Option FlashFail) → LeavesProvision old new what
+    → MatchOption failed ⊥ (λ f. Follows {A = Unit {0}} (provision_plan number what) old new (Err f)) → MatchOption failed Barred (λ f. FailsWorking f old new × LeavesProvision old new what)
+fails_after old new what Barred number None left h = absurd h
+fails_after old new what Barred number (Some f) left h = (h.failed, left)
+
+fails_before : (old new : FlashState) (what : RootSlot) (bmc_size pch_size : ℕ) (cause other : FuseFail) (failed : Option FlashFail) → judge_provision (now old) what bmc_size pch_size ≡ Err other
+    → MatchOption failed (refused {A = Unit {0}} other ≡ refused cause) (λ fail. Unit {0}) → EndsAt failed old new
+    → MatchOption failed (IsBarred (now old) what bmc_size pch_size cause × EndsAt None old new) (λ f. FailsWorking f old new × LeavesProvision old new what)
+fails_before old new what bmc_size pch_size cause other None is same ends =
+    let e : other ≡ cause = cc in (judged-err (now old) what bmc_size pch_size cause (is ∙ ap (λ (c : FuseFail). Err c) e), ends)
+fails_before old new what bmc_size pch_size cause other (Some f) is same ends = (FailsWorking-reading f old new (ends_fails f old new ends), inr (inr (ends_content ends)))
 
 provision_err : (old new : FlashState) (what : RootSlot) (bmc_size pch_size : ℕ) (result : Result (Unit {0}) FuseFail) → size_of old ≡ 32768 → IsSlot what → (judged : Result ℕ FuseFail)
     → judge_provision (now old) what bmc_size pch_size ≡ judged → Provisions what old new result judged → IfErr result (ProvisionFails old new what bmc_size pch_size)
 provision_err old new what bmc_size pch_size (Ok u) size slot judged is h = tt {0}
-provision_err old new what bmc_size pch_size (Err (Flash f)) size slot (Ok number) is h =
-    let can = judged-ok (now old) what bmc_size pch_size number is in (
-      h.failed,
-      what_is_left (now old) what number (length-now old ∙ size) can.slot.within slot can.slot.blank (now new) can.unset
-          (along_now old new what number size slot can.slot (record { part = h.part; worked = h.worked })),
-    )
-provision_err old new what bmc_size pch_size (Err (Flash f)) size slot (Err other) is h = (FailsWorking-reading f old new h.0, inr (inr (ends_reads h.1).content))
-provision_err old new what bmc_size pch_size (Err NotProvisioned) size slot (Ok number) is h = absurd h
-provision_err old new what bmc_size pch_size (Err NotProvisioned) size slot (Err other) is h = (barred old new what bmc_size pch_size NotProvisioned other is h.0, (ends_reads h.1).content)
-provision_err old new what bmc_size pch_size (Err SlotsSpent) size slot (Ok number) is h = absurd h
-provision_err old new what bmc_size pch_size (Err SlotsSpent) size slot (Err other) is h = (barred old new what bmc_size pch_size SlotsSpent other is h.0, (ends_reads h.1).content)
-provision_err old new what bmc_size pch_size (Err AlreadyProvisioned) size slot (Ok number) is h = absurd h
-provision_err old new what bmc_size pch_size (Err AlreadyProvisioned) size slot (Err other) is h = (barred old new what bmc_size pch_size AlreadyProvisioned other is h.0, (ends_reads h.1).content)
-provision_err old new what bmc_size pch_size (Err (LayoutBad bank rule)) size slot (Ok number) is h = absurd h
-provision_err old new what bmc_size pch_size (Err (LayoutBad bank rule)) size slot (Err other) is h = (barred old new what bmc_size pch_size (LayoutBad bank rule) other is h.0, (ends_reads h.1).content)
+provision_err old new what bmc_size pch_size (Err cause) size slot (Ok number) is h =
+    let can = judged-ok (now old) what bmc_size pch_size number is in
+    let left : LeavesProvision old new what = what_is_left (now old) what number (length-now old ∙ size) can.slot.within slot can.slot.blank (now new) can.unset
+    (along_now old new what number size slot can.slot (follows_did (provision_plan number what) old new (Err cause) h)) in
+    fails_after old new what (IsBarred (now old) what bmc_size pch_size cause × EndsAt None old new) number (fuse_failure cause) left h
+provision_err old new what bmc_size pch_size (Err cause) size slot (Err other) is h = fails_before old new what bmc_size pch_size cause other (fuse_failure cause) is h.0 h.1
 
 -- From the moment at which a slot is provisioned it stays as it is.
 pub KeepsProvision-slot : (old new : FlashState) (what : RootSlot) (number : ℕ) → size_of old ≡ 32768 → new.start ≡ old.start → IsSlot what → IsUnset (now old) → IsFirstBlank (now old) number
@@ -453,7 +454,7 @@ module _ (old new : FlashState) (what : RootSlot) (bmc_size pch_size : ℕ) (res
   provision-keeps = provision_keeps old new what bmc_size pch_size result size slot (judge_provision (now old) what bmc_size pch_size) refl exact
 
   pub provision-loses : OnlyLoses 0 32768 old new
-  provision-loses = OnlyLoses-plan 0 32768 (omega arith) in_slots.plan old new size in_slots.did.worked.moved.start in_slots.did.part (AllLose-programs 0 32768 in_slots.plan in_slots.programs)
+  provision-loses = OnlyLoses-plan 32768 0 32768 (omega arith) in_slots.plan old new size in_slots.did.worked.moved.start in_slots.did.part (AllLose-programs 32768 0 32768 in_slots.plan in_slots.programs)
 
   pub provision-count : AddsAtMost 2 old new
   provision-count = AddsAtMost-plan 2 in_slots.plan old new in_slots.did.part in_slots.few

@@ -1,11 +1,12 @@
 -- What raising a floor leaves.
-use Rattle.std.proofs.Common.{◌≡◌, ℕ, ◌+◌, ◌-◌, ◌≤◌, ◌<◌, max, true, false, List, [], length, Result, Ok, Err, OnOk, OnErr, refl, sym, ap, ◌∙◌, subst, arith, ◌⊎◌, inl, inr}
+use Rattle.std.proofs.Common.{◌≡◌, ℕ, ◌+◌, ◌-◌, ◌≤◌, ◌<◌, max, true, false, List, [], length, Result, Ok, OnOk, OnErr, refl, sym, ap, ◌∙◌, subst, arith, ◌⊎◌, inl, inr}
 use Rattle.std.specs.Prelude.{◌↔◌, ◌≢◌, nat_le}
 use Rattle.std.proofs.lemmas.Bool.{cases_Bool, cases_eq, cases_lt}
 use Rattle.std.proofs.lemmas.Bool.Decides.{nat_tests}
 use Rattle.pfr_flash.specs.Bytes.{bytes_at}
 use Rattle.pfr_flash.specs.FlashState.{FlashState, now, size_of}
-use Rattle.pfr_flash.specs.FuseRow.{IsCleared, IsHighest, MayClear, fuse_at, with_cleared}
+use Rattle.pfr_flash.specs.FuseRow.{IsCleared, IsHighest, clearing, fuse_at, with_cleared}
+use Rattle.pfr_flash.specs.Losing.{AddsAtMost, OnlyLoses}
 use Rattle.pfr_flash.specs.Operation.{Operation, play}
 use Rattle.pfr_flash.specs.Plan.{IsPart, Follows}
 use Rattle.pfr_flash.specs.Range.{AllWithin, IsWithin, SameOutside}
@@ -14,21 +15,24 @@ use Rattle.pfr_flash.specs.declared.names.Bank.TheVariants.{Bmc, Pch}
 use Rattle.pfr_flash.specs.declared.names.ContentType.{ContentType}
 use Rattle.pfr_flash.specs.declared.names.ContentType.TheVariants.{PchManifest, PchCapsule, BmcManifest, BmcCapsule}
 use Rattle.pfr_flash.specs.declared.flash.FlashFail.{FlashFail}
-use Rattle.pfr_flash.proofs.FollowsLemmas.{Follows-now, Follows-outside, DoesPart-now}
-use Rattle.pfr_flash.proofs.FuseLemmas.{IsCleared-program}
+use Rattle.pfr_flash.proofs.ClearingLemmas.{clearing-within, clearing-programs, clearing-part, MayClear-refl}
+use Rattle.pfr_flash.proofs.CutLemmas.{AllPrograms, part_end, AddsAtMost-plan}
+use Rattle.pfr_flash.proofs.FollowsLemmas.{Follows-outside, DoesPart-now}
+use Rattle.pfr_flash.proofs.FuseLemmas.{MayClear, IsCleared-program}
+use Rattle.pfr_flash.proofs.LosingLemmas.{AllLose-programs, OnlyLoses-plan}
 use Rattle.pfr_flash.proofs.RangeLemmas.{length-now}
 use Rattle.pfr_fuses.specs.FuseMap.{IsBit, IsFloorBit, IsFloor, profile_of, floor_at}
 use Rattle.pfr_fuses.specs.FusesState.{FusesState, floor_row, row_of, floor_of}
 use Rattle.pfr_fuses.specs.FusesOf.{FloorStands, floor_fuses, fuses_of}
-use Rattle.pfr_fuses.specs.Changes.{Raises, SameProvision, StaysButFloor, clearing, raise_plan, raised, with_floor}
-use Rattle.pfr_fuses.specs.Growth.{NeverGoesBack, OnlyLoses, KeepsProvision, AddsAtMost, Adds}
+use Rattle.pfr_fuses.specs.Changes.{Raises, SameProvision, StaysButFloor, raise_plan, raised, with_floor}
+use Rattle.pfr_fuses.specs.Growth.{NeverGoesBack, KeepsProvision, Adds}
 use Rattle.pfr_fuses.specs.declared.profile.Profile.TheVariants.{Two}
-use Rattle.pfr_fuses.proofs.ClearingLemmas.{clearing-within, clearing-programs, clearing-part, MayClear-refl, floor_bit-two, floor_bit-stays}
+use Rattle.pfr_fuses.proofs.AnswerLemmas.{done_now, on_either, on_err, on_ok_with}
+use Rattle.pfr_fuses.proofs.ClearingLemmas.{floor_bit-two, floor_bit-stays}
 use Rattle.pfr_fuses.proofs.ExactLemmas.{ChangedAt, fuses_of-but_floor, floor_kept, floor-cleared}
 use Rattle.pfr_fuses.proofs.FloorLemmas.{floor_in-above, floor_in-highest}
-use Rattle.pfr_fuses.proofs.GrowthLemmas.{AllPrograms, part_end, profile-outside, NeverGoesBack-programs, KeepsProvision-plan, Adds-within, AddsAtMost-plan, slots-outside}
+use Rattle.pfr_fuses.proofs.GrowthLemmas.{profile-outside, NeverGoesBack-programs, KeepsProvision-plan, Adds-within, slots-outside}
 use Rattle.pfr_fuses.proofs.KeptLemmas.{raise_plan-none}
-use Rattle.pfr_fuses.proofs.LosingLemmas.{AllLose-programs, OnlyLoses-plan}
 use Rattle.pfr_fuses.proofs.StandsLemmas.{kept_floor}
 use Rattle.pfr_fuses.proofs.StaysLemmas.{floors_apart, row_behind_floors, floor_in_sector, floor_bits-outside, row_bits-outside, FloorStands-same, RowStands-same}
 
@@ -46,7 +50,7 @@ raise-within floor bank to most = raise_cases (λ plan. AllWithin (floor_at Two 
 
 pub raise-programs : (floor : ℕ) (bank : Bank) (to : ℕ) → to ≤ 127 → AllPrograms 32768 (raise_plan floor bank to)
 raise-programs floor bank to most =
-    raise_cases (λ plan. AllPrograms 32768 plan) floor bank to (λ le. tt) (λ lt. clearing-programs (floor_at Two bank) 16 (to - 1) (omega arith) (omega (arith, (floor_in_sector bank).1)))
+    raise_cases (λ plan. AllPrograms 32768 plan) floor bank to (λ le. tt) (λ lt. clearing-programs 32768 (floor_at Two bank) 16 (to - 1) (omega arith) (omega (arith, (floor_in_sector bank).1)))
 
 raise-part : (image : List ℕ) (floor : ℕ) (bank : Bank) (to : ℕ) (added : List Operation) → length image ≡ 32768 → to ≤ 127 → IsPart image (raise_plan floor bank to) added
     → MayClear (floor_at Two bank) 16 (to - 1) image (play image added)
@@ -249,8 +253,8 @@ module _ (bank : Bank) (to : ℕ) (old new : FlashState) (fuses after : FusesSta
       (omega (arith, (floor_in_sector bank).0)) (raise-within (floor_of fuses bank) bank to most)
 
   pub raise-loses : OnlyLoses 0 32768 old new
-  raise-loses = OnlyLoses-plan 0 32768 (omega arith) (raise_plan (floor_of fuses bank) bank to) old new size follows.worked.moved.start follows.part
-      (AllLose-programs 0 32768 (raise_plan (floor_of fuses bank) bank to) (raise-programs (floor_of fuses bank) bank to most))
+  raise-loses = OnlyLoses-plan 32768 0 32768 (omega arith) (raise_plan (floor_of fuses bank) bank to) old new size follows.worked.moved.start follows.part
+      (AllLose-programs 32768 0 32768 (raise_plan (floor_of fuses bank) bank to) (raise-programs (floor_of fuses bank) bank to most))
 
   pub raise-count : AddsAtMost 1 old new
   raise-count = AddsAtMost-plan 1 (raise_plan (floor_of fuses bank) bank to) old new follows.part
@@ -263,18 +267,10 @@ module _ (bank : Bank) (to : ℕ) (old new : FlashState) (fuses after : FusesSta
   stays_raised e = stays_but bank (now old) (now new) fuses after changed (subst (λ (kept : FusesState). SameElse fuses bank kept) (sym e) (same_raised fuses bank to))
 
   pub raise-stays : OnOk result (after ≡ raised fuses bank to) → OnErr result (after ≡ fuses) → StaysButFloor bank (now old) fuses (now new) after
-  raise-stays ok err = by_result result ok err
-    where
-      by_result : (r : Result (Unit {0}) FlashFail) → OnOk r (after ≡ raised fuses bank to) → OnErr r (after ≡ fuses) → StaysButFloor bank (now old) fuses (now new) after
-      by_result (Ok u) is none = stays_raised is
-      by_result (Err f) none is = stays_kept is
+  raise-stays ok err = on_either result ok err stays_raised stays_kept
 
-  done_now : OnOk result (now new ≡ play (now old) (raise_plan (floor_of fuses bank) bank to))
-  done_now = by_result result follows
-    where
-      by_result : (r : Result (Unit {0}) FlashFail) → Follows (raise_plan (floor_of fuses bank) bank to) old new r → OnOk r (now new ≡ play (now old) (raise_plan (floor_of fuses bank) bank to))
-      by_result (Ok u) h = Follows-now (raise_plan (floor_of fuses bank) bank to) old new u h
-      by_result (Err f) h = tt
+  done : OnOk result (now new ≡ play (now old) (raise_plan (floor_of fuses bank) bank to))
+  done = done_now (raise_plan (floor_of fuses bank) bank to) old new result follows
 
   kept_same : to ≤ floor_of fuses bank → after ≡ raised fuses bank to → after ≡ fuses
   kept_same le e = e ∙ raised_cases (λ kept. kept ≡ fuses) fuses bank to (λ low. refl) (λ high. absurd (omega (arith, le, high)))
@@ -292,23 +288,15 @@ module _ (bank : Bank) (to : ℕ) (old new : FlashState) (fuses after : FusesSta
       subst (λ (image : List ℕ). FloorStands image after bank) (sym (now_same low is)) (subst (λ (k : FusesState). FloorStands (now old) k bank) (sym (kept_same low kept)) stands)
 
   pub raise-ok : FloorStands (now old) fuses bank → OnOk result (after ≡ raised fuses bank to) → OnOk result (Raises fuses bank to after) → OnOk result (FloorStands (now new) after bank)
-  raise-ok stands ok raises = by_result result done_now ok raises
-    where
-      by_result : (r : Result (Unit {0}) FlashFail) → OnOk r (now new ≡ play (now old) (raise_plan (floor_of fuses bank) bank to)) → OnOk r (after ≡ raised fuses bank to) → OnOk r (Raises fuses bank to after)
-          → OnOk r (FloorStands (now new) after bank)
-      by_result (Ok u) is kept h = stands_done stands is kept h (cases_lt (floor_of fuses bank) to)
-      by_result (Err f) is kept h = tt
+  raise-ok stands ok raises = on_ok_with {Q = (after ≡ raised fuses bank to) × Raises fuses bank to after} result done (on_ok_with result ok raises (λ kept h. (kept, h)))
+      (λ is h. stands_done stands is h.0 h.1 (cases_lt (floor_of fuses bank) to))
 
   floor_done : after ≡ raised fuses bank to → Raises fuses bank to after → ((floor_of fuses bank < to) ⊎ (to ≤ floor_of fuses bank)) → floor_of after bank ≡ max (floor_of fuses bank) to
   floor_done kept raises (inl above) = let is : to ≡ floor_of after bank = raised_floor fuses after bank to most above raises in omega (arith, is, above)
   floor_done kept raises (inr low) = let is : floor_of after bank ≡ floor_of fuses bank = ap (λ (k : FusesState). floor_of k bank) (kept_same low kept) in omega (arith, is, low)
 
   pub raise-floor : OnOk result (after ≡ raised fuses bank to) → OnOk result (Raises fuses bank to after) → OnOk result (floor_of after bank ≡ max (floor_of fuses bank) to)
-  raise-floor ok raises = by_result result ok raises
-    where
-      by_result : (r : Result (Unit {0}) FlashFail) → OnOk r (after ≡ raised fuses bank to) → OnOk r (Raises fuses bank to after) → OnOk r (floor_of after bank ≡ max (floor_of fuses bank) to)
-      by_result (Ok u) kept h = floor_done kept h (cases_lt (floor_of fuses bank) to)
-      by_result (Err f) kept h = tt
+  raise-floor ok raises = on_ok_with result ok raises (λ kept h. floor_done kept h (cases_lt (floor_of fuses bank) to))
 
   floor_after : IsFloor (now old) bank (floor_of fuses bank) → ((floor_of fuses bank < to) ⊎ (to ≤ floor_of fuses bank)) → IsFloor (now new) bank (floor_of fuses bank) ⊎ IsFloor (now new) bank to
   floor_after was (inl above) = floor_left bank to (now old) (now new) (floor_of fuses bank) changed may most above was
@@ -318,23 +306,17 @@ module _ (bank : Bank) (to : ℕ) (old new : FlashState) (fuses after : FusesSta
       (subst (λ (plan : List Operation). IsPart (now old) plan follows.part.added) (raise_plan-none (floor_of fuses bank) bank to low) follows.part.part) was))
 
   pub raise-err : FloorStands (now old) fuses bank → OnErr result (IsFloor (now new) bank (floor_of fuses bank) ⊎ IsFloor (now new) bank to)
-  raise-err stands = by_result result
-    where
-      by_result : (r : Result (Unit {0}) FlashFail) → OnErr r (IsFloor (now new) bank (floor_of fuses bank) ⊎ IsFloor (now new) bank to)
-      by_result (Ok u) = tt
-      by_result (Err f) = floor_after (kept_floor (now old) fuses bank stands) (cases_lt (floor_of fuses bank) to)
+  raise-err stands = on_err result (floor_after (kept_floor (now old) fuses bank stands) (cases_lt (floor_of fuses bank) to))
 
   -- ---- what the store says
   says_kept : fuses_of (now old) ≡ Ok fuses → SaysBut bank (now new) fuses
   says_kept was = fuses_of-but_floor bank (now old) (now new) fuses (changed_at bank (now old) (now new) changed) was
 
   pub raise-rest : OnOk result (after ≡ raised fuses bank to) → OnErr result (after ≡ fuses) → fuses_of (now old) ≡ Ok fuses → fuses_of (now new) ≡ Ok (with_floor after bank (floor_fuses (now new) bank))
-  raise-rest ok err was = by_result result ok err
-    where
-      by_result : (r : Result (Unit {0}) FlashFail) → OnOk r (after ≡ raised fuses bank to) → OnErr r (after ≡ fuses) → SaysBut bank (now new) after
-      by_result (Ok u) is none = says_kept was
-          ∙ ap (λ (kept : FusesState). Ok kept) (sym (ap (λ (kept : FusesState). with_floor kept bank (floor_fuses (now new) bank)) is ∙ raised_again fuses bank to (floor_fuses (now new) bank)))
-      by_result (Err f) none is = subst (SaysBut bank (now new)) (sym is) (says_kept was)
+  raise-rest ok err was = on_either result ok err
+      (λ is. says_kept was
+      ∙ ap (λ (kept : FusesState). Ok kept) (sym (ap (λ (kept : FusesState). with_floor kept bank (floor_fuses (now new) bank)) is ∙ raised_again fuses bank to (floor_fuses (now new) bank))))
+      (λ is. subst (SaysBut bank (now new)) (sym is) (says_kept was))
 
   raised_row : floor_of fuses bank < to → now new ≡ play (now old) (raise_plan (floor_of fuses bank) bank to) → fuses_of (now old) ≡ Ok fuses
       → floor_fuses (now new) bank ≡ with_cleared (floor_row fuses bank) (to - 1)
@@ -353,9 +335,4 @@ module _ (bank : Bank) (to : ℕ) (old new : FlashState) (fuses after : FusesSta
   says_raised is kept was (inr low) = ap fuses_of (now_same low is) ∙ was ∙ ap (λ (a : FusesState). Ok a) (sym (kept_same low kept))
 
   pub raise-exact : OnOk result (after ≡ raised fuses bank to) → OnOk result (fuses_of (now old) ≡ Ok fuses → fuses_of (now new) ≡ Ok after)
-  raise-exact ok = by_result result done_now ok
-    where
-      by_result : (r : Result (Unit {0}) FlashFail) → OnOk r (now new ≡ play (now old) (raise_plan (floor_of fuses bank) bank to)) → OnOk r (after ≡ raised fuses bank to)
-          → OnOk r (fuses_of (now old) ≡ Ok fuses → fuses_of (now new) ≡ Ok after)
-      by_result (Ok u) is kept = λ was. says_raised is kept was (cases_lt (floor_of fuses bank) to)
-      by_result (Err f) is kept = tt
+  raise-exact ok = on_ok_with result done ok (λ is kept was. says_raised is kept was (cases_lt (floor_of fuses bank) to))

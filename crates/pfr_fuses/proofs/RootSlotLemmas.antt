@@ -1,27 +1,25 @@
 -- What the bytes of a provision say is what they were made of.
-use Rattle.std.proofs.Common.{◌≡◌, ℕ, ◌+◌, ◌-◌, ◌^◌, ◌<◌, List, [], ◌++◌, length, take, drop, refl, sym, ap, ◌∙◌, arith, append_assoc, length-append}
-use Rattle.std.specs.Prelude.{slice_range}
+use Rattle.std.proofs.Common.{◌≡◌, ℕ, ◌+◌, ◌^◌, ◌<◌, List, [], ◌++◌, length, take, refl, sym, ap, ◌∙◌, arith, append_assoc, length-append}
 use Rattle.std.proofs.lemmas.List.{drop_at, take_at, append-nil}
 use Rattle.byteorder.specs.Endian.{little_bytes, little_number}
 use Rattle.byteorder.specs.Numbers.{little_number-reads_back, length-bytes_low_first}
+use Rattle.pfr_flash.specs.Bytes.{bytes_at}
+use Rattle.pfr_flash.specs.Numbers.{little_at, number_at}
 use Rattle.pfr_flash.specs.declared.layout.Layout.{Layout}
-use Rattle.pfr_fuses.specs.RootSlot.{HasFields, IsSlot, number_at, layout_at, slot_of, layout_bytes, slot_bytes}
+use Rattle.pfr_fuses.specs.RootSlot.{HasFields, IsSlot, layout_at, slot_of, layout_bytes, slot_bytes}
 use Rattle.pfr_fuses.specs.declared.root_slot.RootSlot.{RootSlot}
 
 pub length-number : (x : ℕ) → length (little_bytes 4 x) ≡ 4
 length-number x = length-bytes_low_first 0 4 x
 
 -- a part of bytes that are put together
-range_middle : (all front part rest : List ℕ) (at end : ℕ) → all ≡ front ++ (part ++ rest) → length front ≡ at → at + length part ≡ end → slice_range all at end ≡ part
-range_middle all front part rest at end e hf hp =
-    let n : end - at ≡ length part = omega arith in
-    ap (λ (xs : List ℕ). take (end - at) (drop at xs)) e ∙ ap (λ (xs : List ℕ). take (end - at) xs) (drop_at front (part ++ rest) at hf) ∙ take_at part rest (end - at) (sym n)
+part_middle : (all front part rest : List ℕ) (at count : ℕ) → all ≡ front ++ (part ++ rest) → length front ≡ at → length part ≡ count → bytes_at all at count ≡ part
+part_middle all front part rest at count e hf hp = ap (λ (xs : List ℕ). bytes_at xs at count) e ∙ ap (λ (xs : List ℕ). take count xs) (drop_at front (part ++ rest) at hf) ∙ take_at part rest count hp
 
 number_there : (all front rest : List ℕ) (at x : ℕ) → x < 2 ^ 32 → all ≡ front ++ (little_bytes 4 x ++ rest) → length front ≡ at → number_at all at ≡ x
-unfolding number_at
+unfolding little_at
 number_there all front rest at x fits e hf =
-    let four : at + length (little_bytes 4 x) ≡ at + 4 = ap (λ (n : ℕ). at + n) (length-number x) in
-    ap (little_number 4) (range_middle all front (little_bytes 4 x) rest at (at + 4) e hf four ∙ sym (append-nil (little_bytes 4 x))) ∙ little_number-reads_back 4 x [] fits
+    ap (little_number 4) (part_middle all front (little_bytes 4 x) rest at 4 e hf (length-number x) ∙ sym (append-nil (little_bytes 4 x))) ∙ little_number-reads_back 4 x [] fits
 
 layout_there : (all front rest : List ℕ) (at : ℕ) (l : Layout) → HasFields l → all ≡ front ++ (layout_bytes l ++ rest) → length front ≡ at → layout_at all at ≡ l
 unfolding layout_at layout_bytes
@@ -72,7 +70,7 @@ pub slot_of-bytes : (what : RootSlot) → IsSlot what → slot_of (slot_bytes wh
 unfolding slot_of slot_bytes
 slot_of-bytes what h =
     let all = what.root ++ (layout_bytes what.bmc ++ layout_bytes what.pch) in
-    let root : slice_range all 0 32 ≡ what.root = range_middle all [] what.root (layout_bytes what.bmc ++ layout_bytes what.pch) 0 32 refl refl (omega (arith, h.root)) in
+    let root : bytes_at all 0 32 ≡ what.root = part_middle all [] what.root (layout_bytes what.bmc ++ layout_bytes what.pch) 0 32 refl refl h.root in
     let bmc : layout_at all 32 ≡ what.bmc = layout_there all what.root (layout_bytes what.pch) 32 what.bmc h.bmc refl h.root in
     let pch : layout_at all 52 ≡ what.pch =
     layout_there all (what.root ++ layout_bytes what.bmc) [] 52 what.pch h.pch (last what.root (layout_bytes what.bmc) (layout_bytes what.pch)) (simp length-append (omega (arith, h.root, length-layout what.bmc))) in

@@ -1,12 +1,12 @@
 -- The search for the slot that provisions the platform.
-use Rattle.std.proofs.Common.{◌≡◌, ℕ, zero, suc, ◌+◌, ◌-◌, ◌*◌, ◌≤◌, ◌<◌, Bool, true, false, ◌||◌, if◌then◌else◌, List, [], ◌∷◌, Some, None, Result, Ok, Err, refl, sym, ap, ◌∙◌, subst, arith, ◌⊎◌, inl, inr, slice_index}
+use Rattle.std.proofs.Common.{◌≡◌, ℕ, zero, suc, ◌+◌, ◌-◌, ◌*◌, ◌≤◌, ◌<◌, Bool, true, false, ◌||◌, if◌then◌else◌, List, ◌∷◌, Some, None, Result, Ok, Err, refl, sym, ap, ◌∙◌, subst, arith, ◌⊎◌, inl, inr, slice_index}
 use Rattle.std.specs.Prelude.{◌≢◌, ◌==◌}
 use Rattle.std.specs.Bool.{Decides}
 use Rattle.std.specs.List.{find, list_any}
 use Rattle.std.proofs.lemmas.Bool.{cases_Bool, cases_lt, false≢true}
 use Rattle.std.proofs.lemmas.Bool.Decides.{Decides-eqb, Decides-not, Decides-by_and, not_from_Decides}
 use Rattle.pfr_flash.specs.Bytes.{bytes_at}
-use Rattle.pfr_fuses.specs.Answer.{known}
+use Rattle.pfr_flash.specs.Judging.{known}
 use Rattle.pfr_fuses.specs.Slots.{IsSet, IsBlank, IsProvisionedBy, IsUnset, HasBlank, slot_at, is_set, is_blank, slots_from, choose_slot, provisioned_slot}
 use Rattle.pfr_fuses.specs.declared.fuse_fail.FuseFail.{FuseFail}
 use Rattle.pfr_fuses.specs.declared.fuse_fail.FuseFail.TheVariants.{NotProvisioned, SlotsSpent}
@@ -29,10 +29,6 @@ choose_after-set seen slot slots h = rw h refl
 pub choose_after-unset : (seen : Bool) (slot : List ℕ) (slots : List (List ℕ)) → is_set slot ≡ false → choose_after seen (slot ∷ slots) ≡ choose_after (seen || is_blank slot) slots
 choose_after-unset true slot slots h = rw h refl
 choose_after-unset false slot slots h = rw h refl
-
-pub choose_after-nil : (seen : Bool) → choose_after seen [] ≡ Err (if seen then NotProvisioned else SlotsSpent)
-choose_after-nil true = refl
-choose_after-nil false = refl
 
 -- the slots that are left of eight
 pub slots_left : (nv : List ℕ) (number : ℕ) → number < 8 → slots_from nv number (8 - number) ≡ slot_at nv number ∷ slots_from nv (number + 1) (8 - (number + 1))

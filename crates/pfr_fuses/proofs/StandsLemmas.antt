@@ -2,21 +2,21 @@
 use Rattle.std.proofs.Common.{◌≡◌, ℕ, ◌+◌, ◌*◌, ◌≤◌, ◌<◌, List, length, get_or, replicate, Result, Ok, Err, IfOk, IfErr, refl, sym, ap, ◌∙◌, subst, arith, ◌⊎◌, inl, inr, eq-eqb}
 use Rattle.std.specs.Prelude.{◌↔◌}
 use Rattle.std.proofs.lemmas.Bool.{ne_eqb}
+use Rattle.pfr_flash.specs.Answer.{Answers}
 use Rattle.pfr_flash.specs.Bytes.{bytes_at, continued}
-use Rattle.pfr_flash.specs.FlashState.{FlashState, now}
 use Rattle.pfr_flash.specs.FuseRow.{IsCleared}
 use Rattle.pfr_flash.specs.declared.names.Bank.{Bank}
 use Rattle.pfr_flash.specs.declared.names.Bank.TheVariants.{Bmc, Pch}
 use Rattle.pfr_flash.specs.declared.names.ContentType.{ContentType}
 use Rattle.pfr_flash.specs.declared.names.ContentType.TheVariants.{PchManifest, PchCapsule, BmcManifest, BmcCapsule}
 use Rattle.pfr_flash.proofs.BytesLemmas.{length-bytes_at, get_or-bytes_at}
-use Rattle.pfr_fuses.specs.Answer.{Answers, Refuses}
+use Rattle.pfr_fuses.specs.Answer.{fuse_failure}
 use Rattle.pfr_fuses.specs.Slots.{IsProvisionedBy, IsUnset, HasBlank, slot_at}
 use Rattle.pfr_fuses.specs.FuseMap.{IsSigning, IsBit, IsCancelBit, IsFloor, profile_of, floor_at, floor_width, row_at, row_width}
 use Rattle.pfr_fuses.specs.FusesState.{FusesState, floor_row, row_of, floor_of}
 use Rattle.pfr_fuses.specs.FusesOf.{Stands, FloorStands, RowStands, IsRefused, floor_fuses, row_fuses, fuses_with, fuses_of}
 use Rattle.pfr_fuses.specs.declared.fuse_fail.FuseFail.{FuseFail}
-use Rattle.pfr_fuses.specs.declared.fuse_fail.FuseFail.TheVariants.{NotProvisioned, SlotsSpent, AlreadyProvisioned, LayoutBad, Flash}
+use Rattle.pfr_fuses.specs.declared.fuse_fail.FuseFail.TheVariants.{NotProvisioned, SlotsSpent, Flash}
 use Rattle.pfr_fuses.specs.declared.profile.Profile.{Profile}
 use Rattle.pfr_fuses.specs.declared.profile.Profile.TheVariants.{One, Two}
 use Rattle.pfr_fuses.proofs.FloorLemmas.{floor_in-above, floor_in-bit, IsCleared-continued, not_cleared}
@@ -151,30 +151,19 @@ fuses_of-err nv cause h = by_slot (provisioned_or_unset nv) (blank_or_spent nv)
     by_slot (inr unset) (inl blank) = let e = fuses_of-blank nv unset blank in (unset, inl (cc, blank))
     by_slot (inr unset) (inr spent) = let e = fuses_of-spent nv unset spent in (unset, inr (cc, spent))
 
-refused_unset : (nv : List ℕ) (cause : FuseFail) → IsUnset nv × (((cause ≡ NotProvisioned) × HasBlank nv) ⊎ ((cause ≡ SlotsSpent) × ¬ HasBlank nv)) → (old new : FlashState) → nv ≡ now old → IsRefused old new cause
-refused_unset nv NotProvisioned (unset, inl blank) old new e = subst (λ (store : List ℕ). IsUnset store × HasBlank store) e (unset, blank.1)
-refused_unset nv NotProvisioned (unset, inr spent) old new e = let clash = spent.0 in cc
-refused_unset nv SlotsSpent (unset, inl blank) old new e = let clash = blank.0 in cc
-refused_unset nv SlotsSpent (unset, inr spent) old new e = subst (λ (store : List ℕ). IsUnset store × ¬ HasBlank store) e (unset, spent.1)
-refused_unset nv AlreadyProvisioned (unset, inl blank) old new e = let clash = blank.0 in cc
-refused_unset nv AlreadyProvisioned (unset, inr spent) old new e = let clash = spent.0 in cc
-refused_unset nv (LayoutBad bank rule) (unset, inl blank) old new e = let clash = blank.0 in cc
-refused_unset nv (LayoutBad bank rule) (unset, inr spent) old new e = let clash = spent.0 in cc
-refused_unset nv (Flash f) (unset, inl blank) old new e = let clash = blank.0 in cc
-refused_unset nv (Flash f) (unset, inr spent) old new e = let clash = spent.0 in cc
-
 -- ---- an answer that is exact
-pub answer_ok : (old new : FlashState) (answer : Result FusesState FuseFail) → length (now old) ≡ 32768 → Answers old new answer (fuses_of (now old)) → IfOk answer (Stands (now old))
-answer_ok old new (Ok fuses) size h = fuses_of-stands (now old) fuses size h
-answer_ok old new (Err cause) size h = tt
+pub answer_ok : (nv : List ℕ) (answer : Result FusesState FuseFail) → length nv ≡ 32768 → Answers fuse_failure answer (fuses_of nv) → IfOk answer (Stands nv)
+answer_ok nv (Ok fuses) size h = fuses_of-stands nv fuses size h
+answer_ok nv (Err cause) size h = tt
 
-refusal : (old new : FlashState) (cause : FuseFail) → Refuses old new cause (fuses_of (now old)) → IsRefused old new cause
-refusal old new NotProvisioned h = refused_unset (now old) NotProvisioned (fuses_of-err (now old) NotProvisioned h) old new refl
-refusal old new SlotsSpent h = refused_unset (now old) SlotsSpent (fuses_of-err (now old) SlotsSpent h) old new refl
-refusal old new AlreadyProvisioned h = refused_unset (now old) AlreadyProvisioned (fuses_of-err (now old) AlreadyProvisioned h) old new refl
-refusal old new (LayoutBad bank rule) h = refused_unset (now old) (LayoutBad bank rule) (fuses_of-err (now old) (LayoutBad bank rule) h) old new refl
-refusal old new (Flash f) h = h
+refusal : (nv : List ℕ) (cause : FuseFail) → fuses_of nv ≡ Err cause → IsRefused nv cause
+refusal nv cause h = by_kind (fuses_of-err nv cause h)
+  where
+    by_kind : IsUnset nv × (((cause ≡ NotProvisioned) × HasBlank nv) ⊎ ((cause ≡ SlotsSpent) × ¬ HasBlank nv)) → IsRefused nv cause
+    by_kind (unset, inl blank) = subst (IsRefused nv) (sym blank.0) (unset, blank.1)
+    by_kind (unset, inr spent) = subst (IsRefused nv) (sym spent.0) (unset, spent.1)
 
-pub answer_err : (old new : FlashState) (answer : Result FusesState FuseFail) → Answers old new answer (fuses_of (now old)) → IfErr answer (IsRefused old new)
-answer_err old new (Ok fuses) h = tt
-answer_err old new (Err cause) h = refusal old new cause h
+pub answer_err : (nv : List ℕ) (answer : Result FusesState FuseFail) → Answers fuse_failure answer (fuses_of nv) → IfErr answer (IsRefused nv)
+answer_err nv (Ok fuses) h = tt
+answer_err nv (Err (Flash f)) h = tt
+answer_err nv (Err cause) h = refusal nv cause h

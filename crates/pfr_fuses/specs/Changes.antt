@@ -1,7 +1,7 @@
 -- What is done to the fuses of a store, and what stays.
-use Rattle.std.specs.Prelude.{◌≡◌, ◌≢◌, ◌↔◌, ℕ, ◌+◌, ◌-◌, ◌/◌, ◌<◌, ◌⊎◌, nat_le, if◌then◌else◌, List, [], ◌∷◌, ◌++◌, length}
+use Rattle.std.specs.Prelude.{◌≡◌, ◌≢◌, ◌↔◌, ℕ, ◌+◌, ◌-◌, ◌<◌, ◌⊎◌, nat_le, if◌then◌else◌, List, [], ◌∷◌, ◌++◌, length}
 use Rattle.pfr_flash.specs.Operation.{Operation, Erase, Program}
-use Rattle.pfr_flash.specs.FuseRow.{IsCleared, fuse_byte, with_cleared}
+use Rattle.pfr_flash.specs.FuseRow.{IsCleared, clearing, with_cleared}
 use Rattle.pfr_flash.specs.Range.{IsWithin}
 use Rattle.pfr_flash.specs.declared.names.Bank.{Bank}
 use Rattle.pfr_flash.specs.declared.names.Bank.TheVariants.{Bmc, Pch}
@@ -12,10 +12,6 @@ use Rattle.pfr_fuses.specs.FuseMap.{IsCancelled, profile_of, floor_at, row_at}
 use Rattle.pfr_fuses.specs.FusesState.{FusesState, floor_row, row_of, floor_of}
 use Rattle.pfr_fuses.specs.FusesOf.{FloorStands, RowStands}
 use Rattle.pfr_fuses.specs.declared.profile.Profile.TheVariants.{Two}
-
--- one fuse of the row at a place is cleared
-abbrev pub clearing : ℕ → ℕ → List Operation
-clearing at bit = Program (at + bit / 8) (fuse_byte bit ∷ []) ∷ []
 
 -- A bank's floor is raised, unless it is as high already.
 abbrev pub raise_plan : ℕ → Bank → ℕ → List Operation

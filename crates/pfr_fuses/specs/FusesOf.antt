@@ -1,14 +1,12 @@
 -- The provision and the fuses that a store's bytes say.
 use Rattle.std.specs.Prelude.{◌≡◌, ◌↔◌, ℕ, ◌<◌, List, Result, Ok}
 use Rattle.pfr_flash.specs.Bytes.{bytes_at, continued}
-use Rattle.pfr_flash.specs.FlashState.{FlashState, now}
 use Rattle.pfr_flash.specs.FuseRow.{IsCleared}
-use Rattle.pfr_flash.specs.Reading.{FailsReading}
+use Rattle.pfr_flash.specs.Judging.{◌>>=◌}
 use Rattle.pfr_flash.specs.declared.names.Bank.{Bank}
 use Rattle.pfr_flash.specs.declared.names.Bank.TheVariants.{Bmc, Pch}
 use Rattle.pfr_flash.specs.declared.names.ContentType.{ContentType}
 use Rattle.pfr_flash.specs.declared.names.ContentType.TheVariants.{PchManifest, PchCapsule, BmcManifest, BmcCapsule}
-use Rattle.pfr_fuses.specs.Answer.{◌>>=◌}
 use Rattle.pfr_fuses.specs.RootSlot.{provision_in}
 use Rattle.pfr_fuses.specs.Slots.{IsProvisionedBy, IsUnset, HasBlank, slot_at, provisioned_slot}
 use Rattle.pfr_fuses.specs.FuseMap.{IsFloorBit, IsCancelled, profile_of, floor_at, floor_width, row_at, row_width}
@@ -57,9 +55,9 @@ pub record Stands (nv : List ℕ) (fuses : FusesState) : Type 0 where
   pub floors : (bank : Bank) → FloorStands nv fuses bank
   pub rows : (type : ContentType) → RowStands nv fuses type
 
--- Why a call that reads the fuses is refused: the store has no provision, or the device failed.
-abbrev pub IsRefused : FlashState → FlashState → FuseFail → Type 0
-IsRefused old new NotProvisioned = IsUnset (now old) × HasBlank (now old)
-IsRefused old new SlotsSpent = IsUnset (now old) × ¬ HasBlank (now old)
-IsRefused old new (Flash f) = FailsReading f old new
-IsRefused old new cause = ⊥
+-- Why a call that reads the fuses is refused: the store has no provision, or the device failed, which another clause tells.
+abbrev pub IsRefused : List ℕ → FuseFail → Type 0
+IsRefused nv NotProvisioned = IsUnset nv × HasBlank nv
+IsRefused nv SlotsSpent = IsUnset nv × ¬ HasBlank nv
+IsRefused nv (Flash f) = Unit {0}
+IsRefused nv cause = ⊥

@@ -1,9 +1,7 @@
--- That bits are only cleared, that fuses are never taken back, and that a provision never changes.
-use Rattle.std.specs.Prelude.{◌≡◌, ℕ, ◌+◌, ◌≤◌, List, [], ◌∷◌, ◌++◌}
+-- That fuses are never taken back, and that a provision never changes.
+use Rattle.std.specs.Prelude.{◌≡◌, ℕ, ◌≤◌, List, [], ◌∷◌, ◌++◌}
 use Rattle.pfr_flash.specs.FlashState.{FlashState, upto, op_count_of}
-use Rattle.pfr_flash.specs.Bytes.{bytes_at}
 use Rattle.pfr_flash.specs.Operation.{Operation}
-use Rattle.pfr_flash.specs.Range.{OnlyClears}
 use Rattle.pfr_flash.specs.declared.names.Bank.{Bank}
 use Rattle.pfr_flash.specs.declared.names.ContentType.{ContentType}
 use Rattle.pfr_fuses.specs.Slots.{IsProvisionedBy, slot_at}
@@ -18,19 +16,10 @@ pub record Grows (old new : List ℕ) : Type 0 where
 pub record NeverGoesBack (old new : FlashState) : Type 0 where
   pub grows : (m n : ℕ) → op_count_of old ≤ m → m ≤ n → n ≤ op_count_of new → Grows (upto new m) (upto new n)
 
--- Of so many bytes from a place on, bits are cleared and never set, from each count of operations to each later one.
-pub record OnlyLoses (from len : ℕ) (old new : FlashState) : Type 0 where
-  pub clears : (m n : ℕ) → op_count_of old ≤ m → m ≤ n → n ≤ op_count_of new
-      → OnlyClears (bytes_at (upto new m) from len) (bytes_at (upto new n) from len)
-
 -- A slot that provisions the platform at a count of operations does so at each later one, with the same bytes.
 pub record KeepsProvision (old new : FlashState) : Type 0 where
   pub keeps : (m n number : ℕ) → op_count_of old ≤ m → m ≤ n → n ≤ op_count_of new → IsProvisionedBy (upto new m) number
       → IsProvisionedBy (upto new n) number × (slot_at (upto new n) number ≡ slot_at (upto new m) number)
-
--- at most so many operations were added
-abbrev pub AddsAtMost : ℕ → FlashState → FlashState → Type 0
-AddsAtMost count old new = op_count_of new ≤ op_count_of old + count
 
 abbrev pub AllAre : (Operation → Type 0) → List Operation → Type 0
 AllAre IsOne [] = Unit {0}

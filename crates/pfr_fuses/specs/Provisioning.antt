@@ -1,7 +1,9 @@
 -- How a store is provisioned, and why it isn't.
-use Rattle.std.specs.Prelude.{◌≡◌, ◌≢◌, ◌↔◌, ℕ, zero, suc, ◌+◌, ◌*◌, ◌<◌, ◌⊎◌, if◌then◌else◌, List, [], ◌∷◌, Option, Some, None, Result, Ok, Err}
+use Rattle.std.specs.Prelude.{◌≡◌, ◌≢◌, ◌↔◌, ℕ, zero, suc, ◌+◌, ◌*◌, ◌<◌, ◌⊎◌, if◌then◌else◌, List, [], ◌∷◌, Option, Some, None, Result, Ok, Err, MatchOption}
 use Rattle.std.specs.List.{list_any}
+use Rattle.pfr_flash.specs.Answer.{Answers}
 use Rattle.pfr_flash.specs.FlashState.{FlashState, now}
+use Rattle.pfr_flash.specs.Judging.{◌>>=◌, known}
 use Rattle.pfr_flash.specs.Layout.{IsValidLayout, judge_layout}
 use Rattle.pfr_flash.specs.Operation.{Operation, Program}
 use Rattle.pfr_flash.specs.Plan.{FailsWorking, Follows}
@@ -10,7 +12,7 @@ use Rattle.pfr_flash.specs.declared.layout.LayoutRule.{LayoutRule}
 use Rattle.pfr_flash.specs.declared.names.Bank.{Bank}
 use Rattle.pfr_flash.specs.declared.names.Bank.TheVariants.{Bmc, Pch}
 use Rattle.pfr_flash.specs.declared.names.ContentType.{ContentType}
-use Rattle.pfr_fuses.specs.Answer.{Answers, known, ◌>>=◌, fuse_failure}
+use Rattle.pfr_fuses.specs.Answer.{fuse_failure}
 use Rattle.pfr_fuses.specs.FuseMap.{IsFloorBit, IsCancelBit, profile_of}
 use Rattle.pfr_fuses.specs.RootSlot.{slot_bytes, provision_in}
 use Rattle.pfr_fuses.specs.Slots.{IsBlank, IsProvisionedBy, IsUnset, HasBlank, slot_at, slots_from, is_set, is_blank}
@@ -75,22 +77,16 @@ judge_places what bmc_size pch_size blank =
 unfoldable pub judge_provision : List ℕ → RootSlot → ℕ → ℕ → Result ℕ FuseFail
 judge_provision nv what bmc_size pch_size = judge_slots nv >>= judge_places what bmc_size pch_size
 
--- a cause that no call of the device gave
-abbrev pub IsJudged : FuseFail → Type 0
-IsJudged (Flash f) = ⊥
-IsJudged cause = Unit {0}
-
 -- ---- what is done
 -- what the calls of the device do that a call of the fuses makes
 abbrev pub FollowsAs : List Operation → FlashState → FlashState → Result (Unit {0}) FuseFail → Type 0
 FollowsAs plan old new (Ok done) = Follows plan old new (Ok done)
-FollowsAs plan old new (Err (Flash f)) = Follows {A = Unit {0}} plan old new (Err f)
-FollowsAs plan old new (Err cause) = ⊥
+FollowsAs plan old new (Err cause) = MatchOption (fuse_failure cause) ⊥ (λ f. Follows {A = Unit {0}} plan old new (Err f))
 
--- The provision is programmed in the slot that was judged. Where it is refused, the device is only read.
+-- The provision is programmed in the slot that was judged. Where it is refused, the device is only read, and no read's fault is passed over.
 abbrev pub Provisions : RootSlot → FlashState → FlashState → Result (Unit {0}) FuseFail → Result ℕ FuseFail → Type 0
 Provisions what old new result (Ok number) = FollowsAs (provision_plan number what) old new result
-Provisions what old new result (Err cause) = Answers old new result (Err cause) × EndsAt (failed_by fuse_failure result) old new
+Provisions what old new result (Err cause) = Answers fuse_failure result (Err cause) × EndsAt (failed_by fuse_failure result) old new
 
 -- ---- what it leaves
 -- a slot provisions the platform with this
@@ -108,10 +104,14 @@ pub record IsUsedUp (old new : List ℕ) : Type 0 where
   pub used : ¬ IsBlank (slot_at new number)
   pub others : (k : ℕ) → k < 8 → k ≢ number → slot_at new k ≡ slot_at old k
 
--- Why it answered a refusal, and what it left: where the device failed, the store is provisioned with this, or a slot is used up, or all is as before.
+-- Where the device failed, the store is provisioned with this, or a slot is used up, or all is as before.
+abbrev pub LeavesProvision : FlashState → FlashState → RootSlot → Type 0
+LeavesProvision old new what = IsProvisionedWith (now new) what ⊎ (IsUsedUp (now old) (now new) ⊎ (now new ≡ now old))
+
+-- Why it answered a refusal, and what it left. Unless the device failed, nothing changed but the count of bytes that were asked for.
 abbrev pub ProvisionFails : FlashState → FlashState → RootSlot → ℕ → ℕ → FuseFail → Type 0
-ProvisionFails old new what bmc_size pch_size (Flash f) = FailsWorking f old new × (IsProvisionedWith (now new) what ⊎ (IsUsedUp (now old) (now new) ⊎ (now new ≡ now old)))
-ProvisionFails old new what bmc_size pch_size cause = IsBarred (now old) what bmc_size pch_size cause × (now new ≡ now old)
+ProvisionFails old new what bmc_size pch_size cause =
+    MatchOption (fuse_failure cause) (IsBarred (now old) what bmc_size pch_size cause × EndsAt None old new) (λ f. FailsWorking f old new × LeavesProvision old new what)
 
 -- the profile, the floors and the cancelled keys are the same
 pub record KeepsFuses (old new : List ℕ) : Type 0 where

@@ -1,14 +1,12 @@
 -- What a provision slot says.
-use Rattle.std.specs.Prelude.{◌≡◌, ℕ, ◌+◌, ◌^◌, ◌<◌, List, ◌++◌, length, take, slice_index, slice_range}
-use Rattle.byteorder.specs.Endian.{little_bytes, little_number}
+use Rattle.std.specs.Prelude.{◌≡◌, ℕ, ◌+◌, ◌^◌, ◌<◌, List, ◌++◌, length, take, slice_index}
+use Rattle.byteorder.specs.Endian.{little_bytes}
+use Rattle.pfr_flash.specs.Bytes.{bytes_at}
+use Rattle.pfr_flash.specs.Numbers.{number_at}
 use Rattle.pfr_flash.specs.declared.layout.Layout.{Layout}
 use Rattle.pfr_flash.specs.declared.names.Bank.{Bank}
 use Rattle.pfr_flash.specs.declared.names.Bank.TheVariants.{Bmc, Pch}
 use Rattle.pfr_fuses.specs.declared.root_slot.RootSlot.{RootSlot}
-
--- the number in the four bytes at a place, the lowest first
-unfoldable pub number_at : List ℕ → ℕ → ℕ
-number_at bytes at = little_number 4 (slice_range bytes at (at + 4))
 
 -- five numbers
 unfoldable pub layout_at : List ℕ → ℕ → Layout
@@ -23,7 +21,7 @@ layout_at bytes at = record {
 -- the root's hash, and the layouts of both banks
 unfoldable pub slot_of : List ℕ → RootSlot
 slot_of bytes = record {
-  root = slice_range bytes 0 32;
+  root = bytes_at bytes 0 32;
   bmc = layout_at bytes 32;
   pch = layout_at bytes 52;
 }

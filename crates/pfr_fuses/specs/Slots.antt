@@ -2,7 +2,7 @@
 use Rattle.std.specs.Prelude.{◌≡◌, ◌≢◌, ℕ, zero, suc, ◌+◌, ◌*◌, ◌<◌, Bool, not, ◌==◌, if◌then◌else◌, List, [], ◌∷◌, slice_index, All, Result}
 use Rattle.std.specs.List.{find, list_all, list_any}
 use Rattle.pfr_flash.specs.Bytes.{bytes_at}
-use Rattle.pfr_fuses.specs.Answer.{known}
+use Rattle.pfr_flash.specs.Judging.{known}
 use Rattle.pfr_fuses.specs.declared.fuse_fail.FuseFail.{FuseFail}
 use Rattle.pfr_fuses.specs.declared.fuse_fail.FuseFail.TheVariants.{NotProvisioned, SlotsSpent}
 

@@ -1,20 +1,10 @@
-// Fuses of the store that are programmed.
-ghost use Rattle.std.specs.Prelude.{◌≡◌, ℕ, slice_index, ◌+◌, ◌/◌, ◌≤◌, ◌<◌, [], ◌∷◌};
+// The fuses of a store are moved to sector 7.
+ghost use Rattle.std.specs.Prelude.{◌≡◌, ℕ, slice_index, ◌<◌, [], ◌∷◌};
 ghost use Rattle.pfr_flash.specs.FlashState.{size_of};
 ghost use Rattle.pfr_flash.specs.Plan.{Follows};
 ghost use Rattle.pfr_flash.specs.Operation.{Erase, Program};
-ghost use Rattle.pfr_fuses.specs.Changes.{clearing};
 
-use pfr_flash::{Flash, FlashFail, fuse_byte};
-
-/// Clears a fuse of the row at a place.
-pub fn clear_fuse<F: Flash>(nv: &mut F, at: u32, bit: u32) -> Result<(), FlashFail>
-    requires within { at + bit / 8 < size_of (F.device nv.old) }
-    requires size { size_of (F.device nv.old) ≡ 32768 }
-    ensures { Follows (clearing at bit) (F.device nv.old) (F.device nv.new) result }
-{
-    nv.program(at + bit / 8, &[fuse_byte(bit)])
-}
+use pfr_flash::{Flash, FlashFail};
 
 const FUSE_SECTOR: u32 = 7;
 

@@ -2,28 +2,30 @@
 ghost use Rattle.std.specs.Prelude.{◌≡◌, ◌↔◌, ℕ, ◌<◌, ◌≤◌, List, length, slice_index, IfOk, IfErr, OnOk, OnErr, IsTrue, Ok, Err, max, ◌⊎◌};
 ghost use Rattle.pfr_flash.specs.FlashState.{now, size_of};
 ghost use Rattle.pfr_flash.specs.FuseRow.{IsCleared};
+ghost use Rattle.pfr_flash.specs.Losing.{AddsAtMost, OnlyLoses};
 ghost use Rattle.pfr_flash.specs.Plan.{Follows};
 ghost use Rattle.pfr_flash.specs.Range.{IsWithin, SameOutside};
 ghost use Rattle.pfr_flash.specs.Reading.{EndsAt, failed_by};
-ghost use Rattle.pfr_fuses.specs.Answer.{Answers, fuse_failure};
+ghost use Rattle.pfr_flash.specs.Answer.{Answers};
+ghost use Rattle.pfr_fuses.specs.Answer.{fuse_failure};
 ghost use Rattle.pfr_fuses.specs.Slots.{IsProvisionedBy, IsUnset, HasBlank, slot_at};
 ghost use Rattle.pfr_fuses.specs.FuseMap.{IsSigning, IsFloor, IsCancelled, profile_of, profile_number, floor_at, row_at};
 ghost use Rattle.pfr_fuses.specs.FusesState.{floor_of, row_of};
 ghost use Rattle.pfr_fuses.specs.RootSlot.{provision_in};
 ghost use Rattle.pfr_fuses.specs.FusesOf.{Stands, FloorStands, RowStands, IsRefused, floor_fuses, row_fuses, fuses_of, fuses_with};
 ghost use Rattle.pfr_fuses.specs.Changes.{AreRows, IsMigrating, Raises, Cancels, CancelsAtMost, StaysButFloor, StaysButRow, raise_plan, cancellation, migrated, migration, raised, with_cancelled, with_floor, with_row};
-ghost use Rattle.pfr_fuses.specs.Growth.{NeverGoesBack, OnlyLoses, KeepsProvision, Adds, AddsAtMost};
+ghost use Rattle.pfr_fuses.specs.Growth.{NeverGoesBack, KeepsProvision, Adds};
 ghost use Rattle.pfr_fuses.specs.declared.profile.Profile.TheVariants.{One, Two};
 ghost use Rattle.pfr_fuses.specs.declared.fuse_fail.FuseFail.TheVariants.{NotProvisioned, SlotsSpent};
 
-use crate::clearing::{clear_fuse, program_fuses};
+use crate::clearing::program_fuses;
 use crate::filling::put;
 use crate::fuse_fail::FuseFail;
 use crate::fuse_rows::{CancelRows, Floors, floor_of};
 use crate::profile::Profile;
 use crate::root_slot::RootSlot;
 use crate::slots::{SLOT_LEN, provisioned_slot};
-use pfr_flash::{Bank, ContentType, Flash, FlashFail, FuseRow};
+use pfr_flash::{Bank, ContentType, Flash, FlashFail, FuseRow, array_at, clear_fuse};
 use std::marker::Model;
 
 /// What the platform is provisioned with, and the fuses of the store.
@@ -56,15 +58,13 @@ impl Model for Fuses {
 fn provision_in(slot: &[u8; SLOT_LEN as usize]) -> RootSlot
     ensures { result ≡ provision_in slot.now }
 {
-    let mut bytes = [0; 72];
-    bytes.copy_from_slice(&slot[0..72]);
-    RootSlot::from_slot(&bytes)
+    RootSlot::from_slot(&array_at::<72>(slot, 0))
 }
 
 #[tactic(auto, unfolding(crate::specs::FusesOf::fuses_of))]
 fn loaded<F: Flash>(nv: &mut F) -> Result<Fuses, FuseFail>
     requires { size_of (F.device nv.old) ≡ 32768 }
-    ensures exact { Answers (F.device nv.old) (F.device nv.new) result
+    ensures exact { Answers fuse_failure result
         (fuses_of (now (F.device nv.old))) }
     ensures ends { EndsAt (failed_by fuse_failure result) (F.device nv.old) (F.device nv.new) }
 {
@@ -85,19 +85,20 @@ pub fn load<F: Flash>(nv: &mut F) -> Result<Fuses, FuseFail>
     requires { size_of (F.device nv.old) ≡ 32768 }
     // What is found stands for the store.
     ensures ok { IfOk result (Stands (now (F.device nv.old))) }
-    ensures err { IfErr result (IsRefused (F.device nv.old) (F.device nv.new)) }
+    ensures err { IfErr result (IsRefused (now (F.device nv.old))) }
     // Unless the device fails, a provision is found where there is one, and else it is told whether
     // a slot is left for one.
     ensures only { let store = now (F.device nv.old) in
         (number : ℕ) → IsProvisionedBy store number →
-        Answers (F.device nv.old) (F.device nv.new) result
+        Answers fuse_failure result
         (Ok (fuses_with store (slot_at store number))) }
     ensures blank { IsUnset (now (F.device nv.old)) → HasBlank (now (F.device nv.old)) →
-        Answers (F.device nv.old) (F.device nv.new) result (Err NotProvisioned) }
+        Answers fuse_failure result (Err NotProvisioned) }
     ensures spent { IsUnset (now (F.device nv.old)) → ¬ HasBlank (now (F.device nv.old)) →
-        Answers (F.device nv.old) (F.device nv.new) result (Err SlotsSpent) }
-    ensures exact { Answers (F.device nv.old) (F.device nv.new) result
+        Answers fuse_failure result (Err SlotsSpent) }
+    ensures exact { Answers fuse_failure result
         (fuses_of (now (F.device nv.old))) }
+    // Only bytes are asked for, up to the first read that fails, and no fault of one is passed over.
     ensures ends { EndsAt (failed_by fuse_failure result) (F.device nv.old) (F.device nv.new) }
 {
     loaded(nv)

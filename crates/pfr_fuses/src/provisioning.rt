@@ -2,16 +2,18 @@
 ghost use Rattle.std.specs.Prelude.{◌≡◌, ℕ, OnOk, ◌*◌, ◌+◌, ◌<◌, [], ◌∷◌, Some, None, if◌then◌else◌, IfErr};
 ghost use Rattle.pfr_flash.specs.FlashState.{now, size_of};
 ghost use Rattle.pfr_flash.specs.Layout.{judge_layout};
+ghost use Rattle.pfr_flash.specs.Losing.{AddsAtMost, OnlyLoses};
 ghost use Rattle.pfr_flash.specs.Moved.{Worked};
 ghost use Rattle.pfr_flash.specs.Operation.{Program};
 ghost use Rattle.pfr_flash.specs.Plan.{Follows};
 ghost use Rattle.pfr_flash.specs.Range.{IsWithin, SameOutside};
 ghost use Rattle.pfr_flash.specs.Reading.{EndsAt, failed_by};
-ghost use Rattle.pfr_fuses.specs.Answer.{Answers, fuse_failure};
+ghost use Rattle.pfr_flash.specs.Answer.{Answers, IsFound};
+ghost use Rattle.pfr_fuses.specs.Answer.{fuse_failure};
 ghost use Rattle.pfr_fuses.specs.RootSlot.{IsSlot};
-ghost use Rattle.pfr_fuses.specs.Growth.{Adds, AddsAtMost, KeepsProvision, NeverGoesBack, OnlyLoses};
+ghost use Rattle.pfr_fuses.specs.Growth.{Adds, KeepsProvision, NeverGoesBack};
 ghost use Rattle.pfr_fuses.specs.Slots.{IsProvisionedBy, is_blank};
-ghost use Rattle.pfr_fuses.specs.Provisioning.{CanProvision, FollowsAs, IsJudged, IsProvisionable, IsProvisionedWith, KeepsFuses, ProvisionFails, Provisions, found_first, judge_slots, judge_places, judge_provision, layout_judged, provision_plan};
+ghost use Rattle.pfr_fuses.specs.Provisioning.{CanProvision, FollowsAs, IsProvisionable, IsProvisionedWith, KeepsFuses, ProvisionFails, Provisions, found_first, judge_slots, judge_places, judge_provision, layout_judged, provision_plan};
 
 use crate::fuse_fail::FuseFail;
 use crate::root_slot::RootSlot;
@@ -32,7 +34,7 @@ fn found_first(found: Option<u32>, number: u32, slot: &[u8; SLOT_LEN as usize]) 
 // the first blank slot, in a store where no slot is set
 fn first_blank<F: Flash>(nv: &mut F) -> Result<Option<u32>, FuseFail>
     requires { size_of (F.device nv.old) ≡ 32768 }
-    ensures exact { Answers (F.device nv.old) (F.device nv.new) result
+    ensures exact { Answers fuse_failure result
         (judge_slots (now (F.device nv.old))) }
     ensures ends { EndsAt (failed_by fuse_failure result) (F.device nv.old) (F.device nv.new) }
 {
@@ -50,7 +52,7 @@ fn first_blank<F: Flash>(nv: &mut F) -> Result<Option<u32>, FuseFail>
 
 fn judge_layout(bank: Bank, layout: &Layout, size: u32) -> Result<(), FuseFail>
     ensures exact { result ≡ layout_judged bank (judge_layout layout.now size) }
-    ensures judged { IfErr result IsJudged }
+    ensures judged { IfErr result (IsFound fuse_failure) }
 {
     match layout.judge(size) {
         Ok(()) => Ok(()),
@@ -67,7 +69,7 @@ fn judge_places(
     blank: Option<u32>,
 ) -> Result<u32, FuseFail>
     ensures exact { result ≡ judge_places what.now bmc_size pch_size blank }
-    ensures judged { IfErr result IsJudged }
+    ensures judged { IfErr result (IsFound fuse_failure) }
 {
     judge_layout(Bank::Bmc, &what.bmc, bmc_size)?;
     judge_layout(Bank::Pch, &what.pch, pch_size)?;
@@ -86,7 +88,7 @@ fn judge_provision<F: Flash>(
     pch_size: u32,
 ) -> Result<u32, FuseFail>
     requires { size_of (F.device nv.old) ≡ 32768 }
-    ensures exact { Answers (F.device nv.old) (F.device nv.new) result
+    ensures exact { Answers fuse_failure result
         (judge_provision (now (F.device nv.old)) what.now bmc_size pch_size) }
     ensures ends { EndsAt (failed_by fuse_failure result) (F.device nv.old) (F.device nv.new) }
 {
@@ -143,6 +145,7 @@ pub fn provision<F: Flash>(
         × OnOk result (IsProvisionedBy (now (F.device nv.new)) number)
         × Adds (IsWithin (256 * number) 256) (F.device nv.old) (F.device nv.new) }
     ensures found { OnOk result (CanProvision (now (F.device nv.old)) what.now bmc_size pch_size) }
+    // At a refusal that is no failure of the device nothing changed but the count of bytes that were asked for.
     ensures err { IfErr result (ProvisionFails (F.device nv.old) (F.device nv.new) what.now bmc_size pch_size) }
     ensures fuses { KeepsFuses (now (F.device nv.old)) (now (F.device nv.new)) }
     // No operation touches a byte behind the slots, and there are two at most.

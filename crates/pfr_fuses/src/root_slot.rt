@@ -1,11 +1,11 @@
 // What a platform is provisioned with.
 ghost use Rattle.std.specs.Prelude.{◌≡◌, ◌+◌, ◌≤◌, length};
 ghost use Rattle.byteorder.specs.Endian.{little_bytes};
-ghost use Rattle.pfr_fuses.specs.RootSlot.{HasFields, IsSlot, number_at, layout_at, layout_bytes, slot_bytes, slot_of, layout_of};
+ghost use Rattle.pfr_fuses.specs.RootSlot.{HasFields, IsSlot, layout_at, layout_bytes, slot_bytes, slot_of, layout_of};
 
 use crate::filling::put;
 use byteorder::{ByteOrder, LittleEndian};
-use pfr_flash::{Bank, Layout};
+use pfr_flash::{Bank, Layout, array_at, number_at};
 
 /// The hash of the root key, and the layouts of both banks.
 #[derive(Clone, Copy, Debug, PartialEq, Eq)]
@@ -16,15 +16,6 @@ pub struct RootSlot {
     pub bmc: Layout,
     /// The layout of the PCH's bank.
     pub pch: Layout,
-}
-
-// the number in the four bytes at a place
-#[tactic(auto, unfolding(crate::specs::RootSlot::number_at))]
-fn number_at(bytes: &[u8], at: usize) -> u32
-    requires { at + 4 ≤ length bytes.now }
-    ensures { result ≡ number_at bytes.now at }
-{
-    LittleEndian::read_u32(&bytes[at..at + 4])
 }
 
 // the layout whose five numbers stand at a place
@@ -81,10 +72,8 @@ impl RootSlot {
     pub fn from_slot(bytes: &[u8; 72]) -> RootSlot
         ensures { result ≡ slot_of bytes.now }
     {
-        let mut root = [0; 32];
-        root.copy_from_slice(&bytes[0..32]);
         RootSlot {
-            root,
+            root: array_at::<32>(bytes, 0),
             bmc: layout_at(bytes, 32),
             pch: layout_at(bytes, 52),
         }

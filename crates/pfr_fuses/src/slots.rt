@@ -2,7 +2,8 @@
 ghost use Rattle.std.specs.Prelude.{◌≡◌};
 ghost use Rattle.pfr_flash.specs.FlashState.{now, size_of};
 ghost use Rattle.pfr_flash.specs.Reading.{EndsAt, failed_by};
-ghost use Rattle.pfr_fuses.specs.Answer.{Answers, fuse_failure};
+ghost use Rattle.pfr_flash.specs.Answer.{Answers};
+ghost use Rattle.pfr_fuses.specs.Answer.{fuse_failure};
 ghost use Rattle.pfr_fuses.specs.Slots.{is_set, is_blank, provisioned_slot};
 
 use crate::fuse_fail::FuseFail;
@@ -34,7 +35,7 @@ pub fn is_blank(slot: &[u8; SLOT_LEN as usize]) -> bool
 /// The bytes of the first slot whose gate is set.
 pub fn provisioned_slot<F: Flash>(nv: &mut F) -> Result<[u8; SLOT_LEN as usize], FuseFail>
     requires { size_of (F.device nv.old) ≡ 32768 }
-    ensures exact { Answers (F.device nv.old) (F.device nv.new) result
+    ensures exact { Answers fuse_failure result
         (provisioned_slot (now (F.device nv.old))) }
     ensures ends { EndsAt (failed_by fuse_failure result) (F.device nv.old) (F.device nv.new) }
 {

@@ -29,7 +29,7 @@ use Rattle.pfr_calm.specs.Plans.{provisioned, provisioned_in, refusal_of}
 use Rattle.pfr_calm.specs.Standing.{Standing, standing_after}
 use Rattle.pfr_calm.specs.Turn.{is_store, provision_stretch, provision_course, Follows}
 use Rattle.pfr_calm.proofs.Sequence.{Ran-append, Ran-refl, Stopped-more}
-use Rattle.pfr_calm.proofs.Courses.{Steps-none, Steps-crossed, Steps-ended, Crosses-ran, Faults-stopped, Halts-first, Halts-noted}
+use Rattle.pfr_calm.proofs.Courses.{Steps-none, Steps-crossed, Steps-ended, Faults-stopped, Halts-first, Halts-noted}
 use Rattle.pfr_machine.specs.Checks.{provision_ops, provision_note}
 
 -- what would be answered does not matter where the call failed
@@ -123,7 +123,7 @@ tried_short what which fail old new p =
 
 -- ---- the step
 pub crossed : (what : RootSlot) (old new : World) → Ran (provisioned what (story_of old)) old new → Follows (provision_course what) old new
-crossed what old new p = (old, Ran-refl old, Steps-crossed (provision_stretch what) [] old new new (Crosses-ran (provision_stretch what) old new p tt) (Steps-none new))
+crossed what old new p = (old, Ran-refl old, Steps-crossed (provision_stretch what) [] old new new p (Steps-none new))
 
 pub locked : (what : RootSlot) (which : Device) (fail : FlashFail) (old mid first new : World) → fail ≡ Fault → which ≡ device.Nv → Stopped (provisioned what (story_of old)) which fail old mid → mid.notes ≡ old.notes
     → Ran (Says (Locked bank.Bmc StoreFault) ∷ []) mid first → Ran (Says (Locked bank.Pch StoreFault) ∷ []) first new → Follows (provision_course what) old new

@@ -1,19 +1,20 @@
 -- What a read of one device is to the platform.
-use Rattle.std.proofs.Common.{◌≡◌, ◌∙◌, refl, sym, ap, subst, List, [], true, Result, Ok, Err}
+use Rattle.std.proofs.Common.{◌≡◌, ◌∙◌, refl, sym, ap, subst, List, [], true, Option, Some, None, Result, Ok, Err}
 use Rattle.pfr_flash.specs.FlashState.{FlashState, now}
 use Rattle.pfr_flash.specs.Operation.{Operation}
 use Rattle.pfr_flash.specs.Plan.{Follows}
 use Rattle.pfr_fuses.specs.FuseMap.{profile_number}
 use Rattle.pfr_fuses.specs.declared.profile.Profile.{Profile}
 use Rattle.pfr_fuses.specs.declared.profile.Profile.TheVariants.{One, Two}
-use Rattle.pfr_flash.specs.Reading.{OnlyReads, FailsReading}
+use Rattle.pfr_flash.specs.Reading.{EndsAt}
+use Rattle.pfr_flash.proofs.EndsLemmas.{ends_reads}
 use Rattle.pfr_flash.specs.declared.flash.FlashFail.{FlashFail}
 use Rattle.pfr_flash.specs.declared.flash.FlashFail.TheVariants.{Fault, Lost}
 use Rattle.pfr_flash.specs.declared.names.Bank.{Bank}
 use Rattle.pfr_flash.specs.declared.names.Bank.TheVariants as bank
 use Rattle.pfr_flash.specs.declared.names.Device.{Device}
 use Rattle.pfr_flash.specs.declared.names.Device.TheVariants as device
-use Rattle.pfr_flash.proofs.FollowsLemmas.{Follows-none, Follows-failed}
+use Rattle.pfr_flash.proofs.FollowsLemmas.{Follows-none}
 use Rattle.pfr_engine.specs.Acceptance.{Acceptance}
 use Rattle.pfr_fuses.specs.FusesOf.{fuses_of}
 use Rattle.pfr_fuses.specs.FusesState.{FusesState}
@@ -24,7 +25,7 @@ use Rattle.pfr_calm.specs.Story.{device_of, image_at, all_do}
 use Rattle.pfr_calm.specs.World.{World, story_of, state_at, IsOn}
 use Rattle.pfr_calm.specs.Goes.{Ran, Stopped}
 use Rattle.pfr_calm.specs.declared.authentication.Authentication.{Authentication}
-use Rattle.pfr_calm.proofs.Lift.{OnlyAt, OnlyAt-bmc, OnlyAt-pch, OnlyAt-nv, StillOn, Ran-reads, Ran-follows, Stopped-follows}
+use Rattle.pfr_calm.proofs.Lift.{OnlyAt, OnlyAt-bmc, OnlyAt-pch, OnlyAt-nv, StillOn, Ran-reads, Goes-reads, Ran-follows, Stopped-follows}
 use Rattle.pfr_machine.specs.PlatformState.{PlatformState, with_state}
 
 only_in : (which : Device) (old new : World) (d : FlashState) → new ≡ with_state which d old → OnlyAt which old new
@@ -58,22 +59,15 @@ stays_on device.Pch old new only p on = record { bmc = ap (λ (d : FlashState). 
 stays_on device.Nv old new only p on = record { bmc = ap (λ (d : FlashState). d.powered) (only.others device.Bmc (λ e. cc)) ∙ on.bmc; pch = ap (λ (d : FlashState). d.powered) (only.others device.Pch (λ e. cc)) ∙ on.pch; nv = p ∙ on.nv }
 
 -- a device was read
-module _ {E : Type 0} (which : Device) (d : FlashState) (old new : PlatformState E) (e : new ≡ record old { world = with_state which d old.world })
-    (reads : OnlyReads (state_at which old.world) (state_at which new.world)) where
-  pub read_ran : Ran [] old.world new.world
-  read_ran = Ran-reads which old.world new.world (only_at which d old new e) reads
+module _ {E : Type 0} (which : Device) (d : FlashState) (old new : PlatformState E) (e : new ≡ record old { world = with_state which d old.world }) where
+  pub read_ran : EndsAt None (state_at which old.world) (state_at which new.world) → Ran [] old.world new.world
+  read_ran ends = Ran-reads which old.world new.world (only_at which d old new e) ends
 
-  pub read_on : IsOn old.world → IsOn new.world
-  read_on on = stays_on which old.world new.world (only_at which d old new e) reads.powered on
+  pub read_on : (failed : Option FlashFail) → EndsAt failed (state_at which old.world) (state_at which new.world) → IsOn old.world → IsOn new.world
+  read_on failed ends on = stays_on which old.world new.world (only_at which d old new e) (ends_reads ends).powered on
 
-  still : (fail : FlashFail) → IsOn old.world → StillOn fail (state_at which new.world)
-  still Fault on = reads.powered ∙ powered_at which old.world on
-  still Lost on = tt
-
-  pub read_stopped : (fail : FlashFail) → IsOn old.world → FailsReading fail (state_at which old.world) (state_at which new.world) → Stopped [] which fail old.world new.world
-  read_stopped fail on failed =
-      Stopped-follows (Unit {0}) which [] fail old.world new.world (only_at which d old new e) (powered_at which old.world on) (still fail on)
-      (Follows-failed {A = Unit {0}} (state_at which old.world) (state_at which new.world) fail reads failed)
+  pub read_stopped : (fail : FlashFail) → IsOn old.world → EndsAt (Some fail) (state_at which old.world) (state_at which new.world) → Stopped [] which fail old.world new.world
+  read_stopped fail on ends = Goes-reads {A = Unit {0}} which old.world new.world (Err fail) (only_at which d old new e) (powered_at which old.world on) ends
 
 -- what is found of a bank is what its contents say
 pub found_at : (accepts : Acceptance) (which : Bank) (w : World) (found : Result FusesState FuseFail) (a : Authentication)

@@ -28,11 +28,6 @@ use Rattle.pfr_machine.specs.Checks.{HasLayout, IsPlaced, without_fuses}
 pub stands_bank : (nv : List ℕ) (fuses : FusesState) (which : Bank) → fuses_of nv ≡ Ok fuses → StandForBank nv fuses which
 stands_bank nv fuses which p = record { all = fuses; provisioned = p; provision = refl; floor = refl; capsule_row = refl; manifest_row = refl }
 
-pub good_there : (which : Bank) (image nv : List ℕ) (accepts : Acceptance) (fuses : FusesState) (layout : Layout) → layout ≡ layout_of fuses.provision which → fuses_of nv ≡ Ok fuses
-    → IsGood image (place_of layout Recovery) layout.area_len nv which accepts → HasGoodRecovery which image nv accepts
-good_there which image nv accepts fuses layout e f g =
-    record { fuses = fuses; provisioned = f; good = subst (λ (l : Layout). IsGood image l.recovery_at l.area_len nv which accepts) e g }
-
 -- a layout that was judged
 pub layout_there : (which : Bank) (fuses : FusesState) (d : FlashState) → judge_layout (layout_of fuses.provision which) (size_of d) ≡ Ok tt → HasLayout which (now d) (Ok fuses)
 layout_there which fuses d j = subst (λ (n : ℕ). IsValidLayout (layout_of fuses.provision which) n) (sym (length-now d)) (judged_valid _ _ j)

@@ -73,6 +73,11 @@ module _ (old begun : World) (b : Begun old begun) where
       pch = p.none_lost.pch ∙ ap (λ (w : World). w.pch.losses) b.is;
       nv = p.none_lost.nv ∙ ap (λ (w : World). w.nv.losses) b.is;
     };
+    none_failed = record {
+      bmc = p.none_failed.bmc ∙ ap (λ (w : World). w.bmc.faults) b.is;
+      pch = p.none_failed.pch ∙ ap (λ (w : World). w.pch.faults) b.is;
+      nv = p.none_failed.nv ∙ ap (λ (w : World). w.nv.faults) b.is;
+    };
   }
 
   course_of : (accepts : Acceptance) (e : Event) (notes other : List Note) (s t : Story) → s.notes ≡ notes → t.notes ≡ other → notes ≡ other → course accepts e s ≡ course accepts e t

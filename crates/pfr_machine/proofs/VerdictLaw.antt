@@ -1,7 +1,9 @@
 -- What a verdict tells is so, and what is so it tells.
-use Rattle.std.proofs.Common.{◌≡◌, ◌∙◌, refl, sym, ap, subst, ◌↔◌, ℕ, List, length, Bool, true, false, IsTrue, Result, Ok, Err, IfOk}
+use Rattle.std.proofs.Common.{◌≡◌, ◌∙◌, refl, sym, ap, subst, ◌↔◌, inr, Some, None, ℕ, List, length, Bool, true, false, IsTrue, Result, Ok, Err, IfOk}
 use Rattle.std.specs.Cmp.Lexicographic.{same_text, other_text}
 use Rattle.std.proofs.lemmas.Cmp.{nat_list_eq_equiv}
+use Rattle.pfr_flash.specs.FlashState.{FlashState}
+use Rattle.pfr_flash.specs.Reading.{EndsAt, failed_by}
 use Rattle.pfr_flash.specs.Layout.{judge_layout}
 use Rattle.pfr_flash.specs.declared.flash.FlashFail.{FlashFail}
 use Rattle.pfr_flash.specs.declared.layout.Layout.{Layout}
@@ -24,6 +26,7 @@ use Rattle.pfr_capsule.specs.CapsuleState.{CapsuleState}
 use Rattle.pfr_capsule.specs.Good.{IsGood}
 use Rattle.pfr_capsule.specs.declared.fail.CapsuleFail.{CapsuleFail}
 use Rattle.pfr_capsule.proofs.GoodLaw.{good_found}
+use Rattle.pfr_auth.specs.Areas.{judge_area}
 use Rattle.pfr_auth.specs.Judge.{judge_active}
 use Rattle.pfr_auth.specs.declared.areas.Area.{Area}
 use Rattle.pfr_auth.specs.declared.areas.Area.TheVariants.{Recovery, Staging}
@@ -31,7 +34,7 @@ use Rattle.pfr_auth.specs.declared.fail.ActiveFail.{ActiveFail}
 use Rattle.pfr_auth.proofs.TrustedLaw.{stands_whole, trusted_found}
 use Rattle.pfr_report.specs.declared.verdict.BankVerdict.{BankVerdict}
 use Rattle.pfr_report.specs.declared.verdict.Standing.TheVariants.{Ready}
-use Rattle.pfr_machine.specs.Verdicts.{HasGood, HasSameManifest, HasTrusted, IsVerdict, judge_area, ready, ready_if, share_manifest, spell_same, svn_of_capsule, svn_of_image, verdict_of, verdict_with}
+use Rattle.pfr_machine.specs.Verdicts.{EndsEither, HasGood, HasSameManifest, HasTrusted, IsVerdict, ready, ready_if, share_manifest, spell_same, svn_of_capsule, svn_of_image, verdict_of, verdict_with}
 use Rattle.pfr_machine.specs.VerdictsInside.{AreOne, IsBorneOut, IsGoodIn, IsSound, tells}
 use Rattle.pfr_machine.proofs.RecoveryLemmas.{stands_bank}
 
@@ -216,3 +219,9 @@ module _ (bank : Bank) (image nv : List ℕ) (accepts : Acceptance) where
   pub verdict_floor : (r : Result BankVerdict FlashFail) → length nv ≡ 32768 → IfOk r (λ v. v ≡ verdict_of bank image nv accepts) → IfOk r (λ v. v.standing ≡ Ready → IsFloor nv bank v.floor)
   verdict_floor (Ok v) long e = floor_told v long e
   verdict_floor (Err fail) long e = tt
+
+-- the store was read, and then the bank's flash
+pub ends_either : {A : Type 0} (r : Result A FlashFail) (bank bank_after nv nv_after : FlashState) → EndsAt None nv nv_after
+    → EndsAt (failed_by (λ fail. Some fail) r) bank bank_after → EndsEither r bank bank_after nv nv_after
+ends_either (Ok x) bank bank_after nv nv_after first second = (second, first)
+ends_either (Err fail) bank bank_after nv nv_after first second = inr (first, second)

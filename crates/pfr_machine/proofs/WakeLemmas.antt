@@ -16,7 +16,6 @@ use Rattle.pfr_auth.specs.declared.fail.ActiveFail.{ActiveFail}
 use Rattle.pfr_report.specs.NotesState.{NotesState}
 use Rattle.pfr_report.specs.declared.note.What.{What}
 use Rattle.pfr_report.specs.declared.note.What.TheVariants.{Power, Held, Locked, Untrusted as NotTrusted}
-use Rattle.pfr_calm.specs.Authentication.{IsBacked, IsRestorable}
 use Rattle.pfr_calm.specs.Story.{Story, Move, Says, Does, after, noted, image_at}
 use Rattle.pfr_calm.specs.World.{World, story_of}
 use Rattle.pfr_calm.specs.Goes.{Ran, Stopped, Goes}
@@ -26,13 +25,13 @@ use Rattle.pfr_calm.specs.declared.stop.Stop.{Stop}
 use Rattle.pfr_calm.specs.Standing.{Standing, same_bank}
 use Rattle.pfr_calm.specs.declared.authentication.Authentication.{Authentication}
 use Rattle.pfr_report.specs.declared.note.LockWhy.{LockWhy}
-use Rattle.pfr_calm.specs.Course.{CrossesOrFaults, Halt, Halts, Steps, IsShown, lost}
+use Rattle.pfr_calm.specs.Course.{CrossesOrFaults, Halt, Halts, Steps, lost}
 use Rattle.pfr_calm.specs.Plans.{migrated}
 use Rattle.pfr_calm.specs.Story.{device_of}
 use Rattle.pfr_calm.specs.Turn.{StopsInCheck, bank_or_store, is_store, bank_stretch, bank_stretches, power_stretches, fuse_stretch, fault_of, unreadable, power_course, Follows}
 use Rattle.pfr_calm.proofs.Sequence.{Ran-append, Stopped-append, Stopped-more}
-use Rattle.pfr_calm.proofs.Courses.{Steps-none, Steps-next, Steps-crossed, Steps-ended, Crosses-ran, Faults-stopped, Halts-first, Halts-next, Halts-crossed, Halts-noted}
-use Rattle.pfr_machine.specs.Checks.{HasLayout, IsGoodUnless}
+use Rattle.pfr_calm.proofs.Courses.{Steps-none, Steps-next, Steps-crossed, Steps-ended, Faults-stopped, Halts-first, Halts-next, Halts-crossed, Halts-noted}
+use Rattle.pfr_machine.specs.Checks.{HasLayout}
 
 abbrev pub store : Device
 store = device.Nv
@@ -46,31 +45,10 @@ recovery_same : (accepts : Acceptance) (which : Bank) (says : Counts → What) (
 recovery_same accepts bank.Bmc says story = refl
 recovery_same accepts bank.Pch says story = refl
 
--- the image of a bank, and what a check found of it
-abbrev pub Backed : Acceptance → Bank → Authentication → Story → Type 0
-Backed accepts which a story = IsBacked a which (image_at (device_of which) story) (image_at device.Nv story) accepts
-
-abbrev pub Restorable : Acceptance → Bank → Authentication → Story → Type 0
-Restorable accepts which a story = IsRestorable a (recovery_at accepts which story) which (image_at (device_of which) story) (image_at device.Nv story) accepts
-
-backed_same : (accepts : Acceptance) (which : Bank) (a : Authentication) (says : Counts → What) (story : Story) → Backed accepts which a (noted says story) → Backed accepts which a story
-backed_same accepts bank.Bmc a says story b = b
-backed_same accepts bank.Pch a says story b = b
-
-restorable_same : (accepts : Acceptance) (which : Bank) (a : Authentication) (says : Counts → What) (story : Story) → Restorable accepts which a (noted says story) → Restorable accepts which a story
-restorable_same accepts bank.Bmc a says story r = r
-restorable_same accepts bank.Pch a says story r = r
-
 placed_same : (which : Bank) (found : Result FusesState FuseFail) (says : Counts → What) (story : Story) → HasLayout which (image_at (device_of which) story) found
     → HasLayout which (image_at (device_of which) (noted says story)) found
 placed_same bank.Bmc found says story h = h
 placed_same bank.Pch found says story h = h
-
--- what is found where nothing is against a recovery image
-pub unless_restorable : (why : ActiveFail) (against : Option CapsuleFail) (which : Bank) (image nv : List ℕ) (accepts : Acceptance) → IsGoodUnless against which image nv accepts
-    → IsRestorable (Untrusted why) against which image nv accepts
-unless_restorable why None which image nv accepts g = g
-unless_restorable why (Some cause) which image nv accepts g = tt
 
 -- nothing was done where a plan of nothing stopped
 none_before : (front left : List Move) → [] ≡ front ++ left → (front ≡ []) × (left ≡ [])
@@ -117,19 +95,6 @@ module _ (accepts : Acceptance) (which : Bank) (a : Authentication) (old held ju
   brought_early new (Err stop) h =
       inr (h ∙ ap (λ (s : Story). after (distrusted which a) s) judged_is ∙ ap (λ (x : Authentication). after (Says (Held which) ∷ distrusted which x) (story_of old)) found_same)
 
-  pub shown : Backed accepts which a (story_of held) → Restorable accepts which a (story_of judged) → IsShown (record { bank = which; accepts = accepts }) (story_of old)
-  shown b r = record {
-    active = subst (λ (x : Authentication). Backed accepts which x (story_of old)) found_same
-        (backed_same accepts which a (Held which) (story_of old) (subst (λ (s : Story). Backed accepts which a s) p.is b));
-    recovery = subst (λ (x : Authentication). Restorable accepts which x (story_of old)) found_same
-        (restorable_same accepts which a (Held which) (story_of old) (subst (λ (s : Story). Restorable accepts which a s) judged_is r));
-  }
-
-  pub shown_if : {T : Type 0} (r : Result T Stop) → Backed accepts which a (story_of held) → OnOk r (Restorable accepts which a (story_of judged))
-      → OnOk r (IsShown (record { bank = which; accepts = accepts }) (story_of old))
-  shown_if (Ok x) b h = shown b h
-  shown_if (Err stop) b h = tt
-
 pub brought_short : (accepts : Acceptance) (which : Bank) (device : Device) (fail : FlashFail) (old held new : World) → Ran (Says (Held which) ∷ []) old held
     → Stopped [] device fail held new → Stopped (brought_up accepts which (story_of old)) device fail old new
 brought_short accepts which device fail old held new p q =
@@ -162,14 +127,6 @@ module _ (accepts : Acceptance) (which : Bank) (why : ActiveFail) (old mid : Wor
 
   pub doubted_early : (device : Device) (fail : FlashFail) (new : World) → Stopped [] device fail mid new → story_of new ≡ after (distrusted which (Untrusted why)) (story_of old)
   doubted_early device fail new q = stopped_still device fail mid new q ∙ p.is
-
-  pub doubted_good : (against : Option CapsuleFail) → against ≡ recovery_at accepts which (story_of mid)
-      → IsGoodUnless against which (image_at (device_of which) (story_of mid)) (image_at device.Nv (story_of mid)) accepts → Restorable accepts which (Untrusted why) (story_of old)
-  doubted_good against e g =
-      let r : Restorable accepts which (Untrusted why) (story_of mid) =
-      subst (λ (x : Option CapsuleFail). IsRestorable (Untrusted why) x which (image_at (device_of which) (story_of mid)) (image_at device.Nv (story_of mid)) accepts) e
-      (unless_restorable why against which (image_at (device_of which) (story_of mid)) (image_at device.Nv (story_of mid)) accepts g) in
-      restorable_same accepts which (Untrusted why) (λ at. NotTrusted which why) (story_of old) (subst (λ (s : Story). Restorable accepts which (Untrusted why) s) p.is r)
 
 pub this_bank : (which : Bank) (a b : Standing) → (if same_bank which which then a else b) ≡ a
 this_bank bank.Bmc a b = refl
@@ -210,10 +167,10 @@ module _ (accepts : Acceptance) (old mid new : World) where
 
   -- the fuses were read and migrated
   pub woken : Ran (migrated (story_of old)) old mid → Steps (bank_stretches accepts) mid new → Steps (power_stretches accepts) old new
-  woken p q = Steps-crossed fuse_stretch (bank_stretches accepts) old mid new (Crosses-ran fuse_stretch old mid p tt) q
+  woken p q = Steps-crossed fuse_stretch (bank_stretches accepts) old mid new p q
 
   pub woken_halts : (device : Device) → Ran (migrated (story_of old)) old mid → Halts (bank_stretches accepts) device mid new → Halts (power_stretches accepts) device old new
-  woken_halts device p q = Halts-crossed fuse_stretch (bank_stretches accepts) device old mid new (Crosses-ran fuse_stretch old mid p tt) q
+  woken_halts device p q = Halts-crossed fuse_stretch (bank_stretches accepts) device old mid new p q
 
   -- they could not be
   pub unread : (device : Device) (fail : FlashFail) → fail ≡ Fault → device ≡ store → Stopped (migrated (story_of old)) device fail old mid → mid.notes ≡ old.notes

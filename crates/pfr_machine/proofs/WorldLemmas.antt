@@ -14,7 +14,7 @@ use Rattle.pfr_calm.specs.Standing.{Standing, Off, standing_from, standing_after
 use Rattle.pfr_calm.specs.Story.{Says, counts_of}
 use Rattle.pfr_calm.specs.World.{story_of}
 use Rattle.pfr_calm.specs.Goes.{Ran}
-use Rattle.pfr_calm.specs.Authentication.{authentication_with, IsBacked}
+use Rattle.pfr_calm.specs.Authentication.{authentication_with}
 use Rattle.pfr_engine.specs.Acceptance.{Acceptance}
 use Rattle.pfr_fuses.specs.FusesState.{FusesState}
 use Rattle.pfr_calm.specs.declared.authentication.Authentication.{Authentication}
@@ -36,19 +36,9 @@ without bank image accepts fuse.AlreadyProvisioned = refl
 without bank image accepts (fuse.LayoutBad which rule) = refl
 without bank image accepts (fuse.Flash fail) = refl
 
-without_backed : (bank : Bank) (image nv : List ℕ) (accepts : Acceptance) (cause : FuseFail) → IsBacked (without_fuses cause) bank image nv accepts
-without_backed bank image nv accepts fuse.SlotsSpent = tt
-without_backed bank image nv accepts fuse.NotProvisioned = tt
-without_backed bank image nv accepts fuse.AlreadyProvisioned = tt
-without_backed bank image nv accepts (fuse.LayoutBad which rule) = tt
-without_backed bank image nv accepts (fuse.Flash fail) = tt
-
 pub without_at : (bank : Bank) (image : List ℕ) (accepts : Acceptance) (found : Result FusesState FuseFail) (cause : FuseFail) (a : Authentication)
     → found ≡ Err cause → a ≡ without_fuses cause → a ≡ authentication_with bank image accepts found
 without_at bank image accepts found cause a e h = h ∙ (without bank image accepts cause ∙ ap (λ (f : Result FusesState FuseFail). authentication_with bank image accepts f) (sym e))
-
-pub without_backed_at : (bank : Bank) (image nv : List ℕ) (accepts : Acceptance) (cause : FuseFail) (a : Authentication) → a ≡ without_fuses cause → IsBacked a bank image nv accepts
-without_backed_at bank image nv accepts cause a h = subst (λ (b : Authentication). IsBacked b bank image nv accepts) (sym h) (without_backed bank image nv accepts cause)
 
 -- how banks stand once something more is noted
 standing_from-noted : (which : Bank) (how : Standing) (list : List Note) (note : Note) → standing_from which how (list ++ note ∷ []) ≡ standing_after which note.what (standing_from which how list)

@@ -15,9 +15,9 @@ use Rattle.pfr_report.specs.declared.note.LockWhy.TheVariants.{NoGoodImage}
 use Rattle.pfr_calm.specs.declared.authentication.Authentication.{Authentication}
 use Rattle.pfr_calm.specs.declared.authentication.Authentication.TheVariants.{Unprovisioned, SlotsSpent as NoSlot, Untrusted, Trusted}
 use Rattle.pfr_engine.specs.Acceptance.{Acceptance}
-use Rattle.pfr_capsule.specs.Answer as capsules
+use Rattle.pfr_flash.specs.Answer as answers
+use Rattle.pfr_capsule.specs.Answer.{capsule_failure}
 use Rattle.pfr_capsule.specs.declared.fail.CapsuleFail.{CapsuleFail}
-use Rattle.pfr_calm.specs.Authentication.{HasGoodRecovery}
 use Rattle.pfr_fuses.specs.FusesState.{FusesState}
 use Rattle.pfr_fuses.specs.declared.fuse_fail.FuseFail.{FuseFail}
 use Rattle.pfr_fuses.specs.declared.fuse_fail.FuseFail.TheVariants.{SlotsSpent}
@@ -51,12 +51,7 @@ IsPlaced authentication bank image found = Unit {0}
 -- what is against a recovery image is no failed device
 abbrev pub IsNoFailure : Option CapsuleFail → Type 0
 IsNoFailure None = Unit {0}
-IsNoFailure (Some cause) = capsules.IsFound cause
-
--- a recovery image is good where nothing is against it
-abbrev pub IsGoodUnless : Option CapsuleFail → Bank → List ℕ → List ℕ → Acceptance → Type 0
-IsGoodUnless None bank image nv accepts = HasGoodRecovery bank image nv accepts
-IsGoodUnless (Some cause) bank image nv accepts = Unit {0}
+IsNoFailure (Some cause) = answers.IsFound capsule_failure cause
 
 -- a lock's causes are no failed devices
 abbrev pub IsText : LockWhy → Type 0

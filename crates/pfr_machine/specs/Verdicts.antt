@@ -1,10 +1,13 @@
 -- What is found of a bank and its images, by what its flash and the store hold.
-use Rattle.std.specs.Prelude.{◌≡◌, ◌↔◌, ℕ, List, length, Bool, false, IsTrue, nat_eq, Result, Ok, Err}
+use Rattle.std.specs.Prelude.{◌⊎◌, Some, None, ◌≡◌, ◌↔◌, ℕ, List, length, Bool, false, IsTrue, nat_eq, Result, Ok, Err}
 use Rattle.std.specs.Cmp.Lexicographic.{pointwise}
 use Rattle.pfr_flash.specs.Bytes.{bytes_at}
 use Rattle.pfr_flash.specs.Layout.{judge_layout}
 use Rattle.pfr_flash.specs.declared.layout.Layout.{Layout}
 use Rattle.pfr_flash.specs.declared.layout.LayoutRule.{LayoutRule}
+use Rattle.pfr_flash.specs.FlashState.{FlashState}
+use Rattle.pfr_flash.specs.Reading.{EndsAt}
+use Rattle.pfr_flash.specs.declared.flash.FlashFail.{FlashFail}
 use Rattle.pfr_flash.specs.declared.names.Bank.{Bank}
 use Rattle.pfr_engine.specs.Acceptance.{Acceptance}
 use Rattle.pfr_chain.specs.declared.fail.ChainFail.TheVariants.{ShortBlock}
@@ -20,7 +23,7 @@ use Rattle.pfr_capsule.specs.Good.{IsGood}
 use Rattle.pfr_capsule.specs.Judge.{judge_capsule}
 use Rattle.pfr_capsule.specs.declared.fail.CapsuleFail.{CapsuleFail}
 use Rattle.pfr_capsule.specs.declared.fail.CapsuleFail.TheVariants as capsule
-use Rattle.pfr_auth.specs.Areas.{place_of}
+use Rattle.pfr_auth.specs.Areas.{place_of, judge_area}
 use Rattle.pfr_auth.specs.Judge.{judge_active}
 use Rattle.pfr_auth.specs.Trusted.{IsTrusted}
 use Rattle.pfr_auth.specs.declared.areas.Area.{Area}
@@ -49,12 +52,6 @@ spell_same manifest other = pointwise nat_eq (manifest_bytes manifest) (manifest
 abbrev pub share_manifest : Result Manifest ActiveFail → Result CapsuleState CapsuleFail → Bool
 share_manifest (Ok manifest) (Ok found) = spell_same manifest found.manifest
 share_manifest image found = false
-
--- the judgement of the capsule in an area of a bank
-abbrev pub judge_area : Area → Bank → List ℕ → FusesState → Acceptance → Result CapsuleState CapsuleFail
-judge_area area bank image fuses accepts =
-    let layout : Layout = layout_of fuses.provision bank in
-    judge_capsule image (place_of layout area) layout.area_len bank layout fuses accepts
 
 -- of a bank that isn't ready only that is told
 abbrev pub untold : Standing → BankVerdict
@@ -127,3 +124,9 @@ pub record IsVerdict (verdict : BankVerdict) (bank : Bank) (image nv : List ℕ)
   pub recovery : (svn : ℕ) → ((verdict.recovery ≡ Ok svn) ↔ HasGood Recovery svn bank image nv accepts)
   pub staging : (svn : ℕ) → ((verdict.staging ≡ Ok svn) ↔ HasGood Staging svn bank image nv accepts)
   pub same_manifest : IsTrue verdict.same_manifest ↔ HasSameManifest bank image nv accepts
+
+-- what a verdict does to both devices: it reads, and where a read fails that is the last one
+abbrev pub EndsEither : {A : Type 0} → Result A FlashFail → (bank bank_after nv nv_after : FlashState) → Type 0
+EndsEither (Ok x) bank bank_after nv nv_after = EndsAt None bank bank_after × EndsAt None nv nv_after
+EndsEither (Err fail) bank bank_after nv nv_after =
+    (EndsAt (Some fail) nv nv_after × (bank_after ≡ bank)) ⊎ (EndsAt None nv nv_after × EndsAt (Some fail) bank bank_after)

@@ -1,13 +1,15 @@
 // What the contents of the devices say of a bank.
-ghost use Rattle.std.specs.Prelude.{◌≡◌, ℕ, List, Ok, IfOk, IfErr};
+ghost use Rattle.std.specs.Prelude.{◌≡◌, Some, Ok, IfOk};
 ghost use Rattle.pfr_flash.specs.FlashState.{now, size_of};
 ghost use Rattle.pfr_flash.specs.Layout.{IsBankSize, IsValidLayout};
-ghost use Rattle.pfr_flash.specs.Reading.{OnlyReads, FailsReading};
+ghost use Rattle.pfr_flash.specs.Reading.{EndsAt, failed_by};
+ghost use Rattle.pfr_auth.specs.Areas.{judge_area};
 ghost use Rattle.pfr_auth.specs.Judge.{judge_active};
+ghost use Rattle.pfr_auth.specs.declared.areas.Area.TheVariants.{Recovery};
 ghost use Rattle.pfr_fuses.specs.FusesOf.{fuses_of};
 ghost use Rattle.pfr_fuses.specs.RootSlot.{layout_of};
-ghost use Rattle.pfr_calm.specs.Authentication.{authentication_with, by_active, judge_recovery, recovery_with, refusal_in, IsBacked};
-ghost use Rattle.pfr_machine.specs.Checks.{HasCause, HasLayout, IsGoodUnless, IsNoFailure, IsPlaced, without_fuses};
+ghost use Rattle.pfr_calm.specs.Authentication.{authentication_with, by_active, recovery_with, refusal_in};
+ghost use Rattle.pfr_machine.specs.Checks.{HasCause, HasLayout, IsNoFailure, IsPlaced, without_fuses};
 
 use pfr_auth::{Area, active, capsule_at};
 use pfr_calm::Authentication;
@@ -20,8 +22,7 @@ use pfr_fuses::{FuseFail, Fuses, load};
 pub fn read_fuses<F: Flash>(nv: &mut F) -> Result<Result<Fuses, FuseFail>, FlashFail>
     requires { size_of (F.device nv.old) ≡ 32768 }
     ensures found { IfOk result (λ found. found ≡ fuses_of (now (F.device nv.old))) }
-    ensures reads { OnlyReads (F.device nv.old) (F.device nv.new) }
-    ensures failed { IfErr result (λ fail. FailsReading fail (F.device nv.old) (F.device nv.new)) }
+    ensures ends { EndsAt (failed_by (λ fail. Some fail) result) (F.device nv.old) (F.device nv.new) }
 {
     match load(nv) {
         Ok(fuses) => Ok(Ok(fuses)),
@@ -43,9 +44,7 @@ fn check_active<F: Flash, E: Engine>(
     requires valid { IsValidLayout layout.now (size_of (F.device flash.old)) }
     ensures found { IfOk result (λ found. found ≡ by_active (judge_active (now (F.device flash.old)) bank fuses.now (E.accepts engine.now))) }
     ensures cause { IfOk result HasCause }
-    ensures backed { IfOk result (λ found. (nv : List ℕ) → fuses_of nv ≡ Ok fuses.now → IsBacked found bank (now (F.device flash.old)) nv (E.accepts engine.now)) }
-    ensures reads { OnlyReads (F.device flash.old) (F.device flash.new) }
-    ensures failed { IfErr result (λ fail. FailsReading fail (F.device flash.old) (F.device flash.new)) }
+    ensures ends { EndsAt (failed_by (λ fail. Some fail) result) (F.device flash.old) (F.device flash.new) }
 {
     match active(flash, bank, layout, fuses, engine) {
         Ok(manifest) => Ok(Authentication::Trusted { svn: manifest.svn }),
@@ -66,10 +65,8 @@ fn judge_provisioned<F: Flash, E: Engine>(
     requires size { IsBankSize (size_of (F.device flash.old)) }
     ensures found { IfOk result (λ found. found ≡ authentication_with bank (now (F.device flash.old)) (E.accepts engine.now) (Ok fuses.now)) }
     ensures cause { IfOk result HasCause }
-    ensures backed { IfOk result (λ found. (nv : List ℕ) → fuses_of nv ≡ Ok fuses.now → IsBacked found bank (now (F.device flash.old)) nv (E.accepts engine.now)) }
     ensures placed { IfOk result (λ found. IsPlaced found bank (now (F.device flash.old)) (Ok fuses.now)) }
-    ensures reads { OnlyReads (F.device flash.old) (F.device flash.new) }
-    ensures failed { IfErr result (λ fail. FailsReading fail (F.device flash.old) (F.device flash.new)) }
+    ensures ends { EndsAt (failed_by (λ fail. Some fail) result) (F.device flash.old) (F.device flash.new) }
 {
     let layout = fuses.provision().layout(bank);
     match layout.judge(flash.size()) {
@@ -102,10 +99,8 @@ pub fn judge_bank<F: Flash, E: Engine>(
     requires size { IsBankSize (size_of (F.device flash.old)) }
     ensures found { IfOk result (λ a. a ≡ authentication_with bank (now (F.device flash.old)) (E.accepts engine.now) found.now) }
     ensures cause { IfOk result HasCause }
-    ensures backed { IfOk result (λ a. (nv : List ℕ) → fuses_of nv ≡ found.now → IsBacked a bank (now (F.device flash.old)) nv (E.accepts engine.now)) }
     ensures placed { IfOk result (λ a. IsPlaced a bank (now (F.device flash.old)) found.now) }
-    ensures reads { OnlyReads (F.device flash.old) (F.device flash.new) }
-    ensures failed { IfErr result (λ fail. FailsReading fail (F.device flash.old) (F.device flash.new)) }
+    ensures ends { EndsAt (failed_by (λ fail. Some fail) result) (F.device flash.old) (F.device flash.new) }
 {
     match found {
         Ok(fuses) => judge_provisioned(flash, bank, fuses, engine),
@@ -122,11 +117,9 @@ fn check_recovery<F: Flash, E: Engine>(
 ) -> Result<Option<CapsuleFail>, FlashFail>
     requires size { IsBankSize (size_of (F.device flash.old)) }
     requires valid { IsValidLayout (layout_of fuses.now.provision bank) (size_of (F.device flash.old)) }
-    ensures found { IfOk result (λ against. against ≡ refusal_in (judge_recovery bank (now (F.device flash.old)) fuses.now (E.accepts engine.now))) }
+    ensures found { IfOk result (λ against. against ≡ refusal_in (judge_area Recovery bank (now (F.device flash.old)) fuses.now (E.accepts engine.now))) }
     ensures cause { IfOk result IsNoFailure }
-    ensures good { IfOk result (λ against. (nv : List ℕ) → fuses_of nv ≡ Ok fuses.now → IsGoodUnless against bank (now (F.device flash.old)) nv (E.accepts engine.now)) }
-    ensures reads { OnlyReads (F.device flash.old) (F.device flash.new) }
-    ensures failed { IfErr result (λ fail. FailsReading fail (F.device flash.old) (F.device flash.new)) }
+    ensures ends { EndsAt (failed_by (λ fail. Some fail) result) (F.device flash.old) (F.device flash.new) }
 {
     let layout = fuses.provision().layout(bank);
     match capsule_at(flash, Area::Recovery, bank, layout, fuses, engine) {
@@ -149,9 +142,7 @@ pub fn judge_recovery<F: Flash, E: Engine>(
     requires placed { HasLayout bank (now (F.device flash.old)) found.now }
     ensures found { IfOk result (λ against. against ≡ recovery_with bank (now (F.device flash.old)) (E.accepts engine.now) found.now) }
     ensures cause { IfOk result IsNoFailure }
-    ensures good { IfOk result (λ against. (nv : List ℕ) → fuses_of nv ≡ found.now → IsGoodUnless against bank (now (F.device flash.old)) nv (E.accepts engine.now)) }
-    ensures reads { OnlyReads (F.device flash.old) (F.device flash.new) }
-    ensures failed { IfErr result (λ fail. FailsReading fail (F.device flash.old) (F.device flash.new)) }
+    ensures ends { EndsAt (failed_by (λ fail. Some fail) result) (F.device flash.old) (F.device flash.new) }
 {
     match found {
         Ok(fuses) => check_recovery(flash, bank, fuses, engine),

@@ -6,9 +6,9 @@ ghost use Rattle.pfr_flash.specs.declared.names.Bank.{Bank};
 ghost use Rattle.pfr_report.specs.Texts.{AllText};
 ghost use Rattle.pfr_calm.specs.Standing.{standing_of, standing_by};
 ghost use Rattle.pfr_fuses.specs.Growth.{NeverGoesBack, KeepsProvision};
-ghost use Rattle.pfr_calm.specs.World.{AllMoved, IsDark, state_at};
+ghost use Rattle.pfr_calm.specs.World.{AllMoved, AreDevices, IsDark, state_at};
 ghost use Rattle.pfr_calm.specs.Turn.{Turn, next_item};
-ghost use Rattle.pfr_calm.specs.Promises.{ReleasesTrusted, LocksHaveCauses, BringsUpCalm, ProvisionsSo, FaultsHaveCauses, LossesAreNoted, LostEnds, LostIsDark, NotesOff, StaysQuiet, CallsNone, HasPower, DistrustsWithCause, NotesBelong, AreOff, IsPower};
+ghost use Rattle.pfr_calm.specs.Promises.{ReleasesTrusted, LocksHaveCauses, BringsUpCalm, ProvisionsSo, FaultsAreNoted, FaultsHaveCauses, LossesAreNoted, LostEnds, LostIsDark, NotesOff, StaysQuiet, CallsNone, HasPower, DistrustsWithCause, NotesBelong, AreOff, IsPower};
 ghost use Rattle.pfr_machine.specs.Checks.{HasSlot};
 ghost use Rattle.pfr_calm.specs.Run.{armed, takes_arm, with_arm};
 
@@ -93,6 +93,8 @@ impl<F: Flash, E: Engine + Drop> Platform<F, E> {
 
         // A fault is noted only where it was counted, and a loss of power exactly where it was.
         ensures faults { OnOk result (FaultsHaveCauses self.old.world self.new.world) }
+        // No fault of a device is passed over: where neither is noted, no device's count of faults rose.
+        ensures told { OnOk result (FaultsAreNoted self.old.world self.new.world) }
         ensures losses { OnOk result (LossesAreNoted self.old.world self.new.world) }
         ensures lost { OnOk result (LostEnds self.old.world self.new.world) }
         ensures dark { OnOk result (LostIsDark self.old.world self.new.world) }
@@ -108,8 +110,20 @@ impl<F: Flash, E: Engine + Drop> Platform<F, E> {
 
         // No note's cause is a failed device, so each has a text.
         ensures texts { AllText self.old.world.notes.list → AllText self.new.world.notes.list }
+
+        // All that the devices hold at the end are bytes.
+        ensures bytes { AreDevices self.new.world }
     {
-        self.work(event)
+        let done = self.work(event);
+        self.known();
+        done
+    }
+
+    // All that the devices hold are bytes. This does nothing.
+    fn known(&self)
+        ensures { AreDevices self.now.world }
+    {
+        self.works.known();
     }
 
     // Does one event.

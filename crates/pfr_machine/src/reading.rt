@@ -1,16 +1,16 @@
 // The fuses that a platform works by, and what its contents say of a bank.
-ghost use Rattle.std.specs.Prelude.{◌≡◌, ℕ, List, [], Ok, OnOk, IfOk, IfErr};
+ghost use Rattle.std.specs.Prelude.{◌≡◌, [], Some, Ok, OnOk, IfOk, IfErr};
 ghost use Rattle.pfr_flash.specs.FlashState.{now, size_of};
 ghost use Rattle.pfr_flash.specs.Plan.{Follows};
-ghost use Rattle.pfr_flash.specs.Reading.{OnlyReads, FailsReading};
+ghost use Rattle.pfr_flash.specs.Reading.{EndsAt, failed_by};
 ghost use Rattle.pfr_flash.specs.declared.names.Device.TheVariants.{Nv};
 ghost use Rattle.pfr_fuses.specs.FusesOf.{fuses_of};
 ghost use Rattle.pfr_calm.specs.Story.{device_of, image_at};
 ghost use Rattle.pfr_calm.specs.World.{story_of, state_at, IsOn};
 ghost use Rattle.pfr_calm.specs.Goes.{Goes};
-ghost use Rattle.pfr_calm.specs.Authentication.{authentication_with, recovery_with, IsBacked};
+ghost use Rattle.pfr_calm.specs.Authentication.{authentication_with, recovery_with};
 ghost use Rattle.pfr_calm.specs.Plans.{authentication_at, recovery_at, migrated, migration_by, migration_in};
-ghost use Rattle.pfr_machine.specs.Checks.{HasCause, HasLayout, IsGoodUnless, IsNoFailure, IsPlaced, StaysOn};
+ghost use Rattle.pfr_machine.specs.Checks.{HasCause, HasLayout, IsNoFailure, IsPlaced, StaysOn};
 ghost use Rattle.pfr_machine.specs.PlatformState.{with_state, SameStore, StoreGrows};
 
 use crate::judging::{judge_bank, judge_recovery, read_fuses};
@@ -26,8 +26,7 @@ impl<F: Flash, E: Engine + Drop> Works<F, E> {
     fn read_store(&mut self) -> Result<Result<Fuses, FuseFail>, FlashFail>
         ensures same { self.new ≡ record self.old { world = with_state Nv self.new.world.nv self.old.world } }
         ensures found { IfOk result (λ found. found ≡ fuses_of (now self.old.world.nv)) }
-        ensures reads { OnlyReads self.old.world.nv self.new.world.nv }
-        ensures failed { IfErr result (λ fail. FailsReading fail self.old.world.nv self.new.world.nv) }
+        ensures ends { EndsAt (failed_by (λ fail. Some fail) result) self.old.world.nv self.new.world.nv }
     {
         read_fuses(&mut self.nv)
     }
@@ -41,10 +40,8 @@ impl<F: Flash, E: Engine + Drop> Works<F, E> {
         ensures same { self.new ≡ record self.old { world = with_state (device_of bank) (state_at (device_of bank) self.new.world) self.old.world } }
         ensures found { IfOk result (λ a. a ≡ authentication_with bank (now (state_at (device_of bank) self.old.world)) (E.accepts self.old.engine) found.now) }
         ensures cause { IfOk result HasCause }
-        ensures backed { IfOk result (λ a. (nv : List ℕ) → fuses_of nv ≡ found.now → IsBacked a bank (now (state_at (device_of bank) self.old.world)) nv (E.accepts self.old.engine)) }
         ensures placed { IfOk result (λ a. IsPlaced a bank (now (state_at (device_of bank) self.old.world)) found.now) }
-        ensures reads { OnlyReads (state_at (device_of bank) self.old.world) (state_at (device_of bank) self.new.world) }
-        ensures failed { IfErr result (λ fail. FailsReading fail (state_at (device_of bank) self.old.world) (state_at (device_of bank) self.new.world)) }
+        ensures ends { EndsAt (failed_by (λ fail. Some fail) result) (state_at (device_of bank) self.old.world) (state_at (device_of bank) self.new.world) }
     {
         match bank {
             Bank::Bmc => judge_bank(&mut self.bmc, bank, found, &self.engine),
@@ -62,9 +59,7 @@ impl<F: Flash, E: Engine + Drop> Works<F, E> {
         ensures same { self.new ≡ record self.old { world = with_state (device_of bank) (state_at (device_of bank) self.new.world) self.old.world } }
         ensures found { IfOk result (λ r. r ≡ recovery_with bank (now (state_at (device_of bank) self.old.world)) (E.accepts self.old.engine) found.now) }
         ensures cause { IfOk result IsNoFailure }
-        ensures good { IfOk result (λ r. (nv : List ℕ) → fuses_of nv ≡ found.now → IsGoodUnless r bank (now (state_at (device_of bank) self.old.world)) nv (E.accepts self.old.engine)) }
-        ensures reads { OnlyReads (state_at (device_of bank) self.old.world) (state_at (device_of bank) self.new.world) }
-        ensures failed { IfErr result (λ fail. FailsReading fail (state_at (device_of bank) self.old.world) (state_at (device_of bank) self.new.world)) }
+        ensures ends { EndsAt (failed_by (λ fail. Some fail) result) (state_at (device_of bank) self.old.world) (state_at (device_of bank) self.new.world) }
     {
         match bank {
             Bank::Bmc => judge_recovery(&mut self.bmc, bank, found, &self.engine),
@@ -151,7 +146,6 @@ impl<F: Flash, E: Engine + Drop> Works<F, E> {
         ensures goes { Goes (λ story. []) self.old.world self.new.world result }
         ensures is { IfOk result (λ a. a ≡ authentication_at (E.accepts self.old.engine) bank (story_of self.old.world)) }
         ensures cause { IfOk result HasCause }
-        ensures backed { IfOk result (λ a. IsBacked a bank (image_at (device_of bank) (story_of self.old.world)) (image_at Nv (story_of self.old.world)) (E.accepts self.old.engine)) }
         ensures placed { IfOk result (λ a. IsPlaced a bank (image_at (device_of bank) (story_of self.old.world)) found.now) }
         ensures called { IfErr result (λ stop. stop.device ≡ device_of bank) }
         ensures engine { self.new.engine ≡ self.old.engine }
@@ -181,7 +175,6 @@ impl<F: Flash, E: Engine + Drop> Works<F, E> {
         ensures goes { Goes (λ story. []) self.old.world self.new.world result }
         ensures is { IfOk result (λ r. r ≡ recovery_at (E.accepts self.old.engine) bank (story_of self.old.world)) }
         ensures cause { IfOk result IsNoFailure }
-        ensures good { IfOk result (λ r. IsGoodUnless r bank (image_at (device_of bank) (story_of self.old.world)) (image_at Nv (story_of self.old.world)) (E.accepts self.old.engine)) }
         ensures called { IfErr result (λ stop. stop.device ≡ device_of bank) }
         ensures engine { self.new.engine ≡ self.old.engine }
         ensures notes { self.new.world.notes ≡ self.old.world.notes }

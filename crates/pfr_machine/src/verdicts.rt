@@ -1,17 +1,19 @@
 // What is found of a bank and its images, without a change of any of them.
-ghost use Rattle.std.specs.Prelude.{◌≡◌, ◌↔◌, ◌⊎◌, ℕ, List, IsTrue, Ok, IfOk, IfErr};
+ghost use Rattle.std.specs.Prelude.{◌≡◌, ◌↔◌, ℕ, List, IsTrue, Some, Ok, IfOk, IfErr};
 ghost use Rattle.pfr_flash.specs.FlashState.{now, size_of};
 ghost use Rattle.pfr_flash.specs.Layout.{IsBankSize, IsValidLayout};
-ghost use Rattle.pfr_flash.specs.Reading.{OnlyReads, FailsReading};
+ghost use Rattle.pfr_flash.specs.Reading.{EndsAt, failed_by};
 ghost use Rattle.pfr_fuses.specs.FuseMap.{IsFloor};
 ghost use Rattle.pfr_fuses.specs.FusesOf.{fuses_of};
 ghost use Rattle.pfr_fuses.specs.RootSlot.{layout_of};
-ghost use Rattle.pfr_capsule.specs.Answer as capsules;
+ghost use Rattle.pfr_flash.specs.Answer as answers;
+ghost use Rattle.pfr_capsule.specs.Answer.{capsule_failure};
+ghost use Rattle.pfr_auth.specs.Areas.{judge_area};
 ghost use Rattle.pfr_auth.specs.Judge.{judge_active};
 ghost use Rattle.pfr_report.specs.Words.{IsFound};
 ghost use Rattle.pfr_report.specs.Verdicts.{HasCauses};
 ghost use Rattle.pfr_report.specs.declared.verdict.Standing.TheVariants.{Ready};
-ghost use Rattle.pfr_machine.specs.Verdicts.{IsVerdict, judge_area, ready, svn_of_capsule, svn_of_image, untold, verdict_of, verdict_with};
+ghost use Rattle.pfr_machine.specs.Verdicts.{EndsEither, IsVerdict, ready, svn_of_capsule, svn_of_image, untold, verdict_of, verdict_with};
 ghost use Rattle.pfr_machine.specs.VerdictsInside.{AreOne, Brings, IsBorneOut, IsGoodIn, IsSound, standing_without, tells};
 
 use crate::judging::read_fuses;
@@ -133,8 +135,7 @@ fn judge_image<F: Flash, E: Engine>(
     ensures found { IfOk result (λ image. image ≡ judge_active (now (F.device flash.old)) bank fuses.now (E.accepts engine.now)) }
     ensures cause { IfOk result (λ image. IfErr image IsFound) }
     ensures trusted { IfOk result (λ image. IfOk image (IsBorneOut bank (now (F.device flash.old)) fuses.now (E.accepts engine.now))) }
-    ensures reads { OnlyReads (F.device flash.old) (F.device flash.new) }
-    ensures failed { IfErr result (λ fail. FailsReading fail (F.device flash.old) (F.device flash.new)) }
+    ensures ends { EndsAt (failed_by (λ fail. Some fail) result) (F.device flash.old) (F.device flash.new) }
 {
     match active(flash, bank, layout, fuses, engine) {
         Ok(manifest) => Ok(Ok(manifest)),
@@ -158,10 +159,9 @@ fn judge_area<F: Flash, E: Engine>(
     requires layout { layout.now ≡ layout_of fuses.now.provision bank }
     requires valid { IsValidLayout layout.now (size_of (F.device flash.old)) }
     ensures found { IfOk result (λ found. found ≡ judge_area area bank (now (F.device flash.old)) fuses.now (E.accepts engine.now)) }
-    ensures cause { IfOk result (λ found. IfErr found capsules.IsFound) }
+    ensures cause { IfOk result (λ found. IfErr found (answers.IsFound capsule_failure)) }
     ensures good { IfOk result (λ found. IfOk found (IsGoodIn area bank (now (F.device flash.old)) fuses.now (E.accepts engine.now))) }
-    ensures reads { OnlyReads (F.device flash.old) (F.device flash.new) }
-    ensures failed { IfErr result (λ fail. FailsReading fail (F.device flash.old) (F.device flash.new)) }
+    ensures ends { EndsAt (failed_by (λ fail. Some fail) result) (F.device flash.old) (F.device flash.new) }
 {
     match capsule_at(flash, area, bank, layout, fuses, engine) {
         Ok(capsule) => Ok(Ok(capsule)),
@@ -188,8 +188,7 @@ fn judge_images<F: Flash, E: Engine>(
     ensures sound { IfOk result (λ verdict. (nv : List ℕ) → fuses_of nv ≡ Ok fuses.now →
         IsSound verdict bank (now (F.device flash.old)) nv (E.accepts engine.now)) }
     ensures causes { IfOk result HasCauses }
-    ensures reads { OnlyReads (F.device flash.old) (F.device flash.new) }
-    ensures failed { IfErr result (λ fail. FailsReading fail (F.device flash.old) (F.device flash.new)) }
+    ensures ends { EndsAt (failed_by (λ fail. Some fail) result) (F.device flash.old) (F.device flash.new) }
 {
     let image = judge_image(flash, bank, layout, fuses, engine)?;
     let recovery = judge_area(flash, Area::Recovery, bank, layout, fuses, engine)?;
@@ -210,8 +209,7 @@ fn judge_provisioned<F: Flash, E: Engine>(
     ensures sound { IfOk result (λ verdict. (nv : List ℕ) → fuses_of nv ≡ Ok fuses.now →
         IsSound verdict bank (now (F.device flash.old)) nv (E.accepts engine.now)) }
     ensures causes { IfOk result HasCauses }
-    ensures reads { OnlyReads (F.device flash.old) (F.device flash.new) }
-    ensures failed { IfErr result (λ fail. FailsReading fail (F.device flash.old) (F.device flash.new)) }
+    ensures ends { EndsAt (failed_by (λ fail. Some fail) result) (F.device flash.old) (F.device flash.new) }
 {
     let layout = fuses.provision().layout(bank);
     match layout.judge(flash.size()) {
@@ -233,8 +231,7 @@ fn judge_with<F: Flash, E: Engine>(
     ensures sound { IfOk result (λ verdict. (nv : List ℕ) → fuses_of nv ≡ found.now →
         IsSound verdict bank (now (F.device flash.old)) nv (E.accepts engine.now)) }
     ensures causes { IfOk result HasCauses }
-    ensures reads { OnlyReads (F.device flash.old) (F.device flash.new) }
-    ensures failed { IfErr result (λ fail. FailsReading fail (F.device flash.old) (F.device flash.new)) }
+    ensures ends { EndsAt (failed_by (λ fail. Some fail) result) (F.device flash.old) (F.device flash.new) }
 {
     match found {
         Ok(fuses) => judge_provisioned(flash, bank, fuses, engine),
@@ -257,10 +254,8 @@ pub fn verdict<F: Flash, E: Engine>(
     // Which causes it has: the first in order, and none is a failed device.
     ensures exact { IfOk result (λ found. found ≡ verdict_of bank (now (F.device flash.old)) (now (F.device nv.old)) (E.accepts engine.now)) }
     ensures causes { IfOk result HasCauses }
-    ensures bank { OnlyReads (F.device flash.old) (F.device flash.new) }
-    ensures store { OnlyReads (F.device nv.old) (F.device nv.new) }
-    // A read of one of the two failed, with this cause.
-    ensures failed { IfErr result (λ fail. FailsReading fail (F.device flash.old) (F.device flash.new) ⊎ FailsReading fail (F.device nv.old) (F.device nv.new)) }
+    // Neither device is changed; where one fails, one read of it did, and none was made behind it.
+    ensures ends { EndsEither result (F.device flash.old) (F.device flash.new) (F.device nv.old) (F.device nv.new) }
 {
     let found = read_fuses(nv)?;
     judge_with(flash, bank, &found, engine)

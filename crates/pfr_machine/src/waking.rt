@@ -12,8 +12,7 @@ ghost use Rattle.pfr_report.specs.declared.note.What.TheVariants.{Released};
 ghost use Rattle.pfr_calm.specs.Story.{Says, after, device_of, image_at};
 ghost use Rattle.pfr_calm.specs.World.{story_of, IsOn, IsDark};
 ghost use Rattle.pfr_calm.specs.Goes.{Goes, Ran};
-ghost use Rattle.pfr_calm.specs.Course.{Steps, Halt, Halts, CrossesOrFaults, IsShown};
-ghost use Rattle.pfr_calm.specs.Authentication.{IsRestorable};
+ghost use Rattle.pfr_calm.specs.Course.{Steps, Halt, Halts, CrossesOrFaults};
 ghost use Rattle.pfr_calm.specs.Plans.{authentication_at, recovery_at, lock_of, brought_up, concluded, distrusted};
 ghost use Rattle.pfr_calm.specs.declared.authentication.Authentication.TheVariants.{Untrusted};
 ghost use Rattle.pfr_calm.specs.Turn.{StopsInCheck, bank_stretch, bank_stretches, power_stretches, power_course, fault_of, Follows};
@@ -66,8 +65,6 @@ impl<F: Flash, E: Engine + Drop> Works<F, E> {
         requires cause { IsFound why }
         ensures goes { Goes (λ story. concluded bank (recovery_at (E.accepts self.old.engine) bank story) (Untrusted why)) self.old.world self.new.world result }
         ensures early { IfErr result (λ stop. story_of self.new.world ≡ after (distrusted bank (Untrusted why)) (story_of self.old.world)) }
-        ensures good { OnOk result (IsRestorable (Untrusted why) (recovery_at (E.accepts self.old.engine) bank (story_of self.old.world)) bank
-            (image_at (device_of bank) (story_of self.old.world)) (image_at Nv (story_of self.old.world)) (E.accepts self.old.engine)) }
         ensures line { IfOk result (λ line. line ≡ Line.Locked) }
         ensures stands { IfOk result (λ line. StandsSo bank line self.old.world.notes.list self.new.world.notes.list) }
         ensures others { (other : Bank) → same_bank other bank ≡ false → standing_of other self.new.world.notes.list ≡ standing_of other self.old.world.notes.list }
@@ -117,8 +114,6 @@ impl<F: Flash, E: Engine + Drop> Works<F, E> {
         requires cause { HasCause authentication }
         ensures goes { Goes (λ story. concluded bank (recovery_at (E.accepts self.old.engine) bank story) authentication) self.old.world self.new.world result }
         ensures early { IfErr result (λ stop. story_of self.new.world ≡ after (distrusted bank authentication) (story_of self.old.world)) }
-        ensures good { OnOk result (IsRestorable authentication (recovery_at (E.accepts self.old.engine) bank (story_of self.old.world)) bank
-            (image_at (device_of bank) (story_of self.old.world)) (image_at Nv (story_of self.old.world)) (E.accepts self.old.engine)) }
         ensures line { IfOk result (λ line. line ≡ line_of authentication) }
         ensures stands { IfOk result (λ line. StandsSo bank line self.old.world.notes.list self.new.world.notes.list) }
         ensures others { (other : Bank) → same_bank other bank ≡ false → standing_of other self.new.world.notes.list ≡ standing_of other self.old.world.notes.list }
@@ -148,7 +143,6 @@ impl<F: Flash, E: Engine + Drop> Works<F, E> {
         ensures goes { Goes (brought_up (E.accepts self.old.engine) bank) self.old.world self.new.world result }
         ensures early { IfErr result (λ stop. StopsInCheck (E.accepts self.old.engine) bank (story_of self.old.world) (story_of self.new.world)) }
         ensures line { IfOk result (λ line. line ≡ line_of (authentication_at (E.accepts self.old.engine) bank (story_of self.old.world))) }
-        ensures shown { OnOk result (IsShown (record { bank = bank; accepts = E.accepts self.old.engine }) (story_of self.old.world)) }
         ensures stands { IfOk result (λ line. StandsSo bank line self.old.world.notes.list self.new.world.notes.list) }
         ensures others { (other : Bank) → same_bank other bank ≡ false → standing_of other self.new.world.notes.list ≡ standing_of other self.old.world.notes.list }
         ensures called { IfErr result (λ stop. stop.device ≡ device_of bank) }

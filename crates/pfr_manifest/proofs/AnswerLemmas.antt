@@ -1,37 +1,42 @@
--- Answers of calls over a flash.
-use Rattle.std.proofs.Common.{◌≡◌, Result, Ok, Err, IfErr, None, sym, ◌∙◌}
-use Rattle.pfr_flash.specs.FlashState.{FlashState}
-use Rattle.pfr_flash.specs.Reading.{OnlyReads, EndsAt, failed_by}
-use Rattle.pfr_flash.proofs.ReadingLemmas.{FailsReading-later, OnlyReads-refl}
-use Rattle.pfr_manifest.specs.declared.fail.ManifestFail.{ManifestFail}
-use Rattle.pfr_manifest.specs.declared.fail.ManifestFail.TheVariants.{Flash}
-use Rattle.pfr_manifest.specs.Answer.{IsFound, manifest_failure, Refuses, Answers}
+-- Answers of calls over a flash, and what they read of it.
+use Rattle.std.proofs.Common.{◌≡◌, ℕ, ◌<◌, ◌≤◌, min, List, take, drop, length-take, arith, ⊎_elim, Option, Some, None, Result, Ok, Err, MatchOption, sym, ◌∙◌}
+use Rattle.std.proofs.lemmas.List.{take-take, take_all}
+use Rattle.std.proofs.lemmas.Bool.{cases_lt}
+use Rattle.pfr_flash.specs.Answer.{Answers}
+use Rattle.pfr_flash.specs.Bytes.{bytes_at}
 
--- a cause that is found is no failure of the device
-pub refuses_found : {Y : Type 0} (old new : FlashState) (cause : ManifestFail) (judged : Result Y ManifestFail) → judged ≡ Err cause → IsFound cause → Refuses old new cause judged
-refuses_found old new (Flash f) judged e found = absurd found
-refuses_found old new _ judged e found = e
+told_by : {F P Q : Type 0} (failed : Option F) → (P → Q) → MatchOption failed P (λ fail. Unit {0}) → MatchOption failed Q (λ fail. Unit {0})
+told_by None goes h = goes h
+told_by (Some fail) goes h = tt
 
-pub answers_found : {Y : Type 0} (old new : FlashState) (r judged : Result Y ManifestFail) → r ≡ judged → IfErr r IsFound → Answers old new r judged
-answers_found old new (Ok x) judged e found = sym e
-answers_found old new (Err cause) judged e found = refuses_found old new cause judged (sym e) found
+told_of : {F P : Type 0} (failed : Option F) → P → MatchOption failed P (λ fail. Unit {0})
+told_of None p = p
+told_of (Some fail) p = tt
 
--- an answer that is found tells no failure of the device
-pub found_ends : {Y : Type 0} (r : Result Y ManifestFail) {old new : FlashState} → IfErr r IsFound → EndsAt None old new → EndsAt (failed_by manifest_failure r) old new
-found_ends (Ok x) found h = h
-found_ends (Err (Flash f)) found h = absurd found
-found_ends (Err _) found h = h
+-- a refusal of a part is one of the whole
+pub refuses_whole : {X Y E F : Type 0} (failure : E → Option F) (cause : E) (part : Result X E) (whole : Result Y E) → (part ≡ Err cause → whole ≡ Err cause) → Answers failure (Err cause) part → Answers failure (Err cause) whole
+refuses_whole failure cause part whole goes h = told_by (failure cause) goes h
 
--- a refusal of a part, after calls that only read, is one of the whole
-pub refuses_later : {X Y : Type 0} (old mid new : FlashState) (cause : ManifestFail) (part : Result X ManifestFail) (whole : Result Y ManifestFail) →
-    OnlyReads old mid → (part ≡ Err cause → whole ≡ Err cause) → Refuses mid new cause part → Refuses old new cause whole
-refuses_later old mid new (Flash f) part whole reads goes h = FailsReading-later f old mid new reads h
-refuses_later old mid new _ part whole reads goes h = goes h
+-- an answer stays one where the judgement is the same
+pub answers_same : {Y E F : Type 0} (failure : E → Option F) (r part whole : Result Y E) → part ≡ whole → Answers failure r part → Answers failure r whole
+answers_same failure (Ok x) part whole e h = sym e ∙ h
+answers_same failure (Err cause) part whole e h = told_by (failure cause) (λ k. sym e ∙ k) h
 
-pub refuses_whole : {X Y : Type 0} (old new : FlashState) (cause : ManifestFail) (part : Result X ManifestFail) (whole : Result Y ManifestFail) →
-    (part ≡ Err cause → whole ≡ Err cause) → Refuses old new cause part → Refuses old new cause whole
-refuses_whole old new cause part whole goes h = refuses_later old old new cause part whole (OnlyReads-refl old) goes h
+-- an answer that is the judgement itself
+pub answers_found : {Y E F : Type 0} (failure : E → Option F) (r judged : Result Y E) → r ≡ judged → Answers failure r judged
+answers_found failure (Ok x) judged e = sym e
+answers_found failure (Err cause) judged e = told_of (failure cause) (sym e)
 
-pub answers_later : {Y : Type 0} (old mid new : FlashState) (r part whole : Result Y ManifestFail) → OnlyReads old mid → part ≡ whole → Answers mid new r part → Answers old new r whole
-answers_later old mid new (Ok x) part whole reads e h = sym e ∙ h
-answers_later old mid new (Err cause) part whole reads e h = refuses_later old mid new cause part whole reads (λ k. sym e ∙ k) h
+-- the first n bytes of so many
+pub take-bytes_at : (image : List ℕ) (place left n : ℕ) → take n (bytes_at image place left) ≡ bytes_at image place (min left n)
+take-bytes_at image place left n = ⊎_elim (λ h. short h) (λ h. long h) (cases_lt left n)
+  where
+    short : left < n → take n (bytes_at image place left) ≡ bytes_at image place (min left n)
+    short h =
+        let e : min left n ≡ left = omega arith in
+        rw e (take_all n (bytes_at image place left) (omega (arith, length-take left (drop place image))))
+
+    long : n ≤ left → take n (bytes_at image place left) ≡ bytes_at image place (min left n)
+    long h =
+        let e : min left n ≡ n = omega arith in
+        rw e (take-take n left (drop place image) h)

@@ -7,7 +7,7 @@ use Rattle.pfr_manifest.specs.declared.region.Region.{Region}
 use Rattle.pfr_manifest.specs.declared.rule.Rule.{Rule}
 use Rattle.pfr_manifest.specs.declared.entry.Entry.TheVariants as entries
 use Rattle.pfr_manifest.specs.declared.fail.ManifestFail.{ManifestFail}
-use Rattle.pfr_manifest.specs.Judging.{◌>>=◌, ◌>>◌}
+use Rattle.pfr_flash.specs.Judging.{◌>>=◌, ◌>>◌}
 use Rattle.pfr_manifest.specs.Judge.{judge_entry, judge_tail, judge_entries, after_entry, turns_left, region_len, with_region, with_rule, judge_header, judge_manifest}
 
 -- no entries are left

@@ -13,8 +13,8 @@ use Rattle.pfr_manifest.specs.declared.region.RegionHash.TheVariants as hashes
 use Rattle.pfr_manifest.specs.declared.rule.Rule.{Rule}
 use Rattle.pfr_manifest.specs.declared.entry.Entry.TheVariants as entries
 use Rattle.pfr_manifest.specs.declared.fail.ManifestFail.{ManifestFail}
-use Rattle.pfr_manifest.specs.Judging.{◌>>◌}
-use Rattle.pfr_manifest.specs.Fields.{number_at}
+use Rattle.pfr_flash.specs.Judging.{◌>>◌}
+use Rattle.pfr_flash.specs.Numbers.{little_at, number_at}
 use Rattle.pfr_manifest.specs.Regions.{IsDigest, IsRegion, IsInOrder, last_start, last_end}
 use Rattle.pfr_manifest.specs.Spelling.{magic, header_bytes, region_bytes, rule_bytes, body_bytes}
 use Rattle.pfr_manifest.specs.Manifest.{IsHeaderWide, IsRegionWide, IsRuleWide, IsManifestOf}
@@ -32,9 +32,9 @@ bare m = record m { regions = []; rules = [] }
 -- what is read of a header's text
 record IsReadHeader (text : List ℕ) (m : Manifest) : Type 0 where
   pub long : length text ≡ 32
-  pub magic : number_at text 0 4 ≡ magic
+  pub magic : number_at text 0 ≡ magic
   pub svn : slice_index text 4 ≡ m.svn
-  pub length : number_at text 28 4 ≡ m.length
+  pub length : number_at text 28 ≡ m.length
   pub is : header_at text ≡ bare m
 
 header_of : (svn bkc : ℕ) (revision reserved oem : List ℕ) (count : ℕ) → Manifest
@@ -44,7 +44,7 @@ text_of : (svn bkc a b c d e f : ℕ) (oem : List ℕ) (count : ℕ) → List �
 text_of svn bkc a b c d e f oem count = 29 ∷ 206 ∷ 179 ∷ 2 ∷ svn ∷ bkc ∷ a ∷ b ∷ c ∷ d ∷ e ∷ f ∷ (oem ++ little_bytes 4 count)
 
 header_parts : (svn bkc a b c d e f : ℕ) (oem : List ℕ) (count : ℕ) → length oem ≡ 16 → count < 2 ^ 32 → IsReadHeader (text_of svn bkc a b c d e f oem count) (header_of svn bkc (a ∷ b ∷ []) (c ∷ d ∷ e ∷ f ∷ []) oem count)
-unfolding number_at text_of header_of
+unfolding little_at text_of header_of
 header_parts svn bkc a b c d e f oem count long fits =
     let l = length-append oem (little_bytes 4 count) in
     let o : take 16 (oem ++ little_bytes 4 count) ≡ oem = take_at oem (little_bytes 4 count) 16 long in
@@ -85,7 +85,7 @@ region_of mask reserved hash start end = record { mask = mask; reserved = reserv
 
 region_found : (mask : ℕ) (reserved : List ℕ) (hash : RegionHash) (start end : ℕ) (more : List ℕ) → length reserved ≡ 4 → start < 2 ^ 32 → end < 2 ^ 32 → IsDigest hash →
     IsFoundRegion (take 64 (region_bytes (region_of mask reserved hash start end) ++ more)) (region_of mask reserved hash start end)
-unfolding region_bytes region_at region_size hash_at number_at
+unfolding region_bytes region_at region_size hash_at little_at
 region_found mask (a ∷ b ∷ c ∷ d ∷ []) hashes.None start end more p q r s = record {
   first = refl;
   long = omega arith;

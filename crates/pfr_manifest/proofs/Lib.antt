@@ -1,13 +1,14 @@
 pub mod RegionLemmas
-pub mod Pieces
 pub mod AnswerLemmas
 pub mod EntryLemmas
 pub mod LoopLemmas
 pub mod Numbers
-pub mod Tests
 pub mod PartLaws
 pub mod SpellingLaws
 pub mod ReadingLaw
 pub mod FindingLaw
 pub mod HashLemmas
 pub mod SameLemmas
+pub mod StretchLemmas
+pub mod ApartLaw
+pub mod HalvingLemmas

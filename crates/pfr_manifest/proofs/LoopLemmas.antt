@@ -1,24 +1,24 @@
 -- Reading entries from a flash, one after the other.
 use Rattle.std.proofs.Common.{◌≡◌, ℕ, suc, ◌+◌, ◌-◌, ◌<◌, ◌≤◌, List, [], ◌∷◌, ◌++◌, length, take, drop, Result, Ok, Err, None, sym, ap, ◌∙◌, arith, length-drop}
-use Rattle.std.proofs.lemmas.List.{drop-drop, drop_all}
+use Rattle.std.proofs.lemmas.List.{drop-drop, drop-take, drop_all}
 use Rattle.pfr_flash.specs.Bytes.{bytes_at}
 use Rattle.pfr_flash.specs.FlashState.{FlashState, now, size_of}
-use Rattle.pfr_flash.specs.Reading.{OnlyReads, EndsAt}
+use Rattle.pfr_flash.specs.Reading.{EndsAt}
 use Rattle.pfr_flash.specs.declared.layout.Layout.{Layout}
 use Rattle.pfr_flash.proofs.RangeLemmas.{length-now}
-use Rattle.pfr_flash.proofs.EndsLemmas.{ends_reads, ends_content}
-use Rattle.pfr_flash.proofs.ReadingLemmas.{then_reads}
+use Rattle.pfr_flash.proofs.EndsLemmas.{ends_content}
 use Rattle.pfr_manifest.specs.declared.manifest.Manifest.{Manifest}
 use Rattle.pfr_manifest.specs.declared.region.Region.{Region}
 use Rattle.pfr_manifest.specs.declared.rule.Rule.{Rule}
 use Rattle.pfr_manifest.specs.declared.entry.Entry.{Entry}
 use Rattle.pfr_manifest.specs.declared.entry.Entry.TheVariants as entries
 use Rattle.pfr_manifest.specs.declared.fail.ManifestFail.{ManifestFail}
-use Rattle.pfr_manifest.specs.Answer.{Refuses}
-use Rattle.pfr_manifest.specs.Judging.{◌>>◌}
+use Rattle.pfr_flash.specs.Answer.{Answers}
+use Rattle.pfr_manifest.specs.Answer.{manifest_failure}
+use Rattle.pfr_flash.specs.Judging.{◌>>◌}
 use Rattle.pfr_manifest.specs.Judge.{judge_entry, judge_tail, judge_entries, turns_left, region_len, with_region, with_rule}
-use Rattle.pfr_manifest.proofs.Pieces.{length-bytes_at, drop-bytes_at}
-use Rattle.pfr_manifest.proofs.AnswerLemmas.{refuses_later}
+use Rattle.pfr_flash.proofs.BytesLemmas.{length-bytes_at}
+use Rattle.pfr_manifest.proofs.AnswerLemmas.{refuses_whole}
 use Rattle.pfr_manifest.proofs.EntryLemmas.{judge_none, step_err, step_tail, step_region, step_rule, turns_some, turns-region, turns-rule}
 
 -- A loop has read the entries up to a place. What is left, behind those of m, is to be judged as all of them.
@@ -28,6 +28,13 @@ pub record IsReading (old mid : FlashState) (place size at : ℕ) (m : Manifest)
   pub few_rules : length m.rules ≤ 64
   pub exact : judge_entries (turns_left m) (drop at (bytes_at (now old) place size)) at m layout bank ≡ all
   pub ends : EndsAt None old mid
+
+-- the bytes behind the first ones
+drop-bytes_at : (image : List ℕ) (place size at : ℕ) → at ≤ size → drop at (bytes_at image place size) ≡ bytes_at image (place + at) (size - at)
+drop-bytes_at image place size at h =
+    let e : size ≡ at + (size - at) = omega arith in
+    let a : drop at (take (at + (size - at)) (drop place image)) ≡ take (size - at) (drop at (drop place image)) = drop-take at (size - at) (drop place image) in
+    ap (λ n. drop at (take n (drop place image))) e ∙ a ∙ ap (take (size - at)) (drop-drop at place image)
 
 -- the judgement of the entry at the place
 abbrev pub entry_there : FlashState → ℕ → ℕ → ℕ → Manifest → Layout → ℕ → Result Entry ManifestFail
@@ -50,8 +57,8 @@ module _ {old mid : FlashState} {place size at : ℕ} {m : Manifest} {layout : L
   judged_here : (result : Result Entry ManifestFail) → entry_there mid place size at m layout bank ≡ result → judge_entry (take 64 (drop at (bytes_at (now old) place size))) at m layout bank ≡ result
   judged_here result h = ap (λ rest. judge_entry (take 64 rest) at m layout bank) (sym (left_is mid (ends_content r.ends))) ∙ h
 
-  pub entry_refused : (new : FlashState) (cause : ManifestFail) → at < size → Refuses mid new cause (entry_there mid place size at m layout bank) → Refuses old new cause all
-  entry_refused new cause left = refuses_later old mid new cause _ all (ends_reads r.ends)
+  pub entry_refused : (cause : ManifestFail) → at < size → Answers manifest_failure (Err cause) (entry_there mid place size at m layout bank) → Answers manifest_failure (Err cause) all
+  entry_refused cause left = refuses_whole manifest_failure cause _ all
       (λ e. sym r.exact ∙ step_err (turns_left m) _ _ at m layout bank turns_more (some_left left) cause (judged_here (Err cause) e))
 
   pub tail_judged : (later : FlashState) (result : Result (Unit {0}) ManifestFail) → at < size → entry_there mid place size at m layout bank ≡ Ok entries.Tail → now later ≡ now old
@@ -60,10 +67,9 @@ module _ {old mid : FlashState} {place size at : ℕ} {m : Manifest} {layout : L
       let t : judge_tail (drop at (bytes_at (now old) place size)) ≡ result = ap judge_tail (sym (left_is later content)) ∙ e in
       sym r.exact ∙ step_tail (turns_left m) _ _ at m layout bank turns_more (some_left left) (judged_here (Ok entries.Tail) h) ∙ ap (λ judged. judged >> Ok m) t
 
-  pub tail_refused : (later new : FlashState) (cause : ManifestFail) → at < size → entry_there mid place size at m layout bank ≡ Ok entries.Tail → OnlyReads mid later
-      → Refuses later new cause (judge_tail (bytes_at (now later) (place + at) (size - at))) → Refuses old new cause all
-  tail_refused later new cause left h reads = refuses_later old later new cause _ all (then_reads (ends_reads r.ends) reads)
-      (λ e. tail_judged later (Err cause) left h (reads.content ∙ (ends_content r.ends)) e)
+  pub tail_refused : (later : FlashState) (cause : ManifestFail) → at < size → entry_there mid place size at m layout bank ≡ Ok entries.Tail → now later ≡ now old
+      → Answers manifest_failure (Err cause) (judge_tail (bytes_at (now later) (place + at) (size - at))) → Answers manifest_failure (Err cause) all
+  tail_refused later cause left h content = refuses_whole manifest_failure cause _ all (λ e. tail_judged later (Err cause) left h content e)
 
   pub region_read : (region : Region) (regions : List Region) (len : ℕ) → at < size → entry_there mid place size at m layout bank ≡ Ok (entries.Region region)
       → length m.regions < 64 → regions ≡ m.regions ++ region ∷ [] → len ≡ region_len region

@@ -7,18 +7,20 @@ use Rattle.pfr_manifest.specs.declared.manifest.Manifest.{Manifest}
 use Rattle.pfr_manifest.specs.declared.region.Region.{Region}
 use Rattle.pfr_manifest.specs.declared.region.RegionHash.{RegionHash}
 use Rattle.pfr_manifest.specs.declared.rule.Rule.{Rule}
-use Rattle.pfr_manifest.specs.Fields.{number_at}
+use Rattle.pfr_flash.specs.Numbers.{number_at}
 use Rattle.pfr_manifest.specs.Regions.{IsRegion, is_static, is_writable, last_start, last_end}
 use Rattle.pfr_manifest.specs.Spelling.{magic}
-use Rattle.pfr_manifest.specs.Judge.{judge_header, judge_definition, judge_region, judge_rule, header_at, region_at, rule_at, hash_at, region_size, is_clear}
-use Rattle.pfr_manifest.proofs.Tests.{Decides-clear, passed_test, passed_last}
+use Rattle.pfr_manifest.specs.Stretches.{stretch_of}
+use Rattle.pfr_manifest.specs.Judge.{judge_header, judge_definition, judge_stretch, judge_region, judge_rule, header_at, region_at, rule_at, hash_at, region_size, is_clear}
+use Rattle.pfr_flash.proofs.JudgingLemmas.{passed_test, passed_last}
+use Rattle.pfr_manifest.proofs.RegionLemmas.{Decides-clear}
 
 pub header_holds : (header : List ℕ) (count : ℕ) (m : Manifest) → judge_header header count ≡ Ok m →
-    (32 ≤ count) × (number_at header 0 4 ≡ magic) × (slice_index header 4 ≤ 127) × (number_at header 28 4 ≡ count) × (0 < count) × (count % 128 ≡ 0) × (m ≡ header_at header)
+    (32 ≤ count) × (number_at header 0 ≡ magic) × (slice_index header 4 ≤ 127) × (number_at header 28 ≡ count) × (0 < count) × (count % 128 ≡ 0) × (m ≡ header_at header)
 unfolding judge_header
 header_holds header count m h = grind (arith, nat_tests)
 
-pub header_ends : (header : List ℕ) (count : ℕ) → 32 ≤ count → number_at header 0 4 ≡ magic → slice_index header 4 ≤ 127 → number_at header 28 4 ≡ count → count % 128 ≡ 0 → judge_header header count ≡ Ok (header_at header)
+pub header_ends : (header : List ℕ) (count : ℕ) → 32 ≤ count → number_at header 0 ≡ magic → slice_index header 4 ≤ 127 → number_at header 28 ≡ count → count % 128 ≡ 0 → judge_header header count ≡ Ok (header_at header)
 unfolding judge_header
 header_ends header count a b d e f = grind (arith, nat_tests)
 
@@ -40,19 +42,19 @@ not_both_tells false writable h k = cc
 align_tells : (region : Region) → (region.start % 4096 == 0 && region.end % 4096 == 0) ≡ true → (region.start % 4096 ≡ 0) × (region.end % 4096 ≡ 0)
 align_tells region h = grind (arith, nat_tests)
 
-range_tells : (region : Region) (layout : Layout) (size : ℕ) → (nat_lt region.start region.end && nat_le region.end size && is_clear region layout) ≡ true → (region.start < region.end) × (region.end ≤ size) × (is_clear region layout ≡ true)
-range_tells region layout size h = range_of (is_clear region layout) h
+range_tells : (region : Region) (layout : Layout) (size : ℕ) → (nat_lt region.start region.end && nat_le region.end size && is_clear (stretch_of region) layout) ≡ true → (region.start < region.end) × (region.end ≤ size) × (is_clear (stretch_of region) layout ≡ true)
+range_tells region layout size h = range_of (is_clear (stretch_of region) layout) h
   where
     range_of : (clear : Bool) → (nat_lt region.start region.end && nat_le region.end size && clear) ≡ true → (region.start < region.end) × (region.end ≤ size) × (clear ≡ true)
     range_of clear h = grind (arith, nat_tests)
 
 region_tests_hold : (region : Region) (before : List Region) (layout : Layout) (size : ℕ) → judge_region region before layout size ≡ Ok tt →
-    (is_static region ≡ true → is_writable region ≡ false) × (region.start % 4096 ≡ 0) × (region.end % 4096 ≡ 0) × (region.start < region.end) × (region.end ≤ size) × (is_clear region layout ≡ true) × (last_end before ≤ region.start)
-unfolding judge_region
+    (is_static region ≡ true → is_writable region ≡ false) × (region.start % 4096 ≡ 0) × (region.end % 4096 ≡ 0) × (region.start < region.end) × (region.end ≤ size) × (is_clear (stretch_of region) layout ≡ true) × (last_end before ≤ region.start)
+unfolding judge_stretch
 region_tests_hold region before layout size h =
     let a = passed_test _ (not (is_static region && is_writable region)) _ tt h in
     let b = passed_test _ (region.start % 4096 == 0 && region.end % 4096 == 0) _ tt a.1 in
-    let d = passed_test _ (nat_lt region.start region.end && nat_le region.end size && is_clear region layout) _ tt b.1 in
+    let d = passed_test _ (nat_lt region.start region.end && nat_le region.end size && is_clear (stretch_of region) layout) _ tt b.1 in
     let e = passed_test _ (nat_le (last_start before) region.start) _ tt d.1 in
     let f = passed_last _ (nat_le (last_end before) region.start) e.1 in
     let aligned = align_tells region b.0 in
@@ -76,9 +78,9 @@ region_holds region before layout size h =
       t.6,
     )
 
-region_tests_end : (region : Region) (before : List Region) (layout : Layout) (size : ℕ) (both : Bool) → (is_static region && is_writable region) ≡ both → both ≡ false → region.start % 4096 ≡ 0 → region.end % 4096 ≡ 0 → region.start < region.end → region.end ≤ size → is_clear region layout ≡ true
+region_tests_end : (region : Region) (before : List Region) (layout : Layout) (size : ℕ) (both : Bool) → (is_static region && is_writable region) ≡ both → both ≡ false → region.start % 4096 ≡ 0 → region.end % 4096 ≡ 0 → region.start < region.end → region.end ≤ size → is_clear (stretch_of region) layout ≡ true
     → last_start before ≤ region.start → last_end before ≤ region.start → judge_region region before layout size ≡ Ok tt
-unfolding judge_region
+unfolding judge_stretch
 region_tests_end region before layout size both e a b d f k l m n = grind (arith, nat_tests)
 
 not_both : (static writable : Bool) → (static ≡ true → writable ≡ false) → (static && writable) ≡ false

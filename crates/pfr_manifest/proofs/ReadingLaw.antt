@@ -12,15 +12,15 @@ use Rattle.pfr_manifest.specs.declared.entry.Entry.{Entry}
 use Rattle.pfr_manifest.specs.declared.entry.Entry.TheVariants as entries
 use Rattle.pfr_manifest.specs.declared.fail.ManifestFail.{ManifestFail}
 use Rattle.pfr_manifest.specs.declared.fail.ManifestFail.TheVariants.{Tail}
-use Rattle.pfr_manifest.specs.Judging.{◌>>=◌, ◌>>◌}
+use Rattle.pfr_flash.specs.Judging.{◌>>=◌, ◌>>◌}
 use Rattle.pfr_flash.specs.Bytes.{AreBytes}
 use Rattle.pfr_manifest.specs.Regions.{IsRegion, IsInOrder}
 use Rattle.pfr_manifest.specs.Spelling.{header_bytes, region_bytes, rule_bytes, body_bytes}
 use Rattle.pfr_manifest.specs.Manifest.{IsWide, IsRegionWide, IsRuleWide, IsManifestOf}
 use Rattle.pfr_manifest.specs.Judge.{judge_header, judge_definition, judge_region, judge_rule, judge_entry, judge_tail, judge_entries, judge_manifest, after_entry, turns_left, region_len, with_region, with_rule}
-use Rattle.pfr_manifest.proofs.Numbers.{AreBytes-take, AreBytes-drop}
+use Rattle.pfr_flash.proofs.AreBytesLemmas.{AreBytes-take, AreBytes-drop}
 use Rattle.pfr_manifest.proofs.RegionLemmas.{IsInOrder-push}
-use Rattle.pfr_manifest.proofs.Tests.{passed_part, passed_unit, passed_last}
+use Rattle.pfr_flash.proofs.JudgingLemmas.{passed_part, passed_unit, passed_last}
 use Rattle.pfr_manifest.proofs.PartLaws.{header_holds, definition_holds, region_holds, rule_holds}
 use Rattle.pfr_manifest.proofs.SpellingLaws.{IsReadRegion, IsReadRule, header_spelled, header_wide, region_spelled, rule_spelled}
 

@@ -1,7 +1,25 @@
--- Lists of regions and their last one.
-use Rattle.std.proofs.Common.{◌≡◌, ◌-◌, ◌<◌, ◌≤◌, List, [], ◌∷◌, ◌++◌, length, get_or, refl, arith, sub-one}
+-- Regions, and lists of them with their last one.
+use Rattle.std.proofs.Common.{◌≡◌, ℕ, ◌+◌, ◌-◌, ◌<◌, ◌≤◌, nat_le, List, [], ◌∷◌, ◌++◌, length, get_or, refl, arith, sub-one}
+use Rattle.std.specs.Bool.{Decides}
+use Rattle.std.proofs.lemmas.Bool.Decides.{Decides-and, Decides-or}
+use Rattle.pfr_flash.specs.declared.layout.Layout.{Layout}
+use Rattle.pfr_flash.proofs.JudgingLemmas.{Decides-le}
 use Rattle.pfr_manifest.specs.declared.region.Region.{Region}
-use Rattle.pfr_manifest.specs.Regions.{IsInOrder, last_start, last_end}
+use Rattle.pfr_manifest.specs.Regions.{IsClearOf, IsInOrder, last_start, last_end}
+use Rattle.pfr_manifest.specs.Stretches.{stretch_of}
+use Rattle.pfr_manifest.specs.Judge.{is_clear_of, is_clear}
+
+-- ---- a region and the areas of a layout
+Decides-clear_of : (region : Region) (at len : ℕ) → Decides (is_clear_of (stretch_of region) at len) (IsClearOf region at len)
+Decides-clear_of region at len = Decides-or (nat_le region.end at) (nat_le (at + len) region.start) (Decides-le region.end at) (Decides-le (at + len) region.start)
+
+pub Decides-clear : (region : Region) (layout : Layout) → Decides (is_clear (stretch_of region) layout)
+    ((IsClearOf region layout.manifest_at layout.manifest_len × IsClearOf region layout.recovery_at layout.area_len) × IsClearOf region layout.staging_at layout.area_len)
+Decides-clear region layout =
+    Decides-and _ _ (Decides-and _ _ (Decides-clear_of region layout.manifest_at layout.manifest_len) (Decides-clear_of region layout.recovery_at layout.area_len))
+    (Decides-clear_of region layout.staging_at layout.area_len)
+
+-- ---- the last of several
 
 pub last_start-get : (xs : List Region) (d : Region) → 0 < length xs → last_start xs ≡ (get_or xs (length xs - 1) d).start
 last_start-get [] d h = absurd (omega arith)

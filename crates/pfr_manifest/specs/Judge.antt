@@ -2,10 +2,13 @@
 use Rattle.std.specs.Prelude.{ℕ, zero, suc, ◌+◌, ◌-◌, ◌%◌, ◌≤◌, ◌<◌, ◌≡◌, ◌==◌, ◌&&◌, ◌||◌, Bool, not, nat_le, nat_lt, List, [], ◌∷◌, ◌++◌, length, take, drop, slice_index, Option, Some, None, Result, Ok, Err, if◌then◌else◌}
 use Rattle.std.specs.List.{list_all}
 use Rattle.pfr_flash.specs.declared.layout.Layout.{Layout}
-use Rattle.pfr_manifest.specs.Fields.{field, number_at}
-use Rattle.pfr_manifest.specs.Regions.{is_writable, is_static, last_start, last_end}
+use Rattle.pfr_flash.specs.Bytes.{bytes_at}
+use Rattle.pfr_flash.specs.Numbers.{little_at, number_at}
+use Rattle.pfr_manifest.specs.Regions.{is_static, last_start, last_end}
+use Rattle.pfr_manifest.specs.Stretches.{stretch_of}
+use Rattle.pfr_manifest.specs.declared.stretch.Stretch.{Stretch}
 use Rattle.pfr_manifest.specs.Spelling.{magic}
-use Rattle.pfr_manifest.specs.Judging.{◌>>=◌, ◌>>◌, require, known}
+use Rattle.pfr_flash.specs.Judging.{◌>>=◌, ◌>>◌, require, known}
 use Rattle.pfr_manifest.specs.declared.manifest.Manifest.{Manifest}
 use Rattle.pfr_manifest.specs.declared.region.Region.{Region}
 use Rattle.pfr_manifest.specs.declared.region.RegionHash.{RegionHash}
@@ -21,10 +24,10 @@ abbrev pub header_at : List ℕ → Manifest
 header_at bytes = record {
   svn = slice_index bytes 4;
   bkc = slice_index bytes 5;
-  revision = field bytes 6 2;
-  reserved = field bytes 8 4;
-  oem = field bytes 12 16;
-  length = number_at bytes 28 4;
+  revision = bytes_at bytes 6 2;
+  reserved = bytes_at bytes 8 4;
+  oem = bytes_at bytes 12 16;
+  length = number_at bytes 28;
   regions = [];
   rules = [];
 }
@@ -32,40 +35,40 @@ header_at bytes = record {
 -- the header of a manifest that has so many bytes
 unfoldable pub judge_header : List ℕ → ℕ → Result Manifest ManifestFail
 judge_header header count = do
-  require Magic (nat_le 32 count && number_at header 0 4 == magic)
+  require Magic (nat_le 32 count && number_at header 0 == magic)
   require Svn (nat_le (slice_index header 4) 127)
-  require Length (number_at header 28 4 == count && nat_lt 0 count && count % 128 == 0)
+  require Length (number_at header 28 == count && nat_lt 0 count && count % 128 == 0)
   Ok (header_at header)
 
 -- how long a region's definition is, by its hash info
 unfoldable pub region_size : List ℕ → ℕ
 region_size entry =
-    if number_at entry 2 2 == 1 then 48 else (if number_at entry 2 2 == 2 then 64 else 16)
+    if little_at entry 2 2 == 1 then 48 else (if little_at entry 2 2 == 2 then 64 else 16)
 
 -- the hash of a region's definition, by its hash info
 unfoldable pub hash_at : List ℕ → Option RegionHash
 hash_at entry =
-    if number_at entry 2 2 == 0 then Some hashes.None
-    else (if number_at entry 2 2 == 1 then Some (hashes.Sha256 (field entry 16 32))
-    else (if number_at entry 2 2 == 2 then Some (hashes.Sha384 (field entry 16 48))
+    if little_at entry 2 2 == 0 then Some hashes.None
+    else (if little_at entry 2 2 == 1 then Some (hashes.Sha256 (bytes_at entry 16 32))
+    else (if little_at entry 2 2 == 2 then Some (hashes.Sha384 (bytes_at entry 16 48))
     else None))
 
 unfoldable pub region_at : List ℕ → RegionHash → Region
 region_at entry hash = record {
   mask = slice_index entry 1;
-  reserved = field entry 4 4;
-  start = number_at entry 8 4;
-  end = number_at entry 12 4;
+  reserved = bytes_at entry 4 4;
+  start = number_at entry 8;
+  end = number_at entry 12;
   hash = hash;
 }
 
 unfoldable pub rule_at : List ℕ → Rule
 rule_at entry = record {
-  reserved = field entry 1 4;
+  reserved = bytes_at entry 1 4;
   bus = slice_index entry 5;
   rule = slice_index entry 6;
   address = slice_index entry 7;
-  commands = field entry 8 32;
+  commands = bytes_at entry 8 32;
 }
 
 -- a region's definition at a place, behind the entries of m
@@ -76,24 +79,29 @@ judge_definition entry place m = do
   hash ← known (HashInfo (length m.regions)) (hash_at entry)
   Ok (region_at entry hash)
 
-abbrev pub is_clear_of : Region → ℕ → ℕ → Bool
-is_clear_of region at len = nat_le region.end at || nat_le (at + len) region.start
+-- it shares no byte with an area, or with any area of a layout
+abbrev pub is_clear_of : Stretch → ℕ → ℕ → Bool
+is_clear_of stretch at len = nat_le stretch.end at || nat_le (at + len) stretch.start
 
-abbrev pub is_clear : Region → Layout → Bool
-is_clear region layout =
-    is_clear_of region layout.manifest_at layout.manifest_len
-    && is_clear_of region layout.recovery_at layout.area_len
-    && is_clear_of region layout.staging_at layout.area_len
+abbrev pub is_clear : Stretch → Layout → Bool
+is_clear stretch layout =
+    is_clear_of stretch layout.manifest_at layout.manifest_len
+    && is_clear_of stretch layout.recovery_at layout.area_len
+    && is_clear_of stretch layout.staging_at layout.area_len
+
+-- Region k of a bank may lie there, with a hash or without one, behind a region from one place up to another.
+unfoldable pub judge_stretch : Stretch → ℕ → Bool → ℕ → ℕ → Layout → ℕ → Result (Unit {0}) ManifestFail
+judge_stretch stretch k hashed last_start last_end layout size = do
+  require (WritableHashed k) (not (hashed && stretch.writable))
+  require (Align k) (stretch.start % 4096 == 0 && stretch.end % 4096 == 0)
+  require (Range k) (nat_lt stretch.start stretch.end && nat_le stretch.end size && is_clear stretch layout)
+  require (Order k) (nat_le last_start stretch.start)
+  require (Overlap k) (nat_le last_end stretch.start)
 
 -- the numbers of a region, behind other regions
-unfoldable pub judge_region : Region → List Region → Layout → ℕ → Result (Unit {0}) ManifestFail
-judge_region region before layout size = do
-  let k : ℕ = length before
-  require (WritableHashed k) (not (is_static region && is_writable region))
-  require (Align k) (region.start % 4096 == 0 && region.end % 4096 == 0)
-  require (Range k) (nat_lt region.start region.end && nat_le region.end size && is_clear region layout)
-  require (Order k) (nat_le (last_start before) region.start)
-  require (Overlap k) (nat_le (last_end before) region.start)
+abbrev pub judge_region : Region → List Region → Layout → ℕ → Result (Unit {0}) ManifestFail
+judge_region region before layout size =
+    judge_stretch (stretch_of region) (length before) (is_static region) (last_start before) (last_end before) layout size
 
 -- a rule's definition at a place, behind the entries of m
 unfoldable pub judge_rule : List ℕ → ℕ → Manifest → Result Rule ManifestFail

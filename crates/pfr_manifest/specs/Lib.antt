@@ -1,9 +1,8 @@
-pub mod Fields
 pub mod Regions
 pub mod Spelling
 pub mod Manifest
+pub mod Stretches
 pub mod Access
 pub mod Hashes
-pub mod Judging
 pub mod Judge
 pub mod Answer

@@ -7,8 +7,11 @@ use Rattle.pfr_manifest.specs.declared.region.RegionHash.{RegionHash}
 use Rattle.pfr_manifest.specs.declared.region.RegionHash.TheVariants as hashes
 
 -- the write bit of a mask
+abbrev pub may_write : ℕ → Bool
+may_write mask = bit_at mask 1 == 1
+
 abbrev pub is_writable : Region → Bool
-is_writable region = bit_at region.mask 1 == 1
+is_writable region = may_write region.mask
 
 abbrev pub has_hash : RegionHash → Bool
 has_hash hashes.None = false

@@ -1,15 +1,15 @@
 // What may stand at a place behind a manifest's header.
 ghost use Rattle.std.specs.Prelude.{◌≡◌, ◌<◌, ◌≤◌, length, IfOk, IfErr};
-ghost use Rattle.pfr_manifest.specs.Answer.{IsFound};
-ghost use Rattle.pfr_manifest.specs.Judge.{HasRoom, region_len, region_size, hash_at, region_at, rule_at, is_clear_of, is_clear, judge_definition, judge_region, judge_rule, judge_entry, judge_tail};
+ghost use Rattle.pfr_flash.specs.Answer.{IsFound};
+ghost use Rattle.pfr_manifest.specs.Answer.{manifest_failure};
+ghost use Rattle.pfr_manifest.specs.Judge.{HasRoom, region_len, region_size, hash_at, region_at, rule_at, judge_definition, judge_region, judge_rule, judge_entry, judge_tail};
 
 use crate::fail::ManifestFail;
-use crate::fields::{bytes_at, number, short_number};
 use crate::manifest::Manifest;
 use crate::region::{Region, RegionHash};
 use crate::regions::Regions;
 use crate::rule::Rule;
-use pfr_flash::Layout;
+use pfr_flash::{Layout, array_at, number_at, short_number_at};
 
 /// The longest definition.
 pub const LONGEST: usize = 64;
@@ -34,7 +34,7 @@ fn region_size(entry: &[u8]) -> usize
     requires { 16 ≤ length entry.now }
     ensures { result ≡ region_size entry.now }
 {
-    match short_number(entry, 2) {
+    match short_number_at(entry, 2) {
         1 => 48,
         2 => 64,
         _ => 16,
@@ -48,10 +48,10 @@ fn hash_of(entry: &[u8]) -> Option<RegionHash>
     requires whole { region_size entry.now ≤ length entry.now }
     ensures { result ≡ hash_at entry.now }
 {
-    match short_number(entry, 2) {
+    match short_number_at(entry, 2) {
         0 => Some(RegionHash::None),
-        1 => Some(RegionHash::Sha256(bytes_at(entry, 16))),
-        2 => Some(RegionHash::Sha384(bytes_at(entry, 16))),
+        1 => Some(RegionHash::Sha256(array_at(entry, 16))),
+        2 => Some(RegionHash::Sha384(array_at(entry, 16))),
         _ => None,
     }
 }
@@ -63,9 +63,9 @@ fn region_of(entry: &[u8], hash: RegionHash) -> Region
 {
     Region {
         mask: entry[1],
-        reserved: bytes_at(entry, 4),
-        start: number(entry, 8),
-        end: number(entry, 12),
+        reserved: array_at(entry, 4),
+        start: number_at(entry, 8),
+        end: number_at(entry, 12),
         hash,
     }
 }
@@ -76,11 +76,11 @@ fn rule_of(entry: &[u8]) -> Rule
     ensures { result ≡ rule_at entry.now }
 {
     Rule {
-        reserved: bytes_at(entry, 1),
+        reserved: array_at(entry, 1),
         bus: entry[5],
         rule: entry[6],
         address: entry[7],
-        commands: bytes_at(entry, 8),
+        commands: array_at(entry, 8),
     }
 }
 
@@ -89,7 +89,7 @@ fn rule_of(entry: &[u8]) -> Rule
 fn definition(entry: &[u8], place: u32, manifest: &Manifest) -> Result<Region, ManifestFail>
     ensures exact { result ≡ judge_definition entry.now place manifest.now }
     ensures room { IfOk result (λ region. (region_len region ≤ length entry.now) × (length manifest.now.regions < 64)) }
-    ensures found { IfErr result IsFound }
+    ensures found { IfErr result (IsFound manifest_failure) }
 {
     if !manifest.rules.is_empty() || entry.len() < 16 || entry.len() < region_size(entry) {
         return Err(ManifestFail::EntryType(place));
@@ -102,24 +102,8 @@ fn definition(entry: &[u8], place: u32, manifest: &Manifest) -> Result<Region, M
     Ok(region_of(entry, hash))
 }
 
-/// Whether a region shares no byte with an area.
-fn is_clear_of(region: &Region, at: u32, len: u32) -> bool
-    ensures { result ≡ is_clear_of region.now at len }
-{
-    region.end <= at || at as u64 + len as u64 <= region.start as u64
-}
-
-/// Whether a region shares no byte with the areas of a layout.
-fn is_clear(region: &Region, layout: &Layout) -> bool
-    ensures { result ≡ is_clear region.now layout.now }
-{
-    is_clear_of(region, layout.manifest_at, layout.manifest_len)
-        && is_clear_of(region, layout.recovery_at, layout.area_len)
-        && is_clear_of(region, layout.staging_at, layout.area_len)
-}
-
 /// The numbers of a region, behind other regions.
-#[tactic(auto, unfolding(crate::specs::Judge::judge_region))]
+#[tactic(auto, unfolding(crate::specs::Judge::judge_stretch))]
 fn check_region(
     region: &Region,
     before: &Regions,
@@ -127,25 +111,12 @@ fn check_region(
     bank: u32,
 ) -> Result<(), ManifestFail>
     ensures exact { result ≡ judge_region region.now before.now layout.now bank }
-    ensures found { IfErr result IsFound }
+    ensures found { IfErr result (IsFound manifest_failure) }
 {
-    let k = before.len();
-    if region.is_static() && region.is_writable() {
-        return Err(ManifestFail::WritableHashed(k));
-    }
-    if region.start % 4096 != 0 || region.end % 4096 != 0 {
-        return Err(ManifestFail::Align(k));
-    }
-    if region.start >= region.end || region.end > bank || !is_clear(region, layout) {
-        return Err(ManifestFail::Range(k));
-    }
-    if region.start < before.last_start() {
-        return Err(ManifestFail::Order(k));
-    }
-    if region.start < before.last_end() {
-        return Err(ManifestFail::Overlap(k));
-    }
-    Ok(())
+    let last = (before.last_start(), before.last_end());
+    region
+        .stretch()
+        .judge(before.len(), region.is_static(), last, layout, bank)
 }
 
 /// The definition of a rule at a place, behind the entries that were read.
@@ -153,7 +124,7 @@ fn check_region(
 fn rule_definition(entry: &[u8], place: u32, manifest: &Manifest) -> Result<Rule, ManifestFail>
     ensures exact { result ≡ judge_rule entry.now place manifest.now }
     ensures room { IfOk result (λ rule. (40 ≤ length entry.now) × (length manifest.now.rules < 64)) }
-    ensures found { IfErr result IsFound }
+    ensures found { IfErr result (IsFound manifest_failure) }
 {
     if entry.len() < RULE {
         return Err(ManifestFail::EntryType(place));
@@ -177,7 +148,7 @@ impl Entry {
         requires { 0 < length entry.now }
         ensures exact { result ≡ judge_entry entry.now place manifest.now layout.now bank }
         ensures room { IfOk result (λ found. HasRoom found (length entry.now) manifest.now) }
-        ensures found { IfErr result IsFound }
+        ensures found { IfErr result (IsFound manifest_failure) }
     {
         match entry[0] {
             0xFF => Ok(Entry::Tail),
@@ -196,7 +167,7 @@ impl Entry {
 #[tactic(auto, unfolding(crate::specs::Judge::judge_tail))]
 pub fn check_tail(tail: &[u8]) -> Result<(), ManifestFail>
     ensures exact { result ≡ judge_tail tail.now }
-    ensures found { IfErr result IsFound }
+    ensures found { IfErr result (IsFound manifest_failure) }
 {
     if tail.len() >= 128 || !tail.iter().all(|byte| *byte == 0xFF) {
         return Err(ManifestFail::Tail);

@@ -3,17 +3,22 @@
 
 mod entry;
 mod fail;
-mod fields;
 mod manifest;
 mod reading;
 mod region;
+mod region_table;
 mod regions;
 mod rule;
 mod rules;
+mod steps;
+mod stretch;
 
 pub use fail::ManifestFail;
 pub use manifest::Manifest;
 pub use region::{Region, RegionHash};
+pub use region_table::RegionTable;
 pub use regions::Regions;
 pub use rule::Rule;
 pub use rules::Rules;
+pub use steps::Steps;
+pub use stretch::Stretch;

@@ -4,7 +4,8 @@ ghost use Rattle.pfr_flash.specs.Bytes.{bytes_at};
 ghost use Rattle.pfr_flash.specs.FlashState.{now, size_of};
 ghost use Rattle.pfr_flash.specs.Layout.{IsValidLayout};
 ghost use Rattle.pfr_flash.specs.Reading.{EndsAt, failed_by};
-ghost use Rattle.pfr_manifest.specs.Answer.{IsFound, Answers, manifest_failure};
+ghost use Rattle.pfr_flash.specs.Answer.{IsFound, Answers};
+ghost use Rattle.pfr_manifest.specs.Answer.{manifest_failure};
 ghost use Rattle.pfr_manifest.specs.Judge.{HasNoEntries, header_at, judge_header, judge_manifest};
 ghost use Rattle.pfr_manifest.specs.Manifest.{IsManifestOf};
 ghost use Rattle.pfr_flash.specs.declared.layout.Layout.{Layout};
@@ -12,11 +13,10 @@ ghost use Rattle.pfr_manifest.specs.Spelling.{manifest_bytes};
 ghost use Rattle.pfr_manifest.specs.declared.manifest.Manifest.{Manifest};
 
 use crate::fail::ManifestFail;
-use crate::fields::{bytes_at, number};
 use crate::reading::judged;
 use crate::regions::Regions;
 use crate::rules::Rules;
-use pfr_flash::{Flash, Layout};
+use pfr_flash::{Flash, Layout, array_at, number_at};
 
 /// How long a header is.
 pub const HEADER: usize = 32;
@@ -41,10 +41,10 @@ fn header_of(bytes: &[u8; HEADER]) -> Manifest
     Manifest {
         svn: bytes[4],
         bkc: bytes[5],
-        revision: bytes_at(bytes, 6),
-        reserved: bytes_at(bytes, 8),
-        oem: bytes_at(bytes, 12),
-        length: number(bytes, 28),
+        revision: array_at(bytes, 6),
+        reserved: array_at(bytes, 8),
+        oem: array_at(bytes, 12),
+        length: number_at(bytes, 28),
         regions: Regions::new(),
         rules: Rules::new(),
     }
@@ -56,15 +56,15 @@ pub fn read_header(header: &[u8; HEADER], count: u32) -> Result<Manifest, Manife
     requires { 32 ≤ count }
     ensures exact { result ≡ judge_header header.now count }
     ensures empty { IfOk result HasNoEntries }
-    ensures found { IfErr result IsFound }
+    ensures found { IfErr result (IsFound manifest_failure) }
 {
-    if number(header, 0) != 0x02B3_CE1D {
+    if number_at(header, 0) != 0x02B3_CE1D {
         return Err(ManifestFail::Magic);
     }
     if header[4] > 127 {
         return Err(ManifestFail::Svn);
     }
-    let length = number(header, 28);
+    let length = number_at(header, 28);
     if length != count || length == 0 || length % 128 != 0 {
         return Err(ManifestFail::Length);
     }
@@ -86,9 +86,9 @@ impl Manifest {
         ensures ok { IfOk result (λ m. IsManifestOf (bytes_at (now (F.device flash.old)) place size) m layout.now (size_of (F.device flash.old))) }
         // What the bytes spell is read, unless the device fails.
         ensures only { (m : Manifest) → IsManifestOf (bytes_at (now (F.device flash.old)) place size) m layout.now (size_of (F.device flash.old)) →
-            Answers (F.device flash.old) (F.device flash.new) result (Ok m) }
+            Answers manifest_failure result (Ok m) }
         // Which cause it is: the first in order.
-        ensures exact { Answers (F.device flash.old) (F.device flash.new) result
+        ensures exact { Answers manifest_failure result
             (judge_manifest (bytes_at (now (F.device flash.old)) place size) layout.now (size_of (F.device flash.old))) }
         ensures ends { EndsAt (failed_by manifest_failure result) (F.device flash.old) (F.device flash.new) }
     {

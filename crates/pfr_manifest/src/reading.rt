@@ -3,7 +3,8 @@ ghost use Rattle.std.specs.Prelude.{◌≡◌, ◌+◌, ◌<◌, ◌≤◌, take
 ghost use Rattle.pfr_flash.specs.Bytes.{bytes_at};
 ghost use Rattle.pfr_flash.specs.FlashState.{now, size_of};
 ghost use Rattle.pfr_flash.specs.Reading.{EndsAt, failed_by};
-ghost use Rattle.pfr_manifest.specs.Answer.{Answers, manifest_failure};
+ghost use Rattle.pfr_flash.specs.Answer.{Answers};
+ghost use Rattle.pfr_manifest.specs.Answer.{manifest_failure};
 ghost use Rattle.pfr_manifest.specs.Judge.{HasNoEntries, HasRoom, turns_left, judge_header, judge_entry, judge_tail, judge_entries, judge_manifest};
 
 use crate::entry::{Entry, LONGEST, RULE, check_tail};
@@ -15,7 +16,7 @@ use pfr_flash::{Flash, Layout};
 #[tactic(auto, unfolding(crate::specs::Judge::judge_header))]
 fn header_at<F: Flash>(flash: &mut F, place: u32, size: u32) -> Result<Manifest, ManifestFail>
     requires { place + size ≤ size_of (F.device flash.old) }
-    ensures exact { Answers (F.device flash.old) (F.device flash.new) result (judge_header (take 32 (bytes_at (now (F.device flash.old)) place size)) size) }
+    ensures exact { Answers manifest_failure result (judge_header (take 32 (bytes_at (now (F.device flash.old)) place size)) size) }
     ensures empty { IfOk result HasNoEntries }
     ensures some { OnOk result (32 ≤ size) }
     ensures ends { EndsAt (failed_by manifest_failure result) (F.device flash.old) (F.device flash.new) }
@@ -40,7 +41,7 @@ fn entry_at<F: Flash>(
 ) -> Result<Entry, ManifestFail>
     requires some { 0 < left }
     requires within { place + left ≤ size_of (F.device flash.old) }
-    ensures exact { Answers (F.device flash.old) (F.device flash.new) result (judge_entry (take 64 (bytes_at (now (F.device flash.old)) place left)) at manifest.now layout.now bank) }
+    ensures exact { Answers manifest_failure result (judge_entry (take 64 (bytes_at (now (F.device flash.old)) place left)) at manifest.now layout.now bank) }
     ensures room { IfOk result (λ entry. HasRoom entry left manifest.now) }
     ensures ends { EndsAt (failed_by manifest_failure result) (F.device flash.old) (F.device flash.new) }
 {
@@ -55,7 +56,7 @@ fn entry_at<F: Flash>(
 #[tactic(auto, unfolding(crate::specs::Judge::judge_tail))]
 fn tail_at<F: Flash>(flash: &mut F, place: u32, left: u32) -> Result<(), ManifestFail>
     requires { place + left ≤ size_of (F.device flash.old) }
-    ensures exact { Answers (F.device flash.old) (F.device flash.new) result (judge_tail (bytes_at (now (F.device flash.old)) place left)) }
+    ensures exact { Answers manifest_failure result (judge_tail (bytes_at (now (F.device flash.old)) place left)) }
     ensures ends { EndsAt (failed_by manifest_failure result) (F.device flash.old) (F.device flash.new) }
 {
     if left >= 128 {
@@ -80,7 +81,7 @@ fn entries_at<F: Flash>(
     requires bank { bank ≡ size_of (F.device flash.old) }
     requires some { 32 ≤ size }
     requires empty { HasNoEntries manifest }
-    ensures exact { Answers (F.device flash.old) (F.device flash.new) result (judge_entries (turns_left manifest) (drop 32 (bytes_at (now (F.device flash.old)) place size)) 32 manifest layout.now bank) }
+    ensures exact { Answers manifest_failure result (judge_entries (turns_left manifest) (drop 32 (bytes_at (now (F.device flash.old)) place size)) 32 manifest layout.now bank) }
     ensures ends { EndsAt (failed_by manifest_failure result) (F.device flash.old) (F.device flash.new) }
 {
     let mut at = HEADER as u32;
@@ -112,7 +113,7 @@ pub fn judged<F: Flash>(
     layout: &Layout,
 ) -> Result<Manifest, ManifestFail>
     requires { place + size ≤ size_of (F.device flash.old) }
-    ensures exact { Answers (F.device flash.old) (F.device flash.new) result (judge_manifest (bytes_at (now (F.device flash.old)) place size) layout.now (size_of (F.device flash.old))) }
+    ensures exact { Answers manifest_failure result (judge_manifest (bytes_at (now (F.device flash.old)) place size) layout.now (size_of (F.device flash.old))) }
     ensures ends { EndsAt (failed_by manifest_failure result) (F.device flash.old) (F.device flash.new) }
 {
     let bank = flash.size();

@@ -1,6 +1,8 @@
 // A region of a bank.
 ghost use Rattle.std.specs.Prelude.{◌≡◌, ◌≤◌};
 
+use crate::stretch::Stretch;
+
 /// The hash that a region's bytes are to have. A region with a hash is static.
 #[derive(Clone, Copy, Debug, PartialEq, Eq)]
 pub enum RegionHash {
@@ -29,6 +31,8 @@ pub struct Region {
 
 impl Region {
     ghost use Rattle.pfr_manifest.specs.Regions.{is_static, is_writable};
+    ghost use Rattle.pfr_manifest.specs.Access.{is_restored};
+    ghost use Rattle.pfr_manifest.specs.Stretches.{stretch_of};
     ghost use Rattle.pfr_manifest.specs.Judge.{region_len};
 
     /// Whether it has a hash.
@@ -46,6 +50,26 @@ impl Region {
         ensures { result ≡ is_writable self.now }
     {
         (self.mask >> 1) & 1 == 1
+    }
+
+    /// Whether a restore of this level, 1 to 3, takes it.
+    pub fn is_restored(&self, level: u8) -> bool
+        requires least { 1 ≤ level }
+        requires most { level ≤ 3 }
+        ensures { result ≡ is_restored level self.now }
+    {
+        self.is_static() || (self.mask >> (level + 1)) & 1 == 1
+    }
+
+    /// Its place, and whether the bank's bus may write it.
+    pub fn stretch(&self) -> Stretch
+        ensures { result ≡ stretch_of self.now }
+    {
+        Stretch {
+            start: self.start,
+            end: self.end,
+            writable: self.is_writable(),
+        }
     }
 
     /// How long its definition is.

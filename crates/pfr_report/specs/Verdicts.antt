@@ -4,7 +4,8 @@ use Rattle.pfr_flash.specs.declared.names.Bank.{Bank}
 use Rattle.pfr_auth.specs.declared.fail.ActiveFail.{ActiveFail}
 use Rattle.pfr_auth.specs.declared.areas.Area.{Area}
 use Rattle.pfr_auth.specs.declared.areas.Area.TheVariants.{Recovery, Staging}
-use Rattle.pfr_capsule.specs.Answer as capsules
+use Rattle.pfr_flash.specs.Answer as answers
+use Rattle.pfr_capsule.specs.Answer.{capsule_failure}
 use Rattle.pfr_capsule.specs.declared.fail.CapsuleFail.{CapsuleFail}
 use Rattle.pfr_jobs.specs.declared.job.JobKind.{JobKind}
 use Rattle.pfr_jobs.specs.declared.job.JobKind.TheVariants.{ActiveFromRecovery, ActiveFromStaging, RecoveryFromStaging}
@@ -69,5 +70,5 @@ verdict_text bank verdict = lines_by verdict.standing bank verdict
 -- no cause in a verdict is a failed device
 pub record HasCauses (verdict : BankVerdict) : Type 0 where
   pub active : IfErr verdict.active IsFound
-  pub recovery : IfErr verdict.recovery capsules.IsFound
-  pub staging : IfErr verdict.staging capsules.IsFound
+  pub recovery : IfErr verdict.recovery (answers.IsFound capsule_failure)
+  pub staging : IfErr verdict.staging (answers.IsFound capsule_failure)

@@ -6,10 +6,11 @@ use Rattle.pfr_chain.specs.declared.fail.ChainFail.{ChainFail}
 use Rattle.pfr_chain.specs.declared.fail.ChainFail.TheVariants as chain
 use Rattle.pfr_manifest.specs.declared.fail.ManifestFail.{ManifestFail}
 use Rattle.pfr_manifest.specs.declared.fail.ManifestFail.TheVariants as manifest
-use Rattle.pfr_capsule.specs.Answer as capsules
+use Rattle.pfr_flash.specs.Answer as answers
+use Rattle.pfr_capsule.specs.Answer.{capsule_failure}
 use Rattle.pfr_capsule.specs.declared.fail.CapsuleFail.{CapsuleFail}
 use Rattle.pfr_capsule.specs.declared.fail.CapsuleFail.TheVariants as capsule
-use Rattle.pfr_auth.specs.Answer.{failure_of}
+use Rattle.pfr_auth.specs.Answer.{active_failure}
 use Rattle.pfr_auth.specs.declared.fail.ActiveFail.{ActiveFail}
 use Rattle.pfr_auth.specs.declared.fail.ActiveFail.TheVariants as active
 
@@ -134,9 +135,9 @@ capsule_text cause = capsule_kind cause ++ numbered (capsule_word cause) (capsul
 
 -- it is found in the bytes, and is no failure of the device
 abbrev pub IsFound : ActiveFail → Type 0
-IsFound cause = failure_of cause ≡ None
+IsFound cause = active_failure cause ≡ None
 
 -- both causes of a bank without a good image are such
 pub record AreFound (active : ActiveFail) (recovery : CapsuleFail) : Type 0 where
   pub first : IsFound active
-  pub second : capsules.IsFound recovery
+  pub second : answers.IsFound capsule_failure recovery

@@ -1,7 +1,8 @@
 // The lines of a bank's verdict.
 ghost use Rattle.std.specs.Prelude.{◌≡◌, ◌++◌, [], codes, decimal, IfErr};
 ghost use Rattle.pfr_shelf.specs.Pieces.{Writes};
-ghost use Rattle.pfr_capsule.specs.Answer as capsules;
+ghost use Rattle.pfr_flash.specs.Answer as answers;
+ghost use Rattle.pfr_capsule.specs.Answer.{capsule_failure};
 ghost use Rattle.pfr_report.specs.Words.{active_text, capsule_text, rule_word, IsFound};
 ghost use Rattle.pfr_report.specs.Verdicts.{area_text, area_word, image_text, job_word, judged_lines, kind_word, line, verdict_text, yes_or_no, HasCauses};
 
@@ -134,7 +135,7 @@ fn write_good<K: Sink>(bank: Bank, area: Area, svn: u8, out: &mut K) -> Result<(
 
 // The line of an area whose capsule isn't good.
 fn write_bad<K: Sink>(bank: Bank, area: Area, why: CapsuleFail, out: &mut K) -> Result<(), SinkFail>
-    requires { capsules.IsFound why }
+    requires { answers.IsFound capsule_failure why }
     ensures { Writes K.tells K.written K.faults out.old out.new (line bank (area_word area) (codes " " ++ (codes "bad " ++ capsule_text why))) result }
 {
     let cause = capsule_cause(why);
@@ -163,7 +164,7 @@ fn write_area<K: Sink>(
     found: Result<u8, CapsuleFail>,
     out: &mut K,
 ) -> Result<(), SinkFail>
-    requires { IfErr found capsules.IsFound }
+    requires { IfErr found (answers.IsFound capsule_failure) }
     ensures { Writes K.tells K.written K.faults out.old out.new (line bank (area_word area) (codes " " ++ area_text found)) result }
 {
     match found {

@@ -12,7 +12,7 @@ use Rattle.std.proofs.lemmas.Slice.Eq.{bytes_eq-Decides}
 use Rattle.hex.specs.Hex.{decode_of}
 use Rattle.hex.specs.declared.error.FromHexError.{FromHexError}
 use Rattle.hex.proofs.HexLemmas.{decode_of-ok}
-use Rattle.pfr_engine.specs.Judging.{◌>>=◌, ◌>>◌, require, known}
+use Rattle.pfr_flash.specs.Judging.{◌>>=◌, ◌>>◌, require, known}
 use Rattle.pfr_engine.specs.Words.{is_word}
 use Rattle.pfr_flash.specs.declared.names.Device.{Device}
 use Rattle.pfr_flash.specs.declared.names.Device.TheVariants.{Bmc, Pch, Nv}

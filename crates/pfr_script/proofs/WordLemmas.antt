@@ -1,7 +1,7 @@
 -- Which lists of words are one, two and three words.
 use Rattle.std.proofs.Common.{◌≡◌, ℕ, ◌<◌, ◌==◌, Bool, true, false, List, [], ◌∷◌, length, Result, Ok, Err, refl, ◌∙◌, ap, subst, arith}
 use Rattle.std.proofs.lemmas.Bool.Decides.{nat_tests}
-use Rattle.pfr_engine.specs.Judging.{◌>>=◌, ◌>>◌, require}
+use Rattle.pfr_flash.specs.Judging.{◌>>=◌, ◌>>◌, require}
 use Rattle.pfr_engine.specs.Words.{is_word}
 use Rattle.pfr_script.specs.declared.script_why.ScriptWhy.TheVariants as causes
 use Rattle.pfr_script.specs.Words.{next_word, no_word, one_word, two_words, three_words}

@@ -4,7 +4,7 @@ use Rattle.std.specs.List.{list_all}
 use Rattle.std.specs.Str.{bytes_eq}
 use Rattle.hex.specs.Hex.{decode_of, is_hex_digit}
 use Rattle.hex.specs.declared.error.FromHexError.{FromHexError}
-use Rattle.pfr_engine.specs.Judging.{◌>>=◌, ◌>>◌, require}
+use Rattle.pfr_flash.specs.Judging.{◌>>=◌, ◌>>◌, require}
 use Rattle.pfr_script.specs.declared.script_why.ScriptWhy.{ScriptWhy}
 use Rattle.pfr_script.specs.declared.script_why.ScriptWhy.TheVariants as causes
 

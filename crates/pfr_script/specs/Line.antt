@@ -1,7 +1,7 @@
 -- What a line says, by its first word.
 use Rattle.std.specs.Prelude.{ℕ, ◌≤◌, codes, if◌then◌else◌, List, [], ◌∷◌, None, Result, Ok, Err}
 use Rattle.std.specs.Str.{bytes_eq}
-use Rattle.pfr_engine.specs.Judging.{◌>>=◌, ◌>>◌, known}
+use Rattle.pfr_flash.specs.Judging.{◌>>=◌, ◌>>◌, known}
 use Rattle.pfr_fuses.specs.RootSlot.{slot_of}
 use Rattle.pfr_script.specs.declared.arm.ArmWhat.{ArmWhat}
 use Rattle.pfr_script.specs.declared.arm.ArmWhat.TheVariants.{Cut, Fault, ReadFault}

@@ -3,7 +3,7 @@ use Rattle.std.specs.Prelude.{ℕ, ◌&&◌, Bool, false, nat_le, nat_lt, List, 
 use Rattle.std.specs.Char.{is_ascii_digit}
 use Rattle.std.specs.List.{list_all}
 use Rattle.std.specs.Str.Parse.{digits_value}
-use Rattle.pfr_engine.specs.Judging.{◌>>◌, require}
+use Rattle.pfr_flash.specs.Judging.{◌>>◌, require}
 use Rattle.pfr_script.specs.declared.script_why.ScriptWhy.{ScriptWhy}
 use Rattle.pfr_script.specs.declared.script_why.ScriptWhy.TheVariants as causes
 

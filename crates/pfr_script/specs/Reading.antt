@@ -1,6 +1,6 @@
 -- The script of a text.
-use Rattle.std.specs.Prelude.{◌≡◌, ℕ, ◌+◌, ◌==◌, Bool, true, nat_lt, if◌then◌else◌, List, [], ◌∷◌, length, Result, Ok, Err}
-use Rattle.pfr_engine.specs.Judging.{◌>>=◌, ◌>>◌, require}
+use Rattle.std.specs.Prelude.{◌≡◌, ℕ, ◌+◌, ◌==◌, Bool, true, nat_lt, if◌then◌else◌, List, [], ◌∷◌, length, Option, Some, None, MatchOption, Result, Ok, Err}
+use Rattle.pfr_flash.specs.Judging.{◌>>=◌, ◌>>◌, require}
 use Rattle.pfr_engine.specs.Words.{words_in}
 use Rattle.pfr_engine.specs.Rows.{lines_in}
 use Rattle.pfr_script.specs.declared.item.Item.TheVariants.{Event}
@@ -49,17 +49,12 @@ judge_lines script number (text ∷ others) = do
 unfoldable pub judge_script : List ℕ → Result ScriptState ScriptFail
 judge_script text = judge_lines no_items 1 (lines_in text)
 
--- a refusal is that of the judgement, unless memory ran out
-abbrev pub Refuses : {Y : Type 0} → ScriptFail → Result Y ScriptFail → Type 0
-Refuses fails.NoMemory judged = Unit {0}
-Refuses (fails.Text line why) judged = judged ≡ Err (fails.Text line why)
-
--- what was read is the judgement, unless memory ran out
-abbrev pub Answers : {Y : Type 0} → Result Y ScriptFail → Result Y ScriptFail → Type 0
-Answers (Ok x) judged = judged ≡ Ok x
-Answers (Err cause) judged = Refuses cause judged
+-- want of memory, where that is the cause
+abbrev pub memory_failure : ScriptFail → Option (Unit {0})
+memory_failure fails.NoMemory = Some tt
+memory_failure (fails.Text line why) = None
 
 -- what a call leaves is the judgement, unless memory ran out
-abbrev pub Leaves : {Y : Type 0} → Y → Result (Unit {0}) ScriptFail → Result Y ScriptFail → Type 0
-Leaves left (Ok x) judged = judged ≡ Ok left
-Leaves left (Err cause) judged = Refuses cause judged
+abbrev pub Becomes : {Y : Type 0} → Y → Result (Unit {0}) ScriptFail → Result Y ScriptFail → Type 0
+Becomes left (Ok x) judged = judged ≡ Ok left
+Becomes left (Err cause) judged = MatchOption (memory_failure cause) (judged ≡ Err cause) (λ _. Unit {0})

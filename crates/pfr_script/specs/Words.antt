@@ -2,7 +2,7 @@
 use Rattle.std.specs.Prelude.{ℕ, ◌==◌, codes, if◌then◌else◌, List, [], ◌∷◌, Option, Some, None, Result, Ok, Err}
 use Rattle.std.specs.List.{slice_split}
 use Rattle.std.specs.Str.{bytes_eq}
-use Rattle.pfr_engine.specs.Judging.{◌>>=◌, ◌>>◌, require}
+use Rattle.pfr_flash.specs.Judging.{◌>>=◌, ◌>>◌, require}
 use Rattle.pfr_engine.specs.Words.{is_word, words_in}
 use Rattle.pfr_flash.specs.declared.names.Device.{Device}
 use Rattle.pfr_flash.specs.declared.names.Device.TheVariants.{Bmc, Pch, Nv}

@@ -3,7 +3,8 @@ ghost use Rattle.std.specs.Prelude.{◌≡◌, ◌↔◌, ℕ, ◌<◌, ◌≤�
 ghost use Rattle.pfr_script.specs.Grammar.{Says};
 ghost use Rattle.pfr_script.specs.Line.{IsNumbered, judge_first};
 ghost use Rattle.pfr_script.specs.declared.line.Line.{Line};
-ghost use Rattle.pfr_script.specs.Reading.{Answers, Leaves, added, at_line, is_no_item, judge_line, judge_script};
+ghost use Rattle.pfr_flash.specs.Answer.{Answers};
+ghost use Rattle.pfr_script.specs.Reading.{Becomes, memory_failure, added, at_line, is_no_item, judge_line, judge_script};
 
 use crate::line::Line;
 use crate::line_word::read_line;
@@ -27,7 +28,7 @@ fn is_no_item(text: &[u8]) -> bool
 fn add_line(script: &mut Script, number: u32, line: Line) -> Result<(), ScriptFail>
     requires few { length script.old.items < 65536 }
     requires numbered { IsNumbered line }
-    ensures { Leaves script.new result (at_line number (added script.old line)) }
+    ensures { Becomes script.new result (at_line number (added script.old line)) }
 {
     match line {
         Line::Happens(event) => {
@@ -55,7 +56,7 @@ fn add_line(script: &mut Script, number: u32, line: Line) -> Result<(), ScriptFa
 // Appends what the line of this number says, if it is an item.
 #[tactic(auto, unfolding(crate::specs::Reading::judge_line))]
 fn read_item(script: &mut Script, number: u32, text: &[u8]) -> Result<(), ScriptFail>
-    ensures { Leaves script.new result (at_line number (judge_line script.old text.now)) }
+    ensures { Becomes script.new result (at_line number (judge_line script.old text.now)) }
 {
     if is_no_item(text) {
         return Ok(());
@@ -74,7 +75,7 @@ fn read_item(script: &mut Script, number: u32, text: &[u8]) -> Result<(), Script
 #[tactic(auto, unfolding(crate::specs::Reading::judge_script))]
 fn read_lines(alloc: Global, text: &[u8]) -> Result<Script, ScriptFail>
     requires { length text.now ≤ 4294967294 }
-    ensures exact { Answers result (judge_script text.now) }
+    ensures exact { Answers memory_failure result (judge_script text.now) }
 {
     let mut script = Script::new(alloc)?;
     let mut rest = text;
@@ -102,7 +103,7 @@ fn read_lines(alloc: Global, text: &[u8]) -> Result<Script, ScriptFail>
 /// The first thing that is wrong with the first bad line, or want of memory.
 pub fn parse(alloc: Global, text: &[u8]) -> Result<Script, ScriptFail>
     requires { length text.now ≤ 4294967294 }
-    ensures exact { Answers result (judge_script text.now) }
+    ensures exact { Answers memory_failure result (judge_script text.now) }
     // The judgement takes the words of a line for just what they spell.
     ensures spelled { (words : List (List ℕ)) (line : Line) → (judge_first words ≡ Ok line) ↔ Says line words }
 {

@@ -5,9 +5,13 @@
 mod failure;
 mod fault;
 mod host;
+#[cfg(test)]
+mod host_tests;
 mod mem_shelf;
 mod mem_sink;
 mod outside;
+mod reading;
+mod whole;
 mod write;
 
 pub use failure::Access;

@@ -1,7 +1,7 @@
 // A shelf in memory.
 ghost use Rattle.std.specs.Prelude.{◌≡◌, ◌≢◌, ℕ, ◌+◌, ◌-◌, ◌<◌, ◌≤◌, ◌⊎◌, ◌↔◌, List, length, true, Some, None, IsTrue, OnOk, OnErr, IfOk, IsErrOf, IsSomeAnd};
 ghost use Rattle.std.specs.Option.{option_map, option_copied};
-ghost use Rattle.pfr_shelf.specs.Causes.{Rose, one_more};
+ghost use Rattle.pfr_flash.specs.FlashState.{raised_by};
 ghost use Rattle.pfr_shelf.specs.Failures.{failing};
 ghost use Rattle.pfr_shelf.specs.Files.{put_file, SameBut};
 ghost use Rattle.pfr_shelf.specs.Memory.{files_in, files_of, due_of, faults_of, failed_of};
@@ -80,7 +80,7 @@ impl MemShelf {
     // Counts a fault, and keeps which call it was.
     fn fail(&mut self, access: Access, name: &str) -> ShelfFail
         ensures answer { result ≡ ShelfFail.Failed }
-        ensures kept { self.new ≡ record self.old { faults = one_more self.old.faults; failed = Some (failing access name.now) } }
+        ensures kept { self.new ≡ record self.old { faults = raised_by self.old.faults 1; failed = Some (failing access name.now) } }
     {
         self.faults = self.faults.saturating_add(1);
         self.failed = Some(Failure::new(access, name));
@@ -105,7 +105,7 @@ impl Shelf for MemShelf {
 
         // It faults at the call that was to fail, and at a name that it does not hold, and nowhere else.
         ensures failed { IsErrOf result ShelfFail.Failed ↔ ((due_of self.old ≡ 1) ⊎ (files_of self.old name.now ≡ None)) }
-        ensures counted { IsErrOf result ShelfFail.Failed → faults_of self.new ≡ one_more (faults_of self.old) }
+        ensures counted { IsErrOf result ShelfFail.Failed → faults_of self.new ≡ raised_by (faults_of self.old) 1 }
         ensures not_counted { result ≢ Err ShelfFail.Failed → faults_of self.new ≡ faults_of self.old }
         ensures blamed { result ≡ Err ShelfFail.Failed → failed_of self.new ≡ Some (failing Access.Load name.now) }
         ensures unblamed { result ≢ Err ShelfFail.Failed → failed_of self.new ≡ failed_of self.old }
@@ -135,7 +135,7 @@ impl Shelf for MemShelf {
 
         // It faults at the call that was to fail, and nowhere else.
         ensures failed { IsErrOf result ShelfFail.Failed ↔ (due_of self.old ≡ 1) }
-        ensures counted { IsErrOf result ShelfFail.Failed → faults_of self.new ≡ one_more (faults_of self.old) }
+        ensures counted { IsErrOf result ShelfFail.Failed → faults_of self.new ≡ raised_by (faults_of self.old) 1 }
         ensures not_counted { result ≢ Err ShelfFail.Failed → faults_of self.new ≡ faults_of self.old }
         ensures blamed { result ≡ Err ShelfFail.Failed → failed_of self.new ≡ Some (failing Access.Store name.now) }
         ensures unblamed { result ≢ Err ShelfFail.Failed → failed_of self.new ≡ failed_of self.old }

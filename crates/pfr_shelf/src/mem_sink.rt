@@ -1,6 +1,6 @@
 // A sink in memory.
 ghost use Rattle.std.specs.Prelude.{◌≡◌, ◌≢◌, ℕ, ◌+◌, ◌-◌, ◌<◌, ◌≤◌, ◌⊎◌, ◌↔◌, ◌++◌, List, [], length, true, OnOk, OnErr, IfOk, IsErr, IsTrue};
-ghost use Rattle.pfr_shelf.specs.Causes.{Rose, one_more};
+ghost use Rattle.pfr_flash.specs.FlashState.{raised_by};
 ghost use Rattle.pfr_shelf.specs.Pieces.{AppendsPart};
 
 use crate::fault::SinkFail;
@@ -74,7 +74,7 @@ impl Sink for MemSink {
         ensures ok { OnOk result (self.new ≡ record self.old { written = self.old.written ++ piece.now; due = self.old.due - 1 }) }
 
         // It faults at the call that was to fail, and where the piece passes the room, and nowhere else.
-        ensures err { OnErr result (self.new ≡ record self.old { due = self.old.due - 1; faults = one_more self.old.faults }) }
+        ensures err { OnErr result (self.new ≡ record self.old { due = self.old.due - 1; faults = raised_by self.old.faults 1 }) }
         ensures part { OnErr result (AppendsPart self.old.written self.new.written piece.now) }
         ensures failed { IsErr result ↔ ((self.old.due ≡ 1) ⊎ (self.old.room < length self.old.written + length piece.now)) }
     {

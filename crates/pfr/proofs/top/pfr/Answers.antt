@@ -1,6 +1,6 @@
 use Rattle.pfr.specs.Runs.{outside}
 use Rattle.pfr.specs.Top.{asked}
-use Rattle.pfr.proofs.BenchLemmas.{each_spans, each_releases, each_locks, each_brings_up, each_grows, each_provision}
+use Rattle.pfr.proofs.BenchLemmas.{each_spans, each_releases, each_locks, each_brings_up, each_told, each_grows, each_provision}
 use Rattle.pfr.proofs.CommandLemmas.{breach, complete}
 use Rattle.pfr.proofs.TopLemmas.{files_spare, files_stay, others_kept, output_and_line}
 use Rattle.pfr.proofs.WorthLemmas.{worth_of}
@@ -87,3 +87,6 @@ returns-clause-grows g c = each_grows c.serve-finished.result.bench c.serve-fini
 
 pub returns-clause-provision : goal.returns-clause-provision
 returns-clause-provision g c = each_provision c.serve-finished.result.bench c.serve-finished.ensures.bench
+
+pub returns-clause-told : goal.returns-clause-told
+returns-clause-told g c = each_told c.serve-finished.result.bench c.serve-finished.ensures.bench

@@ -1,10 +1,9 @@
 use Rattle.std.proofs.Common.{ap}
 use Rattle.std.proofs.lemmas.Result.{err_from_is_err_and}
 use Rattle.pfr_flash.specs.FlashState.{FlashState}
-use Rattle.pfr_flash.proofs.EndsLemmas.{ends_reads}
-use Rattle.pfr_flash.proofs.ReadingLemmas.{then_reads}
+use Rattle.pfr_flash.proofs.EndsLemmas.{then_ends, ends_content}
 use Rattle.pfr_fuses.specs.declared.root_slot.RootSlot.{RootSlot}
-use Rattle.pfr_auth.proofs.Parts.{chain_refused, manifest_refused, manifest_found, manifest_signed}
+use Rattle.pfr_auth.proofs.Parts.{chain_refused, manifest_refused, manifest_found}
 use Rattle.pfr_auth.proofs.judging.signed_manifest.Goals as goal
 
 pub returns-in_err-chain-clause-exact : goal.returns-in_err-chain-clause-exact
@@ -13,10 +12,7 @@ returns-in_err-chain-clause-exact g c =
     let old : FlashState = g.F.Flash.device c.args.flash.now in
     rw (p.1, p.2) (chain_refused old c.args.bank c.args.fuses.now (g.E.Engine.accepts c.args.engine.now) c.args.layout.now c.manifest_type-ty.result c.provision-provision.result.now.root c.row-cancelled.result.now
     c.requires.layout c.manifest_type-ty.ensures (ap (λ (slot : RootSlot). slot.root) c.provision-provision.ensures) c.row-cancelled.ensures
-    (g.F.Flash.device c.verify.new.flash) c.in_err-chain.field-0.0 c.in_err-chain.ensures.exact)
-
-pub returns-in_err-chain-clause-reads : goal.returns-in_err-chain-clause-reads
-returns-in_err-chain-clause-reads g c = ends_reads c.verify.ensures.ends
+    c.in_err-chain.field-0.0 c.in_err-chain.ensures.exact)
 
 pub returns-in_err-read-clause-exact : goal.returns-in_err-read-clause-exact
 returns-in_err-read-clause-exact g c =
@@ -24,24 +20,19 @@ returns-in_err-read-clause-exact g c =
     let old : FlashState = g.F.Flash.device c.args.flash.now in
     rw (p.1, p.2) (manifest_refused old c.args.bank c.args.fuses.now (g.E.Engine.accepts c.args.engine.now) c.args.layout.now c.manifest_type-ty.result c.provision-provision.result.now.root c.row-cancelled.result.now
     c.requires.layout c.manifest_type-ty.ensures (ap (λ (slot : RootSlot). slot.root) c.provision-provision.ensures) c.row-cancelled.ensures
-    (g.F.Flash.device c.verify.new.flash) (g.F.Flash.device c.read.new.flash) c.in_ok-chain.chain c.in_err-read.field-0.0 (ends_reads c.verify.ensures.ends) c.in_ok-chain.ensures.exact c.in_err-read.ensures.exact)
-
-pub returns-in_err-read-clause-reads : goal.returns-in_err-read-clause-reads
-returns-in_err-read-clause-reads g c = then_reads (ends_reads c.verify.ensures.ends) (ends_reads c.read.ensures.ends)
+    (g.F.Flash.device c.verify.new.flash) c.in_ok-chain.chain c.in_err-read.field-0.0 (ends_content c.in_ok-chain.ensures.ends) c.in_ok-chain.ensures.exact c.in_err-read.ensures.exact)
 
 pub returns-clause-exact : goal.returns-clause-exact
 returns-clause-exact g c =
     let old : FlashState = g.F.Flash.device c.args.flash.now in
     manifest_found old c.args.bank c.args.fuses.now (g.E.Engine.accepts c.args.engine.now) c.args.layout.now c.manifest_type-ty.result c.provision-provision.result.now.root c.row-cancelled.result.now
     c.requires.layout c.manifest_type-ty.ensures (ap (λ (slot : RootSlot). slot.root) c.provision-provision.ensures) c.row-cancelled.ensures
-    (g.F.Flash.device c.verify.new.flash) c.in_ok-chain.chain c.in_ok-read.field-0 (ends_reads c.verify.ensures.ends) c.in_ok-chain.ensures.exact c.in_ok-read.ensures.exact
+    (g.F.Flash.device c.verify.new.flash) c.in_ok-chain.chain c.in_ok-read.field-0 (ends_content c.in_ok-chain.ensures.ends) c.in_ok-chain.ensures.exact c.in_ok-read.ensures.exact
 
-pub returns-clause-ok : goal.returns-clause-ok
-returns-clause-ok g c =
-    let old : FlashState = g.F.Flash.device c.args.flash.now in
-    manifest_signed old c.args.bank c.args.fuses.now (g.E.Engine.accepts c.args.engine.now) c.args.layout.now c.manifest_type-ty.result c.provision-provision.result.now.root c.row-cancelled.result.now
-    c.requires.layout c.manifest_type-ty.ensures (ap (λ (slot : RootSlot). slot.root) c.provision-provision.ensures) c.row-cancelled.ensures
-    (g.F.Flash.device c.verify.new.flash) c.in_ok-chain.chain c.in_ok-read.field-0 (ends_reads c.verify.ensures.ends) c.in_ok-chain.ensures.ok c.in_ok-read.ensures.ok
+pub returns-in_err-read-clause-ends : goal.returns-in_err-read-clause-ends
+returns-in_err-read-clause-ends g c =
+    let p = err_from_is_err_and c.from_residual-in_err-read.result c.from_residual-in_err-read.ensures.1 in
+    rw (p.1, p.2) (then_ends c.in_ok-chain.ensures.ends c.in_err-read.ensures.ends)
 
-pub returns-clause-reads : goal.returns-clause-reads
-returns-clause-reads g c = then_reads (ends_reads c.verify.ensures.ends) (ends_reads c.read.ensures.ends)
+pub returns-clause-ends : goal.returns-clause-ends
+returns-clause-ends g c = then_ends c.in_ok-chain.ensures.ends c.in_ok-read.ensures.ends

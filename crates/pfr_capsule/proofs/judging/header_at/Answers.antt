@@ -2,12 +2,12 @@ use Rattle.std.proofs.Common.{◌∙◌, sym, Ok, Err, arith}
 use Rattle.std.proofs.lemmas.Result.{err_from_is_err_and}
 use Rattle.pfr_flash.specs.FlashState.{FlashState, now}
 use Rattle.pfr_flash.proofs.RangeLemmas.{length-now}
-use Rattle.pfr_flash.proofs.ReadingLemmas.{OnlyReads-refl}
+use Rattle.pfr_flash.proofs.EndsLemmas.{EndsAt-refl}
 use Rattle.pfr_capsule.proofs.Parts.{header_judged}
 use Rattle.pfr_capsule.proofs.judging.header_at.Goals as goal
 
-pub returns-then-end-at-clause-reads : goal.returns-then-end-at-clause-reads
-returns-then-end-at-clause-reads g c = OnlyReads-refl _
+pub returns-then-end-at-clause-ends : goal.returns-then-end-at-clause-ends
+returns-then-end-at-clause-ends g c = EndsAt-refl _
 
 pub returns-in_err-check_numbers-clause-exact : goal.returns-in_err-check_numbers-clause-exact
 returns-in_err-check_numbers-clause-exact g c =
@@ -22,3 +22,8 @@ returns-clause-exact g c =
     let old : FlashState = g.F.Flash.device c.args.flash.now in
     header_judged (now old) c.args.at c.args.end c.size-size.result c.read.new.into c.read-header.result (omega (arith, c.requires.begins, c.if-end-at.false)) c.in_ok-read.ensures.bytes c.read-header.ensures (c.size-size.ensures ∙ sym (length-now old))
     (Ok tt) (sym c.in_ok-check_numbers.ensures.exact)
+
+pub returns-in_err-check_numbers-clause-ends : goal.returns-in_err-check_numbers-clause-ends
+returns-in_err-check_numbers-clause-ends g c =
+    let p = err_from_is_err_and c.from_residual-in_err-check_numbers.result c.from_residual-in_err-check_numbers.ensures.1 in
+    rw (p.1, p.2, c.in_err-check_numbers.ensures.found) c.in_ok-read.ensures.reads.ends

@@ -2,15 +2,20 @@ use Rattle.std.proofs.Common.{◌≡◌, ◌∙◌, ap, sym, ℕ, ◌+◌, ◌/�
 use Rattle.pfr_flash.specs.Bytes.{bytes_at}
 use Rattle.pfr_flash.specs.FlashState.{FlashState, now}
 use Rattle.pfr_flash.proofs.RangeLemmas.{length-now}
-use Rattle.pfr_flash.proofs.ReadingLemmas.{then_reads}
+use Rattle.std.proofs.lemmas.Result.{err_from_is_err_and}
+use Rattle.pfr_flash.proofs.EndsLemmas.{then_ends}
 use Rattle.pfr_capsule.proofs.PagesRead.{pages_judged, has_index, long_front}
 use Rattle.pfr_capsule.proofs.judging.pages_at.Goals as goal
 
-pub returns-in_err-read-2-clause-reads : goal.returns-in_err-read-2-clause-reads
-returns-in_err-read-2-clause-reads g c = then_reads c.read.ensures.reads.reads c.read-2.ensures.reads.reads
+pub returns-in_err-read-2-clause-ends : goal.returns-in_err-read-2-clause-ends
+returns-in_err-read-2-clause-ends g c =
+    let p = err_from_is_err_and c.from_residual-in_err-read-2.result c.from_residual-in_err-read-2.ensures.1 in
+    rw (p.1, p.2) (then_ends c.in_ok-read.ensures.reads.ends c.in_err-read-2.ensures.reads.ends)
 
-pub returns-in_err-check_maps-clause-reads : goal.returns-in_err-check_maps-clause-reads
-returns-in_err-check_maps-clause-reads g c = then_reads c.read.ensures.reads.reads c.read-2.ensures.reads.reads
+pub returns-in_err-check_maps-clause-ends : goal.returns-in_err-check_maps-clause-ends
+returns-in_err-check_maps-clause-ends g c =
+    let p = err_from_is_err_and c.from_residual-in_err-check_maps.result c.from_residual-in_err-check_maps.ensures.1 in
+    rw (p.1, p.2, c.in_err-check_maps.ensures.found) (then_ends c.in_ok-read.ensures.reads.ends c.in_ok-read-2.ensures.reads.ends)
 
 pub returns-clause-exact : goal.returns-clause-exact
 returns-clause-exact g c =
@@ -32,5 +37,5 @@ returns-clause-index g c =
     c.in_ok-read-2.ensures.bytes ∙ ap (bytes_at (now (g.F.Flash.device c.read.new.self)) (c.args.at + bytes)) long ∙ ap (λ (image : List ℕ). bytes_at image (c.args.at + bytes) bytes) c.read.ensures.reads.reads.content in
     has_index (now old) c.args.at c.args.header.now c.read.new.into c.read-2.new.into c.index.result erased copied c.index.ensures.each c.requires.few c.requires.whole (omega (arith, c.requires.inside, length-now old)) c.in_ok-check_maps.ensures.payload
 
-pub returns-clause-reads : goal.returns-clause-reads
-returns-clause-reads g c = then_reads c.read.ensures.reads.reads c.read-2.ensures.reads.reads
+pub returns-clause-ends : goal.returns-clause-ends
+returns-clause-ends g c = then_ends c.in_ok-read.ensures.reads.ends c.in_ok-read-2.ensures.reads.ends

@@ -1,27 +1,32 @@
+use Rattle.std.proofs.lemmas.Result.{err_from_is_err_and}
 use Rattle.std.proofs.Common.{List, ℕ, ◌/◌, subst, arith}
-use Rattle.pfr_flash.proofs.ReadingLemmas.{OnlyReads-refl, then_reads}
+use Rattle.pfr_flash.proofs.EndsLemmas.{EndsAt-refl, then_ends, ends_content}
 use Rattle.pfr_capsule.proofs.PageBytesLaws.{no_pages, page_joined, all_pages}
 use Rattle.pfr_capsule.proofs.page_bytes.feed_region.Goals as goal
 
 pub loop-n-init : goal.loop-n-init
 loop-n-init g c = record {
-  reads = OnlyReads-refl _;
+  ends = EndsAt-refl _;
   within = omega arith;
   fed = λ m h. subst (λ (t : List ℕ). g.H.Digest.holds c.args.hasher.now t) (no_pages _ m _ _) h;
 }
 
-pub returns-in_err-page-clause-reads : goal.returns-in_err-page-clause-reads
-returns-in_err-page-clause-reads g c = then_reads c.loop-n.invariant.reads c.page.ensures.reads
+pub returns-in_err-page-clause-ends : goal.returns-in_err-page-clause-ends
+returns-in_err-page-clause-ends g c =
+    let p = err_from_is_err_and c.from_residual.result c.from_residual.ensures.1 in
+    rw (p.1, p.2) (then_ends c.loop-n.invariant.ends c.in_err-page.ensures.ends)
 
-pub returns-in_err-feed_page-clause-reads : goal.returns-in_err-feed_page-clause-reads
-returns-in_err-feed_page-clause-reads g c = then_reads (then_reads c.loop-n.invariant.reads c.page.ensures.reads) c.feed_page.ensures.reads
+pub returns-in_err-feed_page-clause-ends : goal.returns-in_err-feed_page-clause-ends
+returns-in_err-feed_page-clause-ends g c =
+    let p = err_from_is_err_and c.from_residual-in_err-feed_page.result c.from_residual-in_err-feed_page.ensures.1 in
+    rw (p.1, p.2) (then_ends (then_ends c.loop-n.invariant.ends c.in_ok-page.ensures.ends) c.in_err-feed_page.ensures.ends)
 
 pub loop-n-preserved : goal.loop-n-preserved
 loop-n-preserved g c = record {
-  reads = then_reads (then_reads c.loop-n.invariant.reads c.page.ensures.reads) c.feed_page.ensures.reads;
+  ends = then_ends (then_ends c.loop-n.invariant.ends c.in_ok-page.ensures.ends) c.in_ok-feed_page.ensures.ends;
   within = omega arith;
   fed = λ m h. subst (λ (t : List ℕ). g.H.Digest.holds c.feed_page.new.hasher t)
-      (page_joined _ _ _ m c.args.pages.now (c.args.region.now.start / 4096) c.loop-n.n _ (omega arith) c.loop-n.invariant.reads.content c.page.ensures.reads.content c.in_ok-page.ensures.found)
+      (page_joined _ _ _ m c.args.pages.now (c.args.region.now.start / 4096) c.loop-n.n _ (omega arith) (ends_content c.loop-n.invariant.ends) (ends_content c.in_ok-page.ensures.ends) c.in_ok-page.ensures.found)
       (c.in_ok-feed_page.ensures.fed _ (c.loop-n.invariant.fed m h));
 }
 

@@ -1,5 +1,6 @@
+use Rattle.std.proofs.lemmas.Result.{err_from_is_err_and}
 use Rattle.std.proofs.Common.{sym, ◌∙◌, refl, arith}
-use Rattle.pfr_flash.proofs.ReadingLemmas.{OnlyReads-refl, then_reads}
+use Rattle.pfr_flash.proofs.EndsLemmas.{EndsAt-refl, then_ends, ends_content}
 use Rattle.pfr_capsule.specs.PageBytes.{incoherent_region}
 use Rattle.pfr_capsule.proofs.LeastLaws.{first_found, first_passed, first_done}
 use Rattle.pfr_capsule.proofs.PageBytesLaws.{incoherent_found}
@@ -7,24 +8,26 @@ use Rattle.pfr_capsule.proofs.page_bytes.incoherent_region.Goals as goal
 
 pub loop-k-init : goal.loop-k-init
 unfolding incoherent_region
-loop-k-init g c = record { reads = OnlyReads-refl _; exact = refl }
+loop-k-init g c = record { ends = EndsAt-refl _; exact = refl }
 
-pub returns-in_err-is_coherent-clause-reads : goal.returns-in_err-is_coherent-clause-reads
-returns-in_err-is_coherent-clause-reads g c = then_reads c.loop-k.invariant.reads c.is_coherent.ensures.reads
+pub returns-in_err-is_coherent-clause-ends : goal.returns-in_err-is_coherent-clause-ends
+returns-in_err-is_coherent-clause-ends g c =
+    let p = err_from_is_err_and c.from_residual.result c.from_residual.ensures.1 in
+    rw (p.1, p.2) (then_ends c.loop-k.invariant.ends c.in_err-is_coherent.ensures.ends)
 
 pub returns-then-not-branch-clause-exact : goal.returns-then-not-branch-clause-exact
 returns-then-not-branch-clause-exact g c =
     sym (first_found _ c.args.regions.now c.loop-k.k c.get.result.now (omega (arith, c.len-k-end.ensures.value, c.loop-k-test.true)) c.get.ensures
-    (incoherent_found _ _ _ _ _ _ c.loop-k.invariant.reads.content c.in_ok-is_coherent.ensures.exact c.if-not-branch.true)) ∙ c.loop-k.invariant.exact
+    (incoherent_found _ _ _ _ _ _ (ends_content c.loop-k.invariant.ends) c.in_ok-is_coherent.ensures.exact c.if-not-branch.true)) ∙ c.loop-k.invariant.exact
 
-pub returns-then-not-branch-clause-reads : goal.returns-then-not-branch-clause-reads
-returns-then-not-branch-clause-reads g c = then_reads c.loop-k.invariant.reads c.is_coherent.ensures.reads
+pub returns-then-not-branch-clause-ends : goal.returns-then-not-branch-clause-ends
+returns-then-not-branch-clause-ends g c = then_ends c.loop-k.invariant.ends c.in_ok-is_coherent.ensures.ends
 
 pub loop-k-preserved : goal.loop-k-preserved
 loop-k-preserved g c = record {
-  reads = then_reads c.loop-k.invariant.reads c.is_coherent.ensures.reads;
+  ends = then_ends c.loop-k.invariant.ends c.in_ok-is_coherent.ensures.ends;
   exact = sym (first_passed _ c.args.regions.now c.loop-k.k c.get.result.now (omega (arith, c.len-k-end.ensures.value, c.loop-k-test.true)) c.get.ensures
-      (incoherent_found _ _ _ _ _ _ c.loop-k.invariant.reads.content c.in_ok-is_coherent.ensures.exact c.if-not-branch.false)) ∙ c.loop-k.invariant.exact;
+      (incoherent_found _ _ _ _ _ _ (ends_content c.loop-k.invariant.ends) c.in_ok-is_coherent.ensures.exact c.if-not-branch.false)) ∙ c.loop-k.invariant.exact;
 }
 
 pub returns-clause-exact : goal.returns-clause-exact

@@ -1,5 +1,5 @@
-use Rattle.pfr_flash.proofs.ReadingLemmas.{OnlyReads-refl}
+use Rattle.pfr_flash.proofs.EndsLemmas.{EndsAt-refl}
 use Rattle.pfr_capsule.proofs.page_bytes.is_coherent.Goals as goal
 
-pub returns-in-None-clause-reads : goal.returns-in-None-clause-reads
-returns-in-None-clause-reads g c = OnlyReads-refl _
+pub returns-in-None-clause-ends : goal.returns-in-None-clause-ends
+returns-in-None-clause-ends g c = EndsAt-refl _

@@ -1,7 +1,7 @@
 use Rattle.std.proofs.Common.{◌≡◌, ℕ, List, length, take, arith, length-take, subst, sym, append-nil}
 use Rattle.pfr_flash.proofs.EndsLemmas.{EndsAt-refl, then_ends, ends_content}
 use Rattle.std.proofs.lemmas.Result.{err_from_is_err_and}
-use Rattle.pfr_chain.proofs.Parts.{joined}
+use Rattle.pfr_flash.proofs.PartsLemmas.{joined}
 use Rattle.pfr_chain.proofs.hashing.feed.Goals as goal
 
 pub pieces-init : goal.pieces-init

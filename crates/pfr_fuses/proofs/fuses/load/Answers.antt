@@ -4,10 +4,10 @@ use Rattle.pfr_fuses.proofs.StandsLemmas.{answer_ok, answer_err, fuses_of-found,
 use Rattle.pfr_fuses.proofs.fuses.load.Goals as goal
 
 pub returns-clause-ok : goal.returns-clause-ok
-returns-clause-ok g c = answer_ok _ _ _ (length-now (g.F.Flash.device c.args.nv.now) ∙ c.requires) c.loaded.ensures.exact
+returns-clause-ok g c = answer_ok _ _ (length-now (g.F.Flash.device c.args.nv.now) ∙ c.requires) c.loaded.ensures.exact
 
 pub returns-clause-err : goal.returns-clause-err
-returns-clause-err g c = answer_err _ _ _ c.loaded.ensures.exact
+returns-clause-err g c = answer_err _ _ c.loaded.ensures.exact
 
 pub returns-clause-only : goal.returns-clause-only
 returns-clause-only g c = λ number h. rw (fuses_of-found _ number h) at c.loaded.ensures.exact

@@ -2,14 +2,14 @@ use Rattle.std.proofs.Common.{◌≡◌, ◌∙◌, ap, Ok, Err}
 use Rattle.pfr_flash.specs.FlashState.{size_of}
 use Rattle.pfr_flash.specs.Layout.{judge_layout}
 use Rattle.pfr_flash.proofs.RangeLemmas.{length-now}
-use Rattle.pfr_flash.proofs.ReadingLemmas.{OnlyReads-refl}
+use Rattle.pfr_flash.proofs.EndsLemmas.{EndsAt-refl}
 use Rattle.pfr_fuses.specs.RootSlot.{layout_of}
 use Rattle.pfr_fuses.specs.declared.root_slot.RootSlot.{RootSlot}
 use Rattle.pfr_machine.proofs.WorldLemmas.{judge_as}
 use Rattle.pfr_machine.proofs.verdicts.judge_provisioned.Goals as goal
 
-pub returns-in-Err-clause-reads : goal.returns-in-Err-clause-reads
-returns-in-Err-clause-reads g c = OnlyReads-refl _
+pub returns-in-Err-clause-ends : goal.returns-in-Err-clause-ends
+returns-in-Err-clause-ends g c = EndsAt-refl _
 
 pub returns-in-Err-clause-found : goal.returns-in-Err-clause-found
 returns-in-Err-clause-found g c =

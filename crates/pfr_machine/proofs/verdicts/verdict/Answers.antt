@@ -1,11 +1,17 @@
-use Rattle.std.proofs.Common.{◌∙◌}
 use Rattle.pfr_flash.proofs.RangeLemmas.{length-now}
-use Rattle.pfr_flash.proofs.ReadingLemmas.{OnlyReads-refl}
+use Rattle.std.proofs.Common.{◌∙◌, refl, inl, Result, Ok, Err}
+use Rattle.std.proofs.lemmas.Result.{err_from_is_err_and}
+use Rattle.pfr_machine.proofs.VerdictLaw.{ends_either}
 use Rattle.pfr_machine.proofs.VerdictLaw.{verdict_floor, verdict_is, verdict_means}
 use Rattle.pfr_machine.proofs.verdicts.verdict.Goals as goal
 
-pub returns-in_err-found-clause-bank : goal.returns-in_err-found-clause-bank
-returns-in_err-found-clause-bank g c = OnlyReads-refl _
+pub returns-in_err-found-clause-ends : goal.returns-in_err-found-clause-ends
+returns-in_err-found-clause-ends g c =
+    let p = err_from_is_err_and c.from_residual.result c.from_residual.ensures.1 in
+    rw (p.1, p.2) (inl (c.in_err-found.ensures.ends, refl))
+
+pub returns-clause-ends : goal.returns-clause-ends
+returns-clause-ends g c = ends_either c.judge_with.result _ _ _ _ c.in_ok-found.ensures.ends c.judge_with.ensures.ends
 
 pub returns-clause-exact : goal.returns-clause-exact
 returns-clause-exact g c = verdict_is c.args.bank _ _ _ c.in_ok-found.found c.in_ok-found.ensures.found c.judge_with.result c.judge_with.ensures.found

@@ -1,7 +1,7 @@
 use Rattle.std.proofs.Common.{◌≡◌, ◌∙◌, ◌-◌, ◌<◌, ◌≤◌, length, Ok, refl, arith, subst}
 use Rattle.std.proofs.lemmas.Result.{err_from_is_err_and}
 use Rattle.std.proofs.lemmas.List.{length_push}
-use Rattle.pfr_flash.proofs.EndsLemmas.{EndsAt-refl, then_ends, ends_reads, ends_content}
+use Rattle.pfr_flash.proofs.EndsLemmas.{EndsAt-refl, then_ends, ends_content}
 use Rattle.pfr_manifest.specs.declared.entry.Entry.TheVariants as variants
 use Rattle.pfr_manifest.specs.Judge.{region_len, HasRoom}
 use Rattle.pfr_manifest.proofs.LoopLemmas.{entry_refused, tail_judged, tail_refused, region_read, rule_read, none_left}
@@ -32,13 +32,13 @@ returns-in-Tail-clause-ends g c = then_ends (then_ends c.entries.invariant.ends 
 pub returns-in_err-entry_at-clause-exact : goal.returns-in_err-entry_at-clause-exact
 returns-in_err-entry_at-clause-exact g c =
     let p = err_from_is_err_and c.from_residual.result c.from_residual.ensures.1 in
-    rw (p.1, p.2) (entry_refused c.entries.invariant c.requires.within (g.F.Flash.device c.entry_at.new.flash) c.in_err-entry_at.field-0.0 c.entries-test.true c.in_err-entry_at.ensures.exact)
+    rw (p.1, p.2) (entry_refused c.entries.invariant c.requires.within c.in_err-entry_at.field-0.0 c.entries-test.true c.in_err-entry_at.ensures.exact)
 
 pub returns-in_err-tail_at-in-Tail-clause-exact : goal.returns-in_err-tail_at-in-Tail-clause-exact
 returns-in_err-tail_at-in-Tail-clause-exact g c =
     let p = err_from_is_err_and c.from_residual-in_err-tail_at-in-Tail.result c.from_residual-in_err-tail_at-in-Tail.ensures.1 in
-    rw (p.1, p.2) (tail_refused c.entries.invariant c.requires.within (g.F.Flash.device c.entry_at.new.flash) (g.F.Flash.device c.tail_at.new.flash) c.in_err-tail_at-in-Tail.field-0.0 c.entries-test.true
-    (c.in_ok-entry_at.ensures.exact ∙ cc) (ends_reads c.in_ok-entry_at.ensures.ends) c.in_err-tail_at-in-Tail.ensures.exact)
+    rw (p.1, p.2) (tail_refused c.entries.invariant c.requires.within (g.F.Flash.device c.entry_at.new.flash) c.in_err-tail_at-in-Tail.field-0.0 c.entries-test.true
+    (c.in_ok-entry_at.ensures.exact ∙ cc) (ends_content c.in_ok-entry_at.ensures.ends ∙ ends_content c.entries.invariant.ends) c.in_err-tail_at-in-Tail.ensures.exact)
 
 pub returns-in-Tail-clause-exact : goal.returns-in-Tail-clause-exact
 returns-in-Tail-clause-exact g c =

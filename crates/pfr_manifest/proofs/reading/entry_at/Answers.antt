@@ -2,8 +2,7 @@ use Rattle.std.proofs.Common.{◌≡◌, ◌∙◌, sym, ap, List, ℕ, take, le
 use Rattle.pfr_flash.specs.Bytes.{bytes_at}
 use Rattle.pfr_flash.specs.FlashState.{now}
 use Rattle.pfr_manifest.specs.Judge.{judge_entry}
-use Rattle.pfr_manifest.proofs.Pieces.{take-bytes_at}
-use Rattle.pfr_manifest.proofs.AnswerLemmas.{answers_found, found_ends}
+use Rattle.pfr_manifest.proofs.AnswerLemmas.{answers_found, take-bytes_at}
 use Rattle.pfr_manifest.proofs.reading.entry_at.Goals as goal
 
 pub returns-clause-exact : goal.returns-clause-exact
@@ -13,7 +12,4 @@ returns-clause-exact g c =
     let read : c.read.new.into ≡ bytes_at image c.args.place c.min-count.result = c.in_ok-read.ensures.bytes ∙ ap (bytes_at image c.args.place) long in
     let piece : c.read.new.into ≡ take 64 (bytes_at image c.args.place c.args.left) =
     read ∙ ap (bytes_at image c.args.place) c.min-count.ensures ∙ sym (take-bytes_at image c.args.place c.args.left 64) in
-    answers_found _ _ _ _ (c.read-2.ensures.exact ∙ ap (λ entry. judge_entry entry c.args.at c.args.manifest.now c.args.layout.now c.args.bank) piece) c.read-2.ensures.found
-
-pub returns-clause-ends : goal.returns-clause-ends
-returns-clause-ends g c = found_ends _ c.read-2.ensures.found c.in_ok-read.ensures.reads.ends
+    answers_found _ _ _ (c.read-2.ensures.exact ∙ ap (λ entry. judge_entry entry c.args.at c.args.manifest.now c.args.layout.now c.args.bank) piece)

@@ -3,49 +3,37 @@ use Rattle.pfr_fuses.proofs.CancelLemmas.{cancel-ok, cancel-done, cancel-store, 
 use Rattle.pfr_fuses.proofs.fuses.Fuses.cancel.Goals as goal
 
 pub returns-clause-ok : goal.returns-clause-ok
-returns-clause-ok g c = cancel-ok c.args.ty c.args.id (g.F.Flash.device c.args.nv.now) (g.F.Flash.device c.cancel_key.new.nv) c.args.self.now c.cancel_key.new.self c.cancel_key.result
-    c.requires.size c.requires.profile c.requires.signing (omega arith) c.cancel_key.ensures.follows c.requires.stands c.cancel_key.ensures.fuses
+returns-clause-ok g c = cancel-ok c.args.ty c.args.id _ _ c.args.self.now c.cancel_key.new.self _ c.requires.size c.requires.profile c.requires.signing (omega arith) c.cancel_key.ensures.follows c.requires.stands c.cancel_key.ensures.fuses
 
 pub returns-clause-done : goal.returns-clause-done
-returns-clause-done g c = cancel-done c.args.ty c.args.id (g.F.Flash.device c.args.nv.now) (g.F.Flash.device c.cancel_key.new.nv) c.args.self.now c.cancel_key.new.self c.cancel_key.result
-    c.requires.size c.requires.profile c.requires.signing (omega arith) c.cancel_key.ensures.follows
+returns-clause-done g c = cancel-done c.args.ty c.args.id _ _ c.args.self.now c.cancel_key.new.self _ c.requires.size c.requires.profile c.requires.signing (omega arith) c.cancel_key.ensures.follows
 
 pub returns-clause-store : goal.returns-clause-store
-returns-clause-store g c = cancel-store c.args.ty c.args.id (g.F.Flash.device c.args.nv.now) (g.F.Flash.device c.cancel_key.new.nv) c.args.self.now c.cancel_key.new.self c.cancel_key.result
-    c.requires.size c.requires.profile c.requires.signing (omega arith) c.cancel_key.ensures.follows
+returns-clause-store g c = cancel-store c.args.ty c.args.id _ _ c.args.self.now c.cancel_key.new.self _ c.requires.size c.requires.profile c.requires.signing (omega arith) c.cancel_key.ensures.follows
 
 pub returns-clause-stays : goal.returns-clause-stays
-returns-clause-stays g c = cancel-stays c.args.ty c.args.id (g.F.Flash.device c.args.nv.now) (g.F.Flash.device c.cancel_key.new.nv) c.args.self.now c.cancel_key.new.self c.cancel_key.result
-    c.requires.size c.requires.profile c.requires.signing (omega arith) c.cancel_key.ensures.follows c.cancel_key.ensures.ok c.cancel_key.ensures.err
+returns-clause-stays g c = cancel-stays c.args.ty c.args.id _ _ c.args.self.now c.cancel_key.new.self _ c.requires.size c.requires.profile c.requires.signing (omega arith) c.cancel_key.ensures.follows c.cancel_key.ensures.ok c.cancel_key.ensures.err
 
 pub returns-clause-within : goal.returns-clause-within
-returns-clause-within g c = cancel-adds c.args.ty c.args.id (g.F.Flash.device c.args.nv.now) (g.F.Flash.device c.cancel_key.new.nv) c.args.self.now c.cancel_key.new.self c.cancel_key.result
-    c.requires.size c.requires.profile c.requires.signing (omega arith) c.cancel_key.ensures.follows
+returns-clause-within g c = cancel-adds c.args.ty c.args.id _ _ c.args.self.now c.cancel_key.new.self _ c.requires.size c.requires.profile c.requires.signing (omega arith) c.cancel_key.ensures.follows
 
 pub returns-clause-outside : goal.returns-clause-outside
-returns-clause-outside g c = cancel-outside c.args.ty c.args.id (g.F.Flash.device c.args.nv.now) (g.F.Flash.device c.cancel_key.new.nv) c.args.self.now c.cancel_key.new.self c.cancel_key.result
-    c.requires.size c.requires.profile c.requires.signing (omega arith) c.cancel_key.ensures.follows
+returns-clause-outside g c = cancel-outside c.args.ty c.args.id _ _ c.args.self.now c.cancel_key.new.self _ c.requires.size c.requires.profile c.requires.signing (omega arith) c.cancel_key.ensures.follows
 
 pub returns-clause-grows : goal.returns-clause-grows
-returns-clause-grows g c = cancel-grows c.args.ty c.args.id (g.F.Flash.device c.args.nv.now) (g.F.Flash.device c.cancel_key.new.nv) c.args.self.now c.cancel_key.new.self c.cancel_key.result
-    c.requires.size c.requires.profile c.requires.signing (omega arith) c.cancel_key.ensures.follows
+returns-clause-grows g c = cancel-grows c.args.ty c.args.id _ _ c.args.self.now c.cancel_key.new.self _ c.requires.size c.requires.profile c.requires.signing (omega arith) c.cancel_key.ensures.follows
 
 pub returns-clause-provision : goal.returns-clause-provision
-returns-clause-provision g c = cancel-provision c.args.ty c.args.id (g.F.Flash.device c.args.nv.now) (g.F.Flash.device c.cancel_key.new.nv) c.args.self.now c.cancel_key.new.self c.cancel_key.result
-    c.requires.size c.requires.profile c.requires.signing (omega arith) c.cancel_key.ensures.follows
+returns-clause-provision g c = cancel-provision c.args.ty c.args.id _ _ c.args.self.now c.cancel_key.new.self _ c.requires.size c.requires.profile c.requires.signing (omega arith) c.cancel_key.ensures.follows
 
 pub returns-clause-exact : goal.returns-clause-exact
-returns-clause-exact g c = cancel-exact c.args.ty c.args.id (g.F.Flash.device c.args.nv.now) (g.F.Flash.device c.cancel_key.new.nv) c.args.self.now c.cancel_key.new.self c.cancel_key.result
-    c.requires.size c.requires.profile c.requires.signing (omega arith) c.cancel_key.ensures.follows c.cancel_key.ensures.ok
+returns-clause-exact g c = cancel-exact c.args.ty c.args.id _ _ c.args.self.now c.cancel_key.new.self _ c.requires.size c.requires.profile c.requires.signing (omega arith) c.cancel_key.ensures.follows c.cancel_key.ensures.ok
 
 pub returns-clause-rest : goal.returns-clause-rest
-returns-clause-rest g c = cancel-rest c.args.ty c.args.id (g.F.Flash.device c.args.nv.now) (g.F.Flash.device c.cancel_key.new.nv) c.args.self.now c.cancel_key.new.self c.cancel_key.result
-    c.requires.size c.requires.profile c.requires.signing (omega arith) c.cancel_key.ensures.follows c.cancel_key.ensures.ok c.cancel_key.ensures.err
+returns-clause-rest g c = cancel-rest c.args.ty c.args.id _ _ c.args.self.now c.cancel_key.new.self _ c.requires.size c.requires.profile c.requires.signing (omega arith) c.cancel_key.ensures.follows c.cancel_key.ensures.ok c.cancel_key.ensures.err
 
 pub returns-clause-count : goal.returns-clause-count
-returns-clause-count g c = cancel-count c.args.ty c.args.id (g.F.Flash.device c.args.nv.now) (g.F.Flash.device c.cancel_key.new.nv) c.args.self.now c.cancel_key.new.self c.cancel_key.result
-    c.requires.size c.requires.profile c.requires.signing (omega arith) c.cancel_key.ensures.follows
+returns-clause-count g c = cancel-count c.args.ty c.args.id _ _ c.args.self.now c.cancel_key.new.self _ c.requires.size c.requires.profile c.requires.signing (omega arith) c.cancel_key.ensures.follows
 
 pub returns-clause-loses : goal.returns-clause-loses
-returns-clause-loses g c = cancel-loses c.args.ty c.args.id (g.F.Flash.device c.args.nv.now) (g.F.Flash.device c.cancel_key.new.nv) c.args.self.now c.cancel_key.new.self c.cancel_key.result
-    c.requires.size c.requires.profile c.requires.signing (omega arith) c.cancel_key.ensures.follows
+returns-clause-loses g c = cancel-loses c.args.ty c.args.id _ _ c.args.self.now c.cancel_key.new.self _ c.requires.size c.requires.profile c.requires.signing (omega arith) c.cancel_key.ensures.follows

@@ -1,21 +1,24 @@
 use Rattle.pfr_calm.proofs.EventLaws.{Turn-belongs}
-use Rattle.pfr_calm.proofs.NoteLaws.{Turn-releases, Turn-locks, Turn-distrusts, Turn-faults, Turn-moved}
+use Rattle.pfr_calm.proofs.NoteLaws.{Turn-releases, Turn-locks, Turn-distrusts, Turn-faults}
+use Rattle.pfr_calm.proofs.Bytes.{have_bytes}
+use Rattle.pfr_calm.proofs.FaultLaws.{Turn-faults_noted}
+use Rattle.pfr_calm.proofs.StepTraces.{Turn-moved}
 use Rattle.pfr_calm.proofs.PowerLaws.{Turn-brings_up}
 use Rattle.pfr_calm.proofs.LossLaws.{Turn-losses, Turn-lost_ends, Turn-notes_off, Turn-stays_quiet}
 use Rattle.pfr_machine.proofs.TurnLemmas.{by_turn, by_both, by_three, provisions_so, keeps_so, lost_is_dark}
 use Rattle.pfr_machine.proofs.platform.Platform.step.Goals as goal
 
 pub returns-clause-released : goal.returns-clause-released
-returns-clause-released g c = by_turn c.work.result c.work.ensures.turn (λ t. Turn-releases _ c.args.event.now _ _ t)
+returns-clause-released g c = by_turn c.work.result c.work.ensures.turn (λ t. Turn-releases _ c.args.event.now _ _ (have_bytes _ c.known.ensures) t)
 
 pub returns-clause-locks : goal.returns-clause-locks
-returns-clause-locks g c = by_turn c.work.result c.work.ensures.turn (λ t. Turn-locks _ c.args.event.now _ _ t)
+returns-clause-locks g c = by_turn c.work.result c.work.ensures.turn (λ t. Turn-locks _ c.args.event.now _ _ (have_bytes _ c.known.ensures) t)
 
 pub returns-clause-brings_up : goal.returns-clause-brings_up
-returns-clause-brings_up g c = by_turn c.work.result c.work.ensures.turn (λ t. Turn-brings_up _ c.args.event.now _ _ t)
+returns-clause-brings_up g c = by_turn c.work.result c.work.ensures.turn (λ t. Turn-brings_up _ c.args.event.now _ _ (have_bytes _ c.known.ensures) t)
 
 pub returns-clause-faults : goal.returns-clause-faults
-returns-clause-faults g c = by_turn c.work.result c.work.ensures.turn (λ t. Turn-faults _ c.args.event.now _ _ t)
+returns-clause-faults g c = by_turn c.work.result c.work.ensures.turn (λ t. Turn-faults _ c.args.event.now _ _ (have_bytes _ c.known.ensures) t)
 
 pub returns-clause-losses : goal.returns-clause-losses
 returns-clause-losses g c = by_turn c.work.result c.work.ensures.turn (λ t. Turn-losses _ c.args.event.now _ _ t)
@@ -46,7 +49,10 @@ returns-clause-dark g c = by_both c.work.result c.work.ensures.turn c.work.ensur
     lost_is_dark c.args.event.now _ _ (Turn-stays_quiet _ c.args.event.now _ _ t) (Turn-lost_ends _ c.args.event.now _ _ t) dark)
 
 pub returns-clause-distrusts : goal.returns-clause-distrusts
-returns-clause-distrusts g c = by_turn c.work.result c.work.ensures.turn (λ t. Turn-distrusts _ c.args.event.now _ _ t)
+returns-clause-distrusts g c = by_turn c.work.result c.work.ensures.turn (λ t. Turn-distrusts _ c.args.event.now _ _ (have_bytes _ c.known.ensures) t)
 
 pub returns-clause-belongs : goal.returns-clause-belongs
 returns-clause-belongs g c = by_turn c.work.result c.work.ensures.turn (λ t. Turn-belongs _ c.args.event.now _ _ t)
+
+pub returns-clause-told : goal.returns-clause-told
+returns-clause-told g c = by_turn c.work.result c.work.ensures.turn (λ t. Turn-faults_noted _ c.args.event.now _ _ t)

@@ -4,7 +4,7 @@ use Rattle.pfr_report.specs.NotesState.{NotesState}
 use Rattle.pfr_report.specs.declared.note.What.TheVariants.{Untrusted}
 use Rattle.pfr_calm.specs.Standing.{standing_of, standing_by}
 use Rattle.pfr_calm.specs.declared.line.Line.{Line}
-use Rattle.pfr_machine.proofs.WakeLemmas.{doubted, doubted_short, doubted_early, doubted_good, placed_noted, this_bank, other_bank}
+use Rattle.pfr_machine.proofs.WakeLemmas.{doubted, doubted_short, doubted_early, placed_noted, this_bank, other_bank}
 use Rattle.pfr_machine.proofs.works.Works.distrust.Goals as goal
 
 pub check_recovery-requires-clause-placed : goal.check_recovery-requires-clause-placed
@@ -25,11 +25,6 @@ pub returns-clause-goes : goal.returns-clause-goes
 returns-clause-goes g c =
     doubted (g.E.Engine.accepts c.args.self.now.engine) c.args.bank c.args.why _ _ (c.note.ensures.ran (λ at. Untrusted c.args.bank c.args.why) refl) _ _ _ _ c.in_ok-against.ensures.goes
     (rw c.note.ensures.engine at c.in_ok-against.ensures.is) c.lock_of.ensures c.lock.ensures.ran
-
-pub returns-clause-good : goal.returns-clause-good
-returns-clause-good g c =
-    doubted_good (g.E.Engine.accepts c.args.self.now.engine) c.args.bank c.args.why _ _ (c.note.ensures.ran (λ at. Untrusted c.args.bank c.args.why) refl) _
-    (rw c.note.ensures.engine at c.in_ok-against.ensures.is) (rw c.note.ensures.engine at c.in_ok-against.ensures.good)
 
 pub returns-clause-stands : goal.returns-clause-stands
 returns-clause-stands g c = record {

@@ -1,5 +1,5 @@
 use Rattle.std.proofs.lemmas.Result.{err_from_is_err_and}
-use Rattle.pfr_machine.proofs.WakeLemmas.{brought, brought_early, brought_short, held_early, shown_if}
+use Rattle.pfr_machine.proofs.WakeLemmas.{brought, brought_early, brought_short, held_early}
 use Rattle.pfr_machine.proofs.works.Works.work_on.Goals as goal
 
 pub returns-in_err-authentication-clause-goes : goal.returns-in_err-authentication-clause-goes
@@ -21,9 +21,3 @@ pub returns-clause-early : goal.returns-clause-early
 returns-clause-early g c =
     brought_early (g.E.Engine.accepts c.args.self.now.engine) c.args.bank _ _ _ _ c.hold.ensures.ran c.in_ok-authentication.ensures.goes (rw c.hold.ensures.engine at c.in_ok-authentication.ensures.is)
     c.conclude.new.self.world c.conclude.result c.conclude.ensures.early
-
-pub returns-clause-shown : goal.returns-clause-shown
-returns-clause-shown g c =
-    shown_if _ c.args.bank _ _ _ _ c.hold.ensures.ran c.in_ok-authentication.ensures.goes (rw c.hold.ensures.engine at c.in_ok-authentication.ensures.is) c.conclude.result
-    (rw c.hold.ensures.engine at c.in_ok-authentication.ensures.backed)
-    (rw (c.authenticate.ensures.engine, c.hold.ensures.engine) at c.conclude.ensures.good)

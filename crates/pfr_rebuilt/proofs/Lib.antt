@@ -1,0 +1,2 @@
+pub mod CopiedLaw
+pub mod ActiveLaw

@@ -1,0 +1,655 @@
+#!/usr/bin/env python3
+"""Prints all definitions that a clause of a public call rests on, bottom up, as one text without imports.
+
+    closure.py [--count | --names] CLAUSE..
+
+A CLAUSE is `crate/clause` where one public function of the crate has a clause of that name, else `crate::function/clause` or
+`crate::Type::function/clause`; nothing behind the slash is the clause without a name. Of several clauses the text has all that
+any of them rests on. What comes first rests on nothing behind it. Definitions are those of crates/*/specs and the types and
+traits that they name of crates/*/src. --count prints the numbers of lines and of files alone, --names a line for each
+definition.
+
+What is taken is each name in scope that a definition writes, so it may be more than is needed, as where a variable has the name
+of a definition. A struct that has a model is shown with the value that contracts see of it, and its fields aren't followed: how
+they stand for that value is a matter of the crate's proofs. Of a value in the signature only the fields are followed that the
+clause names. What belongs to the kit is named at the end, and not printed.
+
+Lines are counted that are neither blank nor the name of a file.
+"""
+
+import os
+import re
+import sys
+
+# Another tool in this folder has the name of a module of Python: it is not to be found here.
+FOLDER = os.path.dirname(os.path.abspath(__file__))
+sys.path[:] = [each for each in sys.path if os.path.abspath(each or ".") != FOLDER]
+
+from collections import namedtuple
+
+CRATES = os.path.join(os.path.dirname(FOLDER), "crates")
+DECLARED = ("TheVariants", "TheInside", "TheConstants")
+USE = re.compile(r"use Rattle\.([\w.]+?)(?:\.\{([^}]*)\})?(?: as (\w+))?\s*;?$")
+DEFINITION = re.compile(r"(?:(?:abbrev|unfoldable|opaque) (?:pub )?|pub )(?:record |data )?([^\s:({]+)")
+TYPE = re.compile(r"^(?:pub(?:\(crate\))? )?(struct|enum|trait) (\w+)")
+FUNCTION = re.compile(r"^\s*pub (?:const )?fn (\w+)")
+TERM = re.compile(r"(?:\b(?:requires|ensures)(?: \w+)?|ghost \w+(?::| =)) \{")
+CLAUSE_HEAD = re.compile(r"\b(requires|ensures)(?: (\w+))? \{")
+
+
+class Unknown(Exception):
+    """Something that the clause names wasn't found, or is written as this tool can't read it."""
+
+
+# Names that a text writes
+
+
+def without_comments(text, mark):
+    return "\n".join(line.split(mark)[0] if line.lstrip().startswith(mark) else line for line in text.split("\n"))
+
+
+def words_of(text):
+    """The words of a term, each as its parts between dots. What stands behind a closed bracket and a dot is a field."""
+    plain = re.sub(r'"[^"]*"', " ", without_comments(text, "--"))
+    words = (word.rstrip(".").split(".") for word in re.split(r"[\s(){},;\[\]]+", plain))
+    return [parts for parts in words if parts[0]]
+
+
+# Imports: what a name stands for, as a module's path and a name in it
+
+
+class Scope:
+    """What names mean in a file, or in a block of it."""
+
+    def __init__(self, module, own=(), outer=None):
+        self.names = dict(outer.names) if outer else {}
+        self.aliases = dict(outer.aliases) if outer else {}
+        self.names.update({name: (module, name) for name in own})
+
+    def add(self, line):
+        """Takes a line of imports."""
+        found = USE.match(line.strip())
+        if not found:
+            raise Unknown("an import that can't be read: %s" % line.strip())
+        path, items, alias = found.groups()
+        if items is None:
+            self.aliases[alias or path.split(".")[-1]] = path
+            return
+        for item in items.split(","):
+            name, _, other = item.strip().partition(" as ")
+            self.names[other.strip() or name] = (path, name)
+
+    def targets(self, parts):
+        """What a word may mean: paths and names, and whether it has to mean them. It needn't where a variable has the name
+        of a module."""
+        if parts[0] in self.aliases and len(parts) > 1:
+            yield self.aliases[parts[0]], parts[1], False
+        for name in [parts[0]] + self.operators(parts[0]):
+            if name in self.names:
+                yield self.names[name] + (True,)
+
+    def operators(self, word):
+        """The operators whose sign the word is. In a `do` all are meant that it may be read as."""
+        if word == "do":
+            return [name for name in self.names if name in ("◌>>=◌", "◌>>◌")]
+        return [name for name in self.names if "◌" in name and word in name.split("◌")]
+
+
+# Definitions of specs
+
+
+# The types are those that a text of Rust names. A struct that is modelled has its value's type as its terms.
+Definition = namedtuple("Definition", "path name text scope terms types modelled", defaults=((), False))
+
+
+def at_left(line):
+    return bool(line) and not line[0].isspace()
+
+
+def chunks_of(lines):
+    """The definitions of a file as lists of lines, each with the comment above it and its own fixity."""
+    chunks, above = [], []
+    for line in lines:
+        begins = DEFINITION.match(line) is not None
+        if line.startswith("--") or line.startswith("infix") or not line.strip():
+            above.append(line)
+        elif begins:
+            chunks.append(above + [line])
+            above = []
+        elif chunks:
+            chunks[-1] += above + [line]
+            above = []
+        else:
+            raise Unknown("a line before the first definition: %s" % line)
+    return chunks
+
+
+def name_of_chunk(chunk):
+    return next(DEFINITION.match(line).group(1) for line in chunk if DEFINITION.match(line))
+
+
+def constructors_of(chunk):
+    """The constructors of a `data`, which are names of their own."""
+    begin = next(index for index, line in enumerate(chunk) if DEFINITION.match(line))
+    if not chunk[begin].startswith("pub data"):
+        return []
+    return [line.split(":")[0].strip() for line in chunk[begin + 1 :] if re.match(r"  \S+ :", line)]
+
+
+def check_equations(chunk, name, path):
+    """Each line at the left behind the first has to be an equation of the same name."""
+    begin = next(index for index, line in enumerate(chunk) if DEFINITION.match(line))
+    signs = [sign for sign in name.split("◌") if sign]
+    for line in chunk[begin + 1 :]:
+        if at_left(line) and not line.startswith(("--", "}")) and not all(sign in line.split() for sign in signs):
+            raise Unknown("%s: a line that is no equation of %s: %s" % (path, name, line))
+
+
+class Specs:
+    """A file of specs."""
+
+    def __init__(self, path, module):
+        with open(os.path.join(CRATES, path), encoding="utf-8") as file:
+            lines = file.read().split("\n")
+        body = [line for line in lines[1:] if not re.match(r"(pub )?use |pub mod ", line)]
+        chunks = chunks_of(body)
+        self.scope = Scope(module)
+        self.definitions = {}
+        for line in lines:
+            if re.match(r"(pub )?use ", line):
+                self.scope.add(line.replace("pub use", "use"))
+        for chunk in chunks:
+            self.take(chunk, path, module)
+
+    def take(self, chunk, path, module):
+        """Takes a definition, under its own name and those of its constructors."""
+        name = name_of_chunk(chunk)
+        check_equations(chunk, name, path)
+        text = "\n".join(chunk).strip("\n")
+        made = Definition(path, name, text, self.scope, text)
+        for each in [name] + constructors_of(chunk):
+            self.definitions[each] = made
+            self.scope.names[each] = (module, each)
+
+
+# Types, traits and functions of src
+
+
+def block_from(lines, begin):
+    """The lines of an item, from where it begins to its closing brace or its semicolon."""
+    indent = len(lines[begin]) - len(lines[begin].lstrip())
+    for end in range(begin, len(lines)):
+        line = lines[end].rstrip()
+        if line == " " * indent + "}" or (line.endswith(";") and end == begin):
+            return lines[begin : end + 1]
+    raise Unknown("an item without end: %s" % lines[begin])
+
+
+def documented(lines, begin):
+    """The comment lines above an item, without its attributes."""
+    above = []
+    while begin and re.match(r"\s*(///|//|#\[)", lines[begin - 1]):
+        begin -= 1
+        above.insert(0, lines[begin])
+    return [line for line in above if not line.lstrip().startswith("#[")]
+
+
+def ghost_scope(lines, module, outer=None, nested=False):
+    """What the imports for contracts say: those at the left of a file, or those inside a block."""
+    scope = Scope(module, (), outer)
+    for line in lines:
+        if re.match(r"\s+ghost use " if nested else r"ghost use ", line):
+            scope.add(line.strip()[len("ghost ") :])
+    return scope
+
+
+def uses_of(text):
+    """What Rust's own imports say: a name's path."""
+    uses = {}
+    for path, items, single in re.findall(r"^(?:pub )?use ([\w:]+?)::(?:\{([^}]*)\}|(\w+));", text, re.M):
+        for item in (items or single).split(","):
+            if item.strip():
+                uses[item.strip().split(" as ")[-1]] = path.split("::") + [item.strip().split(" as ")[0]]
+    return uses
+
+
+def braced(text, at):
+    """The text within the braces that open at a place, and the place behind them."""
+    depth = 0
+    for end in range(at, len(text)):
+        depth += (text[end] == "{") - (text[end] == "}")
+        if depth == 0:
+            return text[at + 1 : end], end + 1
+    raise Unknown("a brace that isn't closed")
+
+
+def terms_in(text):
+    """The terms of a block's clauses and ghost members."""
+    terms = []
+    for found in TERM.finditer(text):
+        terms.append(braced(text, found.end() - 1)[0])
+    return "\n".join(terms)
+
+
+def without_terms(text):
+    """A text of Rust without the terms of its clauses and ghost members."""
+    found = TERM.search(text)
+    while found:
+        text = text[: found.start()] + text[braced(text, found.end() - 1)[1] :]
+        found = TERM.search(text)
+    return text
+
+
+class Rust:
+    """A file of src: its types, traits and impls."""
+
+    def __init__(self, path, crate):
+        with open(os.path.join(CRATES, path), encoding="utf-8") as file:
+            text = file.read()
+        self.path, self.crate, self.lines = path, crate, text.split("\n")
+        self.scope = ghost_scope(self.lines, "")
+        self.uses = uses_of(text)
+        self.types = {found.group(2): at for at, found in self.items(TYPE)}
+
+    def items(self, pattern):
+        found = ((at, pattern.match(line)) for at, line in enumerate(self.lines))
+        return [(at, each) for at, each in found if each]
+
+    def model_of(self, name):
+        """The block `impl Model for` a type, or nothing."""
+        pattern = re.compile(r"impl(?:<.*>)? Model for %s\b" % name)
+        return next((block_from(self.lines, at) for at, _ in self.items(pattern)), None)
+
+    def definition(self, name, inside=False):
+        """The definition of a type or a trait; inside, with the fields that a model hides."""
+        at = self.types[name]
+        block, above = block_from(self.lines, at), documented(self.lines, at)
+        model = None if inside else self.model_of(name)
+        if model:
+            return self.modelled(name, block, above, model)
+        shown = [line for line in block if not line.lstrip().startswith(("#[", "ghost use "))]
+        text = "\n".join(above + shown)
+        code = "\n".join(line for line in shown if not line.lstrip().startswith("//"))
+        scope = ghost_scope(block, "", self.scope, True)
+        return Definition(self.path, name, text, scope, terms_in(code), self.named_types(code))
+
+    def modelled(self, name, block, above, model):
+        """A struct of which contracts see a value."""
+        value = re.search(r"ghost Value = \{(.*?)\};", "\n".join(model), re.S).group(1)
+        head = re.sub(r"\s*[{(;].*$", "", block[0])
+        text = "\n".join(above + ["%s, of which contracts see a value: {%s}" % (head, value)])
+        return Definition(self.path, name, text, ghost_scope(model, "", self.scope, True), value, (), True)
+
+    def named_types(self, code):
+        """The types that a text of Rust names, as paths."""
+        plain = without_terms(code)
+        return tuple(self.type_path(word) for word in sorted(set(re.findall(r"\b[A-Z]\w*", plain))))
+
+    def type_path(self, word):
+        return [self.crate, word] if word in self.types else self.uses.get(word, ["", word])
+
+
+Function = namedtuple("Function", "file type name signature clauses generics scope above")
+
+
+def split_top(text):
+    """The parts between commas that stand in no brackets."""
+    parts, depth = [""], 0
+    for sign in text:
+        depth += (sign in "(<[") - (sign in ")>]")
+        if sign == "," and depth == 0:
+            parts.append("")
+        else:
+            parts[-1] += sign
+    return [part.strip() for part in parts if part.strip()]
+
+
+def clauses_of(text):
+    """The clauses of a function's head, as kind, name and term with its place in the text."""
+    clauses, at = [], 0
+    while True:
+        found = CLAUSE_HEAD.search(text, at)
+        if not found:
+            return clauses
+        term, at = braced(text, found.end() - 1)
+        clauses.append((found.group(1), found.group(2) or "", term))
+
+
+def head_of(block):
+    """A function without its body."""
+    lines, indent = [], len(block[0]) - len(block[0].lstrip())
+    for line in block:
+        if line == " " * indent + "{":
+            break
+        if line.rstrip().endswith(" {") and not CLAUSE_HEAD.search(line) and not lines:
+            return [line.rstrip()[:-2]]
+        lines.append(line)
+    return lines
+
+
+def impl_above(lines, at):
+    """The impl block in which a function stands, or nothing."""
+    if not lines[at].startswith(" "):
+        return []
+    begin = next(index for index in range(at, -1, -1) if re.match(r"(impl|pub trait)\b", lines[index]))
+    return block_from(lines, begin)
+
+
+def bounds_of(text):
+    """The traits that bound each parameter of `<..>`."""
+    bounds = {}
+    for part in split_top(text):
+        name, _, traits = part.partition(":")
+        bounds[name.strip()] = [trait.strip() for trait in traits.split("+") if trait.strip()]
+    return bounds
+
+
+def functions_of(file):
+    """The public functions of a file of src."""
+    functions = []
+    for at, found in file.items(FUNCTION):
+        impl = impl_above(file.lines, at)
+        head = "\n".join(head_of(block_from(file.lines, at)))
+        named = re.match(r"impl(?:<(.*)>)? (?:\w+(?:<.*>)? for )?(\w+)", impl[0]) if impl else None
+        own = re.match(r"\s*pub (?:const )?fn \w+<(.*?)>\(", head)
+        generics = bounds_of((named.group(1) or "") if named else "")
+        generics.update(bounds_of(own.group(1)) if own else {})
+        scope = ghost_scope(impl, "", file.scope, True)
+        signature = re.split(r"\n\s*(?:requires|ensures)\b", head)[0]
+        owner = named.group(2) if named else ""
+        above = documented(file.lines, at)
+        functions.append(Function(file, owner, found.group(1), signature, clauses_of(head), generics, scope, above))
+    return functions
+
+
+def values_of(function):
+    """The types of a function's parameters and of its result, by the names that clauses have for them."""
+    begin = function.signature.index("(")
+    inner = function.signature[begin + 1 : function.signature.rindex(")", 0, (function.signature + " ->").rindex("->"))]
+    values = {"self": function.type, "result": function.signature.partition("->")[2].strip()}
+    for part in split_top(inner):
+        name, _, kind = part.partition(":")
+        values[re.sub(r"^(mut|&mut|&)\s*", "", name.strip())] = kind.strip() or function.type
+    return values
+
+
+# The whole
+
+
+def is_crate(name):
+    return bool(name) and os.path.isdir(os.path.join(CRATES, name))
+
+
+class Project:
+    """All files, read where they are first asked for."""
+
+    def __init__(self):
+        self.specs, self.sources, self.kit = {}, {}, set()
+
+    def specs_of(self, path):
+        """The file of specs that a path names, or None where it is the kit's."""
+        crate, _, rest = path.partition(".specs.")
+        name = "%s/specs/%s.antt" % (crate, rest.replace(".", "/"))
+        if path not in self.specs:
+            found = rest and os.path.isfile(os.path.join(CRATES, name))
+            self.specs[path] = Specs(name, path) if found else None
+        return self.specs[path]
+
+    def files_of(self, crate):
+        """All files of a crate's src but those of its tests."""
+        if crate not in self.sources:
+            folder = os.path.join(CRATES, crate, "src")
+            names = sorted(os.listdir(folder)) if os.path.isdir(folder) else []
+            paths = ["%s/src/%s" % (crate, name) for name in names if name.endswith(".rt") and "tests" not in name]
+            self.sources[crate] = [Rust(path, crate) for path in paths]
+        return self.sources[crate]
+
+    def type_named(self, crate, name, module=None):
+        """The file that defines a type of a crate, or None."""
+        files = [file for file in self.files_of(crate) if name in file.types]
+        if module:
+            files = [file for file in files if file.path == "%s/src/%s.rt" % (crate, module)]
+        if len(files) > 1:
+            raise Unknown("several types %s in %s" % (name, crate))
+        return files[0] if files else None
+
+    def declared(self, path):
+        """The type that a path of declared types means."""
+        crate, _, rest = path.partition(".specs.declared.")
+        parts = [part for part in rest.split(".") if part not in DECLARED]
+        file = self.type_named(crate, parts[-1], "/".join(parts[:-1]) or None)
+        return file.definition(parts[-1], "TheInside" in rest) if file else None
+
+    def meant(self, path, name, sure):
+        """The definition that a path and a name mean; what is of the kit is kept by its name."""
+        if not is_crate(path.split(".")[0]):
+            self.kit.add((path, name))
+            return None
+        if ".specs.declared." in path:
+            found = self.declared(path)
+        else:
+            specs = self.specs_of(path)
+            found = specs.definitions.get(name) if specs else None
+        if sure and not found:
+            raise Unknown("nothing named %s in %s" % (name, path))
+        return found
+
+    def rust_type(self, crate, path):
+        """The type that a path of Rust means, or None where it is the kit's."""
+        owner = crate if path[0] == "crate" else path[0]
+        if not is_crate(owner):
+            return None
+        file = self.type_named(owner, path[-1], "/".join(path[1:-1]))
+        if file:
+            return file.definition(path[-1])
+        library = next((each for each in self.files_of(owner) if each.path == owner + "/src/lib.rt"), None)
+        if not library or not is_crate(library.uses.get(path[-1], [""])[0]):
+            raise Unknown("no type %s in %s" % (path[-1], owner))
+        return self.rust_type(owner, library.uses[path[-1]])
+
+    def needed(self, definition):
+        """What a definition rests on."""
+        crate = definition.path.split("/")[0]
+        found = [self.rust_type(crate, path) for path in definition.types]
+        for parts in words_of(definition.terms):
+            found += [self.meant(*target) for target in definition.scope.targets(parts)]
+        return unique(each for each in found if each and key_of(each) != key_of(definition))
+
+
+def key_of(definition):
+    return definition.path, definition.name, definition.text
+
+
+def unique(definitions):
+    return list({key_of(each): each for each in definitions}.values())
+
+
+# From a clause to the text
+
+
+def functions_named(project, crate, words):
+    """The public functions that the words behind a crate's name mean."""
+    found = [function for file in project.files_of(crate) for function in functions_of(file)]
+    if not words:
+        return found
+    named = [each for each in found if each.name == words[-1] and (len(words) == 1 or each.type == words[0])]
+    return [each for each in named if len(words) > 1 or not each.type] or named
+
+
+def clause_of(project, asked):
+    """The function and the clause that were asked for."""
+    place, slash, name = asked.partition("/")
+    crate, *words = place.split("::")
+    found = [
+        (function, clause)
+        for function in functions_named(project, crate, words)
+        for clause in function.clauses
+        if slash and clause[0] == "ensures" and clause[1] == name
+    ]
+    if len(found) > 1 and not words:
+        found = [each for each in found if each[0].name == crate] or found
+    if len(found) != 1:
+        names = ["::".join(filter(None, (crate, each.type, each.name))) for each, _ in found]
+        raise Unknown("%s is %s" % (asked, "any of " + ", ".join(names) if found else "no clause of a public function"))
+    return found[0]
+
+
+def fields_named(term, value):
+    """The fields of a value that a term names, or None where it names it whole."""
+    fields = set()
+    for parts in words_of(term):
+        if parts[0] == value:
+            rest = [part for part in parts[1:] if part not in ("now", "old", "new")]
+            if not rest:
+                return None
+            fields.add(rest[0])
+    return fields
+
+
+def followed_types(project, function, term, value, kind):
+    """The types that a value of the signature brings in: its own, or those of its fields that are named."""
+    file = function.file
+    fields = fields_named(term, value)
+    paths = [file.type_path(word) for word in re.findall(r"\b[A-Z]\w*", kind)]
+    types = [project.rust_type(file.crate, path) for path in paths]
+    known = [each for each in types if each]
+    if fields is None:
+        return known
+    return [
+        each if each.modelled else each._replace(types=field_types(project, each, fields), terms="") for each in known
+    ]
+
+
+def field_types(project, definition, fields):
+    """The types of some fields of a struct, as paths."""
+    crate = definition.path.split("/")[0]
+    file = next(each for each in project.files_of(crate) if each.path == definition.path)
+    lines = [line for line in definition.text.split("\n") if re.match(r"\s*(pub )?(%s):" % "|".join(fields), line)]
+    words = re.findall(r"\b[A-Z]\w*", "\n".join(line.partition(":")[2] for line in lines))
+    return tuple(file.type_path(word) for word in words)
+
+
+def asked_definition(project, function, clause):
+    """The clause as a definition of its own, with its function's signature and conditions; and what its values bring in."""
+    shown = [each for each in function.clauses if each[0] == "requires"] + [clause]
+    indent = " " * (len(function.signature) - len(function.signature.lstrip()))
+    lines = ["%s    %s {%s}" % (indent, " ".join(filter(None, (kind, name))), term) for kind, name, term in shown]
+    text = "\n".join(function.above + [function.signature] + lines)
+    term = "\n".join(each[2] for each in shown)
+    values = [item for item in values_of(function).items() if any(parts[0] == item[0] for parts in words_of(term))]
+    brought = [each for value, kind in values for each in followed_types(project, function, term, value, kind)]
+    traits = [trait for name in function.generics for trait in function.generics[name] if re.search(r"\b%s\." % name, term)]
+    brought += [project.rust_type(function.file.crate, function.file.type_path(trait)) for trait in traits]
+    name = "%s/%s" % (function.name, clause[1])
+    asked = Definition(function.file.path, name, text, function.scope, term)
+    return asked, unique(each for each in brought if each)
+
+
+def reached(project, asked_clauses):
+    """All definitions that clauses rest on, the clauses too, each with what it rests on."""
+    graph, waiting = {}, []
+    for asked, brought in asked_clauses:
+        graph[key_of(asked)] = (asked, unique(brought + project.needed(asked)))
+        waiting += graph[key_of(asked)][1]
+    while waiting:
+        definition = waiting.pop()
+        if key_of(definition) not in graph:
+            graph[key_of(definition)] = (definition, project.needed(definition))
+            waiting += graph[key_of(definition)][1]
+    return graph
+
+
+# The order
+
+
+def ready(graph, done, keys):
+    """Of some definitions those that can be printed now, or come to be by one another."""
+    found, more = set(), True
+    while more:
+        more = [key for key in keys if key not in found and graph[key] <= done | found]
+        found |= set(more)
+    return found
+
+
+def file_groups(graph, order):
+    """The keys in groups of one file each, each group resting on those before it. A circle is broken at its first."""
+    left, done, groups = list(order), set(), []
+    while left:
+        by_file = {path: [key for key in left if key[0] == path] for path in dict.fromkeys(key[0] for key in left)}
+        options = [(path, ready(graph, done, keys)) for path, keys in by_file.items()]
+        whole = [(path, keys) for path, keys in options if len(keys) == len(by_file[path])]
+        path, keys = next(iter(whole or [each for each in options if each[1]] or [(left[0][0], set(left[:1]))]))
+        groups.append((path, [key for key in order if key in keys]))
+        done |= keys
+        left = [key for key in left if key not in done]
+    return groups
+
+
+def place_of(key, files):
+    """Where a definition stands: its file, and the place in it of its first line that is no comment."""
+    path, _, text = key
+    if path not in files:
+        with open(os.path.join(CRATES, path), encoding="utf-8") as file:
+            files[path] = file.read()
+    first = next(line for line in text.split("\n") if not line.lstrip().startswith(("--", "//")))
+    return path, files[path].find(first.split(", of which contracts")[0])
+
+
+def kit_lines(project):
+    """The kit's names, a line for each of its modules."""
+    modules = {}
+    for path, name in sorted(project.kit):
+        modules.setdefault(path, []).append(name)
+    return ["-- %s: %s" % (path, " ".join(names)) for path, names in modules.items()]
+
+
+def is_counted(line):
+    return bool(line.strip()) and not line.startswith("-- crates/")
+
+
+def closure(clauses):
+    """The groups of files that clauses rest on, and the names that are the kit's."""
+    project = Project()
+    asked = [asked_definition(project, *clause_of(project, each)) for each in clauses]
+    graph = reached(project, asked)
+    rests_on = {key: {key_of(need) for need in needed} for key, (_, needed) in graph.items()}
+    files, last = {}, [key_of(each) for each, _ in asked]
+    order = sorted((key for key in graph if key not in last), key=lambda key: place_of(key, files)) + last
+    groups = [(path, [graph[key][0] for key in keys]) for path, keys in file_groups(rests_on, order)]
+    return groups, kit_lines(project)
+
+
+def text_of(groups):
+    parts = []
+    for path, definitions in groups:
+        parts.append("-- crates/%s" % path)
+        parts += [each.text for each in definitions]
+    return "\n\n".join(parts)
+
+
+def main(words):
+    options = [word for word in words if word.startswith("-")]
+    clauses = [word for word in words if not word.startswith("-")]
+    if not clauses or any(option not in ("--count", "--names") for option in options):
+        print(__doc__, file=sys.stderr)
+        return 2
+    try:
+        groups, kit = closure(clauses)
+    except Unknown as unknown:
+        print("closure: %s" % unknown, file=sys.stderr)
+        return 1
+    text = text_of(groups)
+    count = sum(is_counted(line) for line in text.split("\n"))
+    total = "%d lines, %d files" % (count, len({path for path, _ in groups}))
+    if "--names" in options:
+        print("\n".join("%s %s" % (path, each.name) for path, definitions in groups for each in definitions))
+    elif "--count" in options:
+        print(total)
+    else:
+        print("-- What %s rests on, bottom up.\n" % " and ".join(clauses))
+        print(text + "\n\n-- Of the kit:\n" + "\n".join(kit) + "\n\n-- " + total)
+    return 0
+
+
+if __name__ == "__main__":
+    sys.exit(main(sys.argv[1:]))
