@@ -126,7 +126,14 @@ fn change_manifest(
 fn version_of(rt: &impl Abort, alloc: Global, svn: u8) -> Result<Description, Fail> {
     let text = small_text(alloc, Form::One)?;
     let line = format!(in alloc; "svn = {}\n", svn)?;
-    let text = changed_behind(rt, alloc, text.as_str(), "[bmc]", "svn = 3\n", line.as_str())?;
+    let text = changed_behind(
+        rt,
+        alloc,
+        text.as_str(),
+        "[bmc]",
+        "svn = 3\n",
+        line.as_str(),
+    )?;
     Ok(read_description(alloc, text.as_bytes())?)
 }
 
@@ -145,7 +152,10 @@ fn versions(rt: HostRuntime) -> Result<(), Fail> {
 
 // A region of the BMC's bank, without a hash.
 fn region(alloc: Global, start: u32, end: u32) -> Result<String, Fail> {
-    Ok(format!(in alloc; "[[bmc.regions]]\nstart = {}\nend = {}\nmask = 11\nhash = \"none\"\npages = \"keep\"\n", start, end)?)
+    Ok(format!(in alloc;
+        "[[bmc.regions]]\nstart = {}\nend = {}\nmask = 11\nhash = \"none\"\npages = \"keep\"\n",
+        start, end
+    )?)
 }
 
 // So many regions of this length from 0x10000 on, that begin so many bytes apart, around the bank's areas.
