@@ -2,11 +2,9 @@
 #![tactic(auto)]
 
 #[cfg(test)]
+mod calls_tests;
+#[cfg(test)]
 mod capsule_tests;
-#[cfg(test)]
-mod check_tests;
-#[cfg(test)]
-mod description_tests;
 #[cfg(test)]
 mod fixtures;
 #[cfg(test)]
@@ -14,15 +12,9 @@ mod manifest_rules;
 #[cfg(test)]
 mod manifest_tests;
 #[cfg(test)]
-mod platform_tests;
-#[cfg(test)]
-mod script_tests;
-#[cfg(test)]
-mod signing;
+mod operations_tests;
 #[cfg(test)]
 mod small;
-#[cfg(test)]
-mod tool_tests;
 
 use pfr::{Status, pfr};
 use pfr_shelf::{FileShelf, OutSink};

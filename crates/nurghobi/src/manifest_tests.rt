@@ -6,7 +6,7 @@ use crate::manifest_rules::first_broken;
 use crate::small::{small_image, small_platform};
 use pfr_flash::{Bank, Flash, Layout, MemFlash};
 use pfr_manifest::Manifest;
-use pfr_tool::{Form, make_bank};
+use pfr_tool::make_bank;
 use std::process::Abort;
 use std::test::Fail;
 
@@ -57,7 +57,7 @@ fn want_rules(
 #[test]
 fn each_byte_of_the_manifest(rt: HostRuntime) -> Result<(), Fail> {
     let alloc = rt.alloc();
-    let desc = small_platform(alloc, Form::One)?;
+    let desc = small_platform(alloc)?;
     let image = small_image(alloc)?;
     let made = make_bank(alloc, &desc, Bank::Bmc, image.as_slice(), &[])?;
     let bytes = made.flash.into_vec();

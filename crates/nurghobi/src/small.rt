@@ -1,9 +1,8 @@
-// The small platform: the text of its description, changes of it, and its image.
+// The small platform: the text of its description, and its image.
 ghost use Rattle.std.specs.Prelude.{◌≡◌, vec_len, IfOk};
 
-use pfr_tool::{Description, Form, read_description};
+use pfr_tool::{Description, read_description};
 use std::alloc::Global;
-use std::process::Abort;
 use std::test::Fail;
 
 const SIZE: usize = 0x10_0000;
@@ -12,7 +11,8 @@ const FILLED_FROM: usize = 0x1_0000;
 
 const FILLED_TO: usize = 0x2_2000;
 
-const ROOT: &str = r#"[root]
+const TOP: &str = r#"curve = 256
+[root]
 x = "111111111111111111111111111111111111111111111111111111111111111111111111111111111111111111111111"
 y = "222222222222222222222222222222222222222222222222222222222222222222222222222222222222222222222222"
 "#;
@@ -20,6 +20,7 @@ y = "222222222222222222222222222222222222222222222222222222222222222222222222222
 // The BMC's bank: a copied region that is static, one that is not, and one that is erased. The PCH's is like it.
 const BMC: &str = r#"[bmc]
 image = "bmc.image"
+staged = "bmc.staged"
 size = 1048576
 svn = 3
 bkc = 1
@@ -65,41 +66,15 @@ address = 46
 commands = "0000010001000000000000000000000000000000000000000000000000000000"
 "#;
 
-// A description without a form is of form 1.
-fn form_line(form: Form) -> &'static str {
-    match form {
-        Form::One => "",
-        Form::Two => "form = 2\n",
-    }
-}
-
-// The description of the small platform, with signature blocks of a form.
-pub fn small_text(alloc: Global, form: Form) -> Result<String, Fail> {
+// The description of the small platform, with a staged file for each bank.
+pub fn small_text(alloc: Global) -> Result<String, Fail> {
     let pch = BMC.replace(alloc, "bmc", "pch")?;
-    Ok(format!(in alloc; "curve = 256\n{}{}{}{}", form_line(form), ROOT, BMC, pch)?)
+    Ok(format!(in alloc; "{}{}{}", TOP, BMC, pch)?)
 }
 
-// The text with another part in place of the first such behind a place.
-pub fn changed_behind(
-    rt: &impl Abort,
-    alloc: Global,
-    text: &str,
-    place: &str,
-    old: &str,
-    new: &str,
-) -> Result<String, Fail> {
-    let Some((before, rest)) = text.split_once(place) else {
-        panic!(rt; "no {place}");
-    };
-    let Some((kept, behind)) = rest.split_once(old) else {
-        panic!(rt; "no {old} behind {place}");
-    };
-    Ok(format!(in alloc; "{}{}{}{}{}", before, place, kept, new, behind)?)
-}
-
-// The small platform, with signature blocks of a form.
-pub fn small_platform(alloc: Global, form: Form) -> Result<Description, Fail> {
-    let text = small_text(alloc, form)?;
+// The small platform.
+pub fn small_platform(alloc: Global) -> Result<Description, Fail> {
+    let text = small_text(alloc)?;
     Ok(read_description(alloc, text.as_bytes())?)
 }
 

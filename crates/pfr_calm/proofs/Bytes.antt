@@ -1,5 +1,7 @@
 -- Devices that hold bytes, at an earlier moment too.
-use Rattle.std.proofs.Common.{◌≡◌, ◌++◌, List, All, All-append_left, sym, ap, subst}
+use Rattle.std.proofs.Common.{◌≡◌, ◌∙◌, List, All, length, take, ap, subst, arith}
+use Rattle.std.proofs.lemmas.List.{take-append-le, take_all}
+use Rattle.std.proofs.lemmas.List.Elements.{All-take}
 use Rattle.pfr_flash.specs.Bytes.{AreBytes}
 use Rattle.pfr_flash.specs.FlashState.{FlashState}
 use Rattle.pfr_flash.specs.Holding.{WritesBytes, HoldsBytes}
@@ -30,7 +32,10 @@ have_bytes w h = record { bmc = had w.bmc h.bmc; pch = had w.pch h.pch; nv = had
 had_before : (old new : FlashState) → Moved old new → HadBytes new → HadBytes old
 had_before old new m h = record {
   start = subst AreBytes m.start h.start;
-  ops = All-append_left old.ops m.ops.more (subst (λ (ops : List Operation). All WritesBytes ops) m.ops.is h.ops);
+  ops =
+      let count = length old.ops in
+      let front : take count new.ops ≡ old.ops = ap (λ (ops : List Operation). take count ops) m.ops.is ∙ take-append-le count old.ops m.ops.more (omega arith) ∙ take_all count old.ops (omega arith) in
+      subst (λ (ops : List Operation). All WritesBytes ops) front (All-take WritesBytes count new.ops h.ops);
 }
 
 pub have_before : (old new : World) → AllMoved old new → HaveBytes new → HaveBytes old

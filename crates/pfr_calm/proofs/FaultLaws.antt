@@ -1,7 +1,6 @@
 -- A fault that a device answered is noted.
-use Rattle.std.proofs.Common.{◌≡◌, refl, sym, ap, subst, ◌∙◌, Bool, true, false, List, [], ◌∷◌, ◌++◌, ℕ, length, drop, Some, None, ◌⊎◌, inl, inr}
+use Rattle.std.proofs.Common.{◌≡◌, refl, sym, ap, subst, Bool, true, false, List, [], ◌∷◌, ℕ, length, drop, Some, None, ◌⊎◌, inl, inr}
 use Rattle.std.specs.Prelude.{slice_index_or}
-use Rattle.pfr_flash.specs.declared.flash.FlashFail.TheVariants.{Fault, Lost as Loses}
 use Rattle.pfr_flash.specs.declared.names.Bank.{Bank}
 use Rattle.pfr_flash.specs.declared.names.Bank.TheVariants as bank
 use Rattle.pfr_flash.specs.declared.names.Counts.{Counts}
@@ -19,13 +18,12 @@ use Rattle.pfr_report.specs.declared.note.LockWhy.TheVariants as why
 use Rattle.pfr_report.specs.declared.note.Note.{Note}
 use Rattle.pfr_report.specs.declared.note.What.{What}
 use Rattle.pfr_report.specs.declared.note.What.TheVariants as what
-use Rattle.pfr_calm.specs.Story.{Story, Move, Says, Does, after, noted, operated, counts_of}
-use Rattle.pfr_calm.specs.World.{World, NoneFailed, story_of, state_at}
-use Rattle.pfr_calm.specs.Goes.{Ran}
-use Rattle.pfr_calm.specs.Course.{Stretch, Crosses, Faults, LosesPower, Steps, goes_on_if, lost}
+use Rattle.pfr_calm.specs.Story.{Story, Move, Says, Does, after, noted, counts_of}
+use Rattle.pfr_calm.specs.World.{World, NoneFailed, story_of}
+use Rattle.pfr_calm.specs.Course.{Stretch, Faults, LosesPower, Steps, goes_on_if, lost}
 use Rattle.pfr_calm.specs.Standing.{standing_of, is_off}
-use Rattle.pfr_calm.specs.Turn.{Course, Turn, Follows, bank_or_store, bank_stretch, bank_stretches, course, fault_of, fuse_stretch, is_store, next_item, provision_stretch, where_off, ignored}
-use Rattle.pfr_calm.specs.Promises.{added, IsFaultLock, IsUndisturbed, FaultsAreNoted}
+use Rattle.pfr_calm.specs.Turn.{Course, Turn, Follows, bank_stretch, course, next_item, provision_stretch, where_off, ignored}
+use Rattle.pfr_calm.specs.Promises.{IsFaultLock, IsUndisturbed, FaultsAreNoted}
 use Rattle.pfr_calm.specs.Run.{armed, Did, Reached}
 use Rattle.pfr_calm.proofs.Sequence.{NoneFailed-refl, NoneFailed-trans}
 use Rattle.pfr_calm.proofs.PowerLaws.{Extends, extends_by, extends_refl, extends_trans, in_between, extends_after}
@@ -58,8 +56,8 @@ module _ (base last : List Note) (calm : IsUndisturbed (drop (length base) last)
   not_told (Says w ∷ moves) story (inl k) p q =
       let note : Note = record { item = story.item; what = w (counts_of story) } in
       let here = in_between base story.notes last note p (extends_trans (noted w story).notes (after moves (noted w story)).notes last (extends_after moves (noted w story)) q) in
-      let is : w (counts_of story) ≡ what.Locked k.0 k.1 (counts_of story) = ap (λ (f : Counts → What). f (counts_of story)) k.2.1 in
-      no_fault_lock (drop (length base) last) k.0 k.1 (counts_of story) k.2.0 calm (subst (λ (x : What). IsNoted (drop (length base) last) x) is here)
+      let is : w (counts_of story) ≡ what.Locked k.0 k.1 (counts_of story) = ap (λ (f : Counts → What). f (counts_of story)) k.3 in
+      no_fault_lock (drop (length base) last) k.0 k.1 (counts_of story) k.2 calm (subst (λ (x : What). IsNoted (drop (length base) last) x) is here)
   not_told (Says w ∷ moves) story (inr t) p q =
       not_told moves (noted w story) t (extends_trans base story.notes (noted w story).notes p (record { more = record { item = story.item; what = w (counts_of story) } ∷ []; is = refl })) q
   not_told (Does which op ∷ moves) story t p q = t

@@ -1,21 +1,21 @@
 -- Fuses are never taken back, and a provision never changes.
-use Rattle.std.proofs.Common.{◌≡◌, ◌∙◌, refl, sym, ap, subst, ℕ, ◌<◌, ◌≤◌, arith, Bool, true, false, List, [], ◌∷◌, ◌++◌, length, length-append, take, drop, All, Result, Ok, Err, inr}
+use Rattle.std.proofs.Common.{◌≡◌, ◌∙◌, refl, sym, ap, subst, ℕ, ◌≤◌, arith, Bool, true, false, List, [], ◌∷◌, ◌++◌, length, length-append, Result, Ok, Err, inr}
 use Rattle.std.specs.Prelude.{slice_index_or}
 use Rattle.std.proofs.lemmas.Bool.{false≢true}
-use Rattle.std.proofs.lemmas.List.{append-nil, take_all}
+use Rattle.std.proofs.lemmas.List.{append-nil}
 use Rattle.pfr_flash.specs.Bytes.{AreBytes, bytes_at, continued}
 use Rattle.pfr_flash.proofs.AreBytesLemmas.{AreBytes-append, AreBytes-bytes_at, AreBytes-continued}
 use Rattle.pfr_flash.proofs.CutLemmas.{at_each}
 use Rattle.pfr_calm.proofs.Bytes.{HaveBytes, image_bytes}
-use Rattle.pfr_flash.specs.Operation.{Operation, Erase, Program, Torn, applied, play}
+use Rattle.pfr_flash.specs.Operation.{Operation, play}
 use Rattle.pfr_flash.specs.FlashState.{FlashState, now, upto, size_of, op_count_of}
 use Rattle.pfr_flash.specs.Moved.{Extends}
 use Rattle.pfr_flash.specs.Plan.{IsPart, DoesPart}
 use Rattle.pfr_flash.specs.Range.{AllWithin}
-use Rattle.pfr_flash.proofs.MovedLemmas.{Extends-trans, Extends-length}
+use Rattle.pfr_flash.proofs.MovedLemmas.{Extends-trans}
 use Rattle.pfr_flash.proofs.PlayLemmas.{length-play}
-use Rattle.pfr_flash.proofs.StateLemmas.{upto-Extends}
 use Rattle.pfr_flash.specs.declared.names.Bank.TheVariants as bank
+use Rattle.pfr_flash.specs.declared.names.Device.TheVariants as device
 use Rattle.pfr_engine.specs.Acceptance.{Acceptance}
 use Rattle.pfr_fuses.specs.Changes.{migration, migrated, AreRows}
 use Rattle.pfr_fuses.specs.FusesState.{FusesState}
@@ -40,7 +40,7 @@ use Rattle.pfr_script.specs.declared.event.Event.TheVariants as event
 use Rattle.pfr_script.specs.declared.item.Item.{Item}
 use Rattle.pfr_script.specs.declared.item.Item.TheVariants as item
 use Rattle.pfr_calm.specs.Story.{Past, Story}
-use Rattle.pfr_calm.specs.World.{World, AreDevices, story_of}
+use Rattle.pfr_calm.specs.World.{World, story_of}
 use Rattle.pfr_calm.specs.Plans.{migration_in, migration_by}
 use Rattle.pfr_calm.specs.Goes.{Ran}
 use Rattle.pfr_calm.specs.Course.{Steps}

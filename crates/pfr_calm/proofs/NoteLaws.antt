@@ -18,8 +18,8 @@ use Rattle.pfr_report.specs.declared.note.LockWhy.TheVariants as why
 use Rattle.pfr_report.specs.declared.note.Note.{Note}
 use Rattle.pfr_report.specs.declared.note.What.{What}
 use Rattle.pfr_report.specs.declared.note.What.TheVariants as what
-use Rattle.pfr_calm.specs.Story.{Past, Story, Move, after, counts_of, device_of, image_at, image_of, past_at}
-use Rattle.pfr_calm.specs.World.{World, story_of, state_at, AllMoved}
+use Rattle.pfr_calm.specs.Story.{Past, Story, counts_of, device_of, image_at, image_of, past_at}
+use Rattle.pfr_calm.specs.World.{World, story_of, state_at}
 use Rattle.pfr_calm.specs.Spans.{count_at}
 use Rattle.pfr_calm.specs.Turn.{next_item, Turn}
 use Rattle.pfr_calm.specs.Promises.{added, IsDue, IsFaultLock, FaultsHaveCauses, ReleasesTrusted, LocksHaveCauses, DistrustsWithCause}
@@ -27,7 +27,7 @@ use Rattle.pfr_calm.proofs.Bytes.{HaveBytes}
 use Rattle.pfr_calm.proofs.Traces.{Begins, Precedes}
 use Rattle.pfr_calm.proofs.Facts.{Setting, Fact, LockFact, IsLater, IsLater-refl}
 use Rattle.pfr_calm.proofs.StretchLaws.{Between, MayProvision, works, refused}
-use Rattle.pfr_calm.proofs.StepTraces.{MayTurn, Turn-known, Turn-moved, Turn-traced}
+use Rattle.pfr_calm.proofs.StepTraces.{MayTurn, Turn-known}
 
 -- ---- what a device held at a moment, by its count then
 abbrev pub past_upto : Past → ℕ → List ℕ
@@ -96,15 +96,8 @@ plain_between : (accepts : Acceptance) (old new : World) (held : HaveBytes new) 
 unfolding plain
 plain_between accepts old new held = record { before = IsLater-next old; behind = IsLater-refl new }
 
--- the moves of a step
-pub Turn-trace : (accepts : Acceptance) (e : Event) (old new : World) → HaveBytes new → Turn accepts e old new → (trace : List Move) × (story_of new ≡ after trace (story_of (next_item old)))
-unfolding plain
-Turn-trace accepts e old new held t =
-    let traced = Turn-traced (plain accepts old new held) e old new (plain_between accepts old new held) (plain_may accepts e old new held (next_item old)) t in
-    (traced.trace, traced.is)
-
 -- what is known of each note that a step added
-pub step_known : (accepts : Acceptance) (e : Event) (old new : World) → HaveBytes new → Turn accepts e old new → (that : What) → IsNoted (added old new) that
+pub step_known : (accepts : Acceptance) (e : Event) (old new : World) (held : HaveBytes new) → Turn accepts e old new → (that : What) → IsNoted (added old new) that
     → (at : Story) × Fact (plain accepts old new held) that at × Precedes at (story_of new)
 unfolding plain
 step_known accepts e old new held t that n =

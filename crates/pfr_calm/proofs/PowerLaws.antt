@@ -34,6 +34,8 @@ use Rattle.pfr_calm.specs.Promises.{added, counts_in, IsCalm, IsDue, IsAgainst, 
 use Rattle.pfr_calm.specs.Authentication.{HasGoodRecovery, HasBadRecovery}
 use Rattle.pfr_calm.specs.declared.authentication.Authentication.{Authentication}
 use Rattle.pfr_calm.specs.declared.authentication.Authentication.TheVariants.{Unprovisioned, SlotsSpent, BadLayout, Untrusted, Trusted}
+use Rattle.pfr_calm.proofs.Sequence.{AllMoved-trans}
+use Rattle.pfr_calm.proofs.StepTraces.{Steps-moved}
 use Rattle.pfr_calm.proofs.Bytes.{HaveBytes, have_before, image_bytes}
 use Rattle.pfr_calm.proofs.Findings.{Found, unset, spent, misplaced, distrusted, trusted, found, RecoveryFound, recovery_found, good_bad, bad_once, not_unset, noted_append, noted_left, noted_right, same_lock, same_release, same_cause, misplaced_valid, misplaced_once, against_trusted, against_once, trusted_once, not_trusted}
 
@@ -366,7 +368,7 @@ extends_trans a b c p q = record { more = p.more ++ q.more; is = q.is ∙ ap (λ
 pub extends_refl : (a : List Note) → Extends a a
 extends_refl a = record { more = []; is = sym (append-nil a) }
 
-extends_after : (moves : List Move) (story : Story) → Extends story.notes (after moves story).notes
+pub extends_after : (moves : List Move) (story : Story) → Extends story.notes (after moves story).notes
 extends_after [] story = extends_refl story.notes
 extends_after (Says w ∷ moves) story =
     extends_trans story.notes (noted w story).notes (after moves (noted w story)).notes (record { more = record { item = story.item; what = w (counts_of story) } ∷ []; is = refl }) (extends_after moves (noted w story))

@@ -1,0 +1,191 @@
+"""The files of a case: its lines make them and edit them. A name that begins with `@` is kept apart and never written."""
+
+from __future__ import annotations
+
+import hashlib
+import os
+import re
+
+import maker
+from case_reader import CaseFault
+from platforms import description_of, made_platform
+
+TOP = os.path.dirname(os.path.dirname(os.path.abspath(__file__)))
+CHUNK = 1 << 20
+COUNTED = re.compile(r"\{(\d+)\+(\d+)\}")
+
+
+class Zeros:
+    """So many zeros, that are written as a hole."""
+
+    def __init__(self, count):
+        self.count = count
+
+
+def data_of(text):
+    return text.encode("utf-8", "surrogateescape")
+
+
+def block_text(block):
+    """The bytes of lines of text, each with its newline."""
+    return data_of("".join(line + "\n" for line in block))
+
+
+class Files:
+    """What the names of a case hold."""
+
+    def __init__(self):
+        self.held = {}
+        self.folders = set()
+        self.sealed = set()
+
+    def get(self, name):
+        """What a name holds; one that begins with `:` is of the repository."""
+        if name.startswith(":"):
+            with open(os.path.join(TOP, name[1:]), "rb") as file:
+                return file.read()
+        if name not in self.held:
+            raise CaseFault(f"no file {name}")
+        return self.held[name]
+
+    def put_at(self, name, at, part):
+        found = self.get(name)
+        if at + len(part) > len(found):
+            raise CaseFault(f"{len(part)} bytes at {at} pass the end of {name}")
+        self.held[name] = found[:at] + part + found[at + len(part) :]
+
+    # ---- the lines
+
+    def platform(self, name, *options):
+        """platform NAME [OPTION..]: the files of a platform. With `as=PREFIX` they are kept apart, as @PREFIX.bmc and so on."""
+        given = [option for option in options if not option.startswith(("as=", "staged="))]
+        named = dict(option.split("=", 1) for option in options if option not in given)
+        staged = named.get("staged", "")
+        staged = staged if staged == "own" else bytes(self.get(staged)) if staged else b""
+        prefix = "@" + named["as"] + "." if "as" in named else ""
+        for file, content in made_platform(name, tuple(given), staged).items():
+            self.held[("" if prefix else "@" if "." in file else "") + prefix + file] = content
+
+    def source(self, name):
+        """source NAME: the images that a description of a platform names."""
+        description = description_of(name)
+        for bank in maker.BANKS:
+            self.held[bank + ".image"] = description[bank]["image"]
+
+    def copy(self, source, target):
+        """copy FROM TO"""
+        self.held[target] = self.get(source)
+
+    def text(self, name, *words, block=()):
+        """text NAME [TEXT]: the text of the word, or the lines of the block."""
+        self.held[name] = data_of(words[0]) if words else block_text(block)
+
+    def script(self, *words, block=()):
+        """script [TEXT]: the same for the script."""
+        self.text("script", *words, block=block)
+
+    def fill(self, name, count, byte="ff"):
+        """fill NAME COUNT [BYTE]: so many bytes that are alike."""
+        self.held[name] = bytes.fromhex(byte) * int(count, 0)
+
+    def zeros(self, name, count):
+        """zeros NAME COUNT: the same of zeros, as a hole."""
+        self.held[name] = Zeros(int(count, 0))
+
+    def folder(self, name):
+        """folder NAME: a folder has the name."""
+        self.folders.add(name)
+
+    def seal(self, name):
+        """seal NAME: the file can be read, and nobody can write it."""
+        self.get(name)
+        self.sealed.add(name)
+
+    def turn(self, name, at, bits):
+        """turn NAME AT BITS: turns over bits of the bytes from a place on."""
+        at, bits = int(at, 0), bytes.fromhex(bits)
+        old = self.get(name)[at : at + len(bits)]
+        self.put_at(name, at, bytes(a ^ b for a, b in zip(old, bits)))
+
+    def put(self, name, at, part):
+        """put NAME AT HEX: other bytes from a place on."""
+        self.put_at(name, int(at, 0), bytes.fromhex(part))
+
+    def number(self, name, at, value):
+        """number NAME AT N: four bytes, the lowest first."""
+        self.put_at(name, int(at, 0), maker.number(int(value, 0)))
+
+    def into(self, source, begin, end, name, at):
+        """into FROM BEGIN END NAME AT: bytes of another file from a place on."""
+        self.put_at(name, int(at, 0), self.get(source)[int(begin, 0) : int(end, 0)])
+
+    def append(self, name, source):
+        """append NAME FROM"""
+        self.held[name] = self.get(name) + self.get(source)
+
+    def keep(self, name, count):
+        """keep NAME COUNT: its first bytes alone."""
+        self.held[name] = self.get(name)[: int(count, 0)]
+
+    def change(self, name, old, new, *places):
+        """change NAME OLD NEW [PLACE]: each such text; or the first one behind the first such place."""
+        found, old, new = self.get(name), data_of(old), data_of(new)
+        place = data_of(places[0]) if places else b""
+        before, mark, rest = found.partition(place) if place else (b"", b"", found)
+        if old not in rest or mark != place:
+            raise CaseFault(f"{name} has no {old!r} behind {place!r}")
+        self.held[name] = before + mark + rest.replace(old, new, 1 if place else -1)
+
+    def repeat(self, name, count, text):
+        """repeat NAME COUNT TEXT: so many times more at its end; `{4096+16}` is 4,096 times the number of the time, and 16."""
+
+        def piece(time):
+            return COUNTED.sub(lambda found: str(time * int(found.group(1)) + int(found.group(2))), text)
+
+        pieces = "".join(piece(time) for time in range(int(count, 0)))
+        self.held[name] = self.held.get(name, b"") + data_of(pieces)
+
+    # ---- their use
+
+    def take(self, line):
+        """Takes a line of the case where it is one of the above."""
+        word, *rest = line.words
+        method = getattr(self, word, None)
+        if word not in LINES:
+            raise CaseFault(f"{line.place}: no line {word}")
+        try:
+            return method(*rest, block=line.block) if word in ("text", "script") else method(*rest)
+        except (TypeError, ValueError, CaseFault) as error:
+            raise CaseFault(f"{line.place}: {error}") from None
+
+    def written(self):
+        """The names that stand in the folder."""
+        return {name: held for name, held in self.held.items() if not name.startswith("@") and name not in self.sealed}
+
+
+LINES = (
+    "platform source copy text script fill zeros folder seal turn put number into append keep change repeat".split()
+)
+
+
+def write_file(path, held):
+    with open(path, "wb") as file:
+        if isinstance(held, Zeros):
+            file.truncate(held.count)
+        else:
+            file.write(held)
+
+
+def is_held(path, held):
+    """Whether the file at a path has these bytes."""
+    count = held.count if isinstance(held, Zeros) else len(held)
+    if os.path.getsize(path) != count:
+        return False
+    with open(path, "rb") as file:
+        if not isinstance(held, Zeros):
+            return file.read() == held
+        return all(not any(piece) for piece in iter(lambda: file.read(CHUNK), b""))
+
+
+def sha256(data):
+    return hashlib.sha256(data).hexdigest()

@@ -1,0 +1,138 @@
+"""The platforms that cases begin with, tiny and small, and what differs in them: made by maker.py."""
+
+from __future__ import annotations
+
+import functools
+
+import maker
+from case_reader import CaseFault
+
+KEYS = {"manifest_key": (5, "33", "44"), "capsule_key": (6, "55", "66")}
+SMALL = {
+    "size": 0x100000,
+    "layout": (0, 0x2000, 0x40000, 0x80000, 0x40000),
+    "filled": (0x10000, 0x22000),
+    "regions": "0x10000-0x20000:1:sha256:copy,0x20000-0x22000:11:none:copy,0x22000-0x28000:11:none:erase",
+}
+TINY = {
+    "size": 0x20000,
+    "layout": (0, 0x2000, 0x8000, 0x10000, 0x8000),
+    "filled": (0x2000, 0x5000),
+    "regions": "0x2000-0x4000:1:sha256:copy,0x4000-0x5000:1:sha384:copy,0x5000-0x6000:11:none:erase",
+}
+PLATFORMS = {"small": SMALL, "tiny": TINY}
+# What a part of a bank is made with in place of what is right; the bank's name stands before it, or the BMC is meant.
+PARTS = ("active", "active_block", "inner", "inner_block", "capsule", "capsule_block")
+
+
+def regions_of(text):
+    """The regions of a list: `start-end:mask:hash:pages`, or `start-end/length/apart` for as many as there is room for."""
+    regions = []
+    for each in text.split(",") if text else []:
+        span, _, rest = each.partition(":")
+        mask, kind, pages = rest.split(":") if rest else ("11", "none", "keep")
+        span, *steps = span.split("/")
+        first, last = (int(word, 0) for word in span.split("-"))
+        length = int(steps[0], 0) if steps else last - first
+        starts = range(first, last, int(steps[-1], 0)) if steps else [first]
+        regions += [
+            {"start": at, "end": at + length, "mask": int(mask, 0), "hash": kind, "pages": pages} for at in starts
+        ]
+    return regions
+
+
+def bank_of(shape):
+    """A bank of a platform's shape, as a description has it."""
+    begin, end = shape["filled"]
+    size = shape["size"]
+    image = maker.blank(begin) + bytes(at % 251 for at in range(begin, end)) + maker.blank(size - end)
+    bank = {"image": image, "size": size, "svn": 3, "bkc": 1, "revision": "0100", "oem": "00" * 16}
+    bank.update(zip(maker.LAYOUT, shape["layout"]))
+    for name, (key_id, x, y) in KEYS.items():
+        bank[name] = {"id": key_id, "permissions": 15, "x": x * 48, "y": y * 48}
+    bank["regions"] = regions_of(shape["regions"])
+    bank["smbus"] = [{"bus": 1, "rule": 0, "address": 0x2E, "commands": "0000010001" + "00" * 27}]
+    return bank
+
+
+def description_of(name):
+    if name not in PLATFORMS:
+        raise CaseFault(f"no platform {name}")
+    root = {"x": "11" * 48, "y": "22" * 48}
+    return {"curve": 256, "form": 1, "root": root, "bmc": bank_of(PLATFORMS[name]), "pch": bank_of(PLATFORMS[name])}
+
+
+def value_of(text):
+    """What an option gives: bytes behind `hex:`, numbers of pages behind `pages:`, or a number."""
+    kind, _, rest = text.rpartition(":")
+    if kind == "hex":
+        return bytes.fromhex(rest)
+    if kind == "pages":
+        spans = [[int(word) for word in span.split("-")] for span in rest.split(",") if span]
+        return [page for span in spans for page in range(span[0], span[-1] + 1)]
+    return int(text, 0)
+
+
+def set_option(description, parts, path, text):
+    """Takes one option: a key of the description, or a field of a part that is made."""
+    names = path.split(".")
+    bank = names.pop(0) if names[0] in maker.BANKS else None
+    if names[0] in PARTS:
+        parts[bank or "bmc"][names[0]][names[1]] = value_of(text)
+        return
+    table = description[bank] if bank else description
+    for name in names[:-1]:
+        table = table[int(name) if name.isdigit() else name]
+    if names[-1] == "regions":
+        table["regions"] = regions_of(text)
+    elif names[-1] == "smbus":
+        table["smbus"] = table["smbus"] * int(text)
+    elif names[-1] in ("x", "y", "revision", "oem"):
+        table[names[-1]] = text
+    else:
+        table[names[-1]] = int(text, 0)
+
+
+def whole(fields, make):
+    """A content that is made of fields. `keep` of them is how many of its bytes are kept, `turned` a byte that is turned."""
+    fields = dict(fields)
+    keep, turned = fields.pop("keep", None), fields.pop("turned", None)
+    content = make(fields)
+    return (content if turned is None else maker.flip(content, turned, 0xFF))[:keep]
+
+
+def made_bank(description, name, parts, staged, engine):
+    """A bank's image and capsule, of which some parts are made with other fields. What the image alone has is signed first."""
+    bank = description[name]
+    keys = {kind: maker.keys_of(description, name, kind) for kind in ("manifest", "capsule")}
+
+    def manifest(which):
+        content = whole(parts[which], lambda fields: maker.manifest_bytes(bank, **fields))
+        return maker.signed(content, *keys["manifest"], engine, **parts[which + "_block"])
+
+    active = manifest("active")
+    differs = any(parts[which] for which in ("active", "active_block", "inner", "inner_block"))
+    inner = manifest("inner") if differs else active
+    body = whole(parts["capsule"], lambda fields: maker.capsule_body(bank, inner, **fields))
+    capsule = maker.signed(body, *keys["capsule"], engine, **parts["capsule_block"])
+    staged = capsule if staged == "own" else staged
+    return maker.bank_image(bank, active, capsule, staged), capsule
+
+
+@functools.lru_cache(maxsize=None)
+def made_platform(name, options, staged):
+    """The files of a platform by name, of these options, and with this staged for the BMC: nothing, `own`, or bytes."""
+    description = description_of(name)
+    parts = {bank: {part: {} for part in PARTS} for bank in maker.BANKS}
+    for option in options:
+        path, _, text = option.partition("=")
+        try:
+            set_option(description, parts, path, text)
+        except (KeyError, ValueError, IndexError) as error:
+            raise CaseFault(f"option {option}: {error!r}") from None
+    engine, files = maker.Engine(), {}
+    for bank in maker.BANKS:
+        image, capsule = made_bank(description, bank, parts[bank], staged if bank == "bmc" else b"", engine)
+        files.update({bank: image, bank + ".capsule": capsule})
+    files.update(nv=maker.provision(description), engine=engine.text(), script=b"power\n")
+    return files
