@@ -5,7 +5,6 @@ use Rattle.std.proofs.lemmas.Bool.{leb-true, eqb-true}
 use Rattle.pfr_flash.specs.Layout.{judge_layout}
 use Rattle.pfr_flash.specs.declared.layout.LayoutRule.{LayoutRule}
 use Rattle.pfr_flash.specs.declared.names.Bank.{Bank}
-use Rattle.pfr_flash.specs.declared.names.Bank.TheVariants.{Bmc, Pch}
 use Rattle.pfr_flash.proofs.LayoutLemmas.{judged_valid}
 use Rattle.pfr_manifest.specs.declared.fail.ManifestFail.{ManifestFail}
 use Rattle.pfr_description.specs.Banks.{bank_of}
@@ -16,7 +15,7 @@ use Rattle.pfr_description.specs.declared.fail.DescWhy.TheVariants.{Fit}
 use Rattle.pfr_description.specs.declared.fail.FitPart.{FitPart}
 use Rattle.pfr_description.specs.declared.fail.FitPart.TheVariants as parts
 use Rattle.pfr_made.specs.Capsules.{capsule_body}
-use Rattle.pfr_made.specs.Judge.{IsPlaced, before, fit_capsule, fit_manifest, is_bank_size, judge_image, judge_place, judge_places, of_bank, of_manifest, require_fit, require_image}
+use Rattle.pfr_made.specs.Judge.{IsPlaced, before, fit_capsule, fit_manifest, is_bank_size, judge_image, judge_place, of_bank, of_manifest, require_fit, require_image}
 use Rattle.pfr_made.specs.Made.{active_image, judge_bank, judge_fits, judge_given}
 use Rattle.pfr_made.specs.Manifests.{manifest_length}
 use Rattle.pfr_made.specs.Entries.{judge_entries}

@@ -1,5 +1,5 @@
 -- A made manifest is the manifest that its text spells, and its regions have their hashes.
-use Rattle.std.proofs.Common.{◌≡◌, ℕ, ◌^◌, ◌<◌, ◌≤◌, nat_le, Some, None, List, [], length, map, Option, Ok, All, refl, arith}
+use Rattle.std.proofs.Common.{◌≡◌, ℕ, ◌^◌, ◌<◌, ◌≤◌, nat_le, Some, None, List, length, map, Option, Ok, All, refl, arith}
 use Rattle.std.proofs.lemmas.Bool.{leb-true}
 use Rattle.std.proofs.lemmas.List.{length-map}
 use Rattle.std.proofs.lemmas.List.Elements.{All-map, All-weaker}
@@ -16,7 +16,7 @@ use Rattle.pfr_description.specs.declared.region.RegionDescription.{RegionDescri
 use Rattle.pfr_description.specs.declared.smbus.SmbusDescription.{SmbusDescription}
 use Rattle.pfr_made.specs.Fields.{zeros}
 use Rattle.pfr_made.specs.Manifests.{hash_of, region_of, rule_of, manifest_of, text_of, manifest_length}
-use Rattle.pfr_made.specs.Entries.{outline, judge_regions, judge_entries}
+use Rattle.pfr_made.specs.Entries.{judge_regions, judge_entries}
 use Rattle.pfr_made.specs.Regions.{bytes_of}
 use Rattle.pfr_description.specs.Typed.{IsRegionValue, IsRuleValue, IsBankValue}
 use Rattle.pfr_made.proofs.ManifestMadeRegions.{AreRegions, all_regions_made}
@@ -25,13 +25,13 @@ use Rattle.pfr_made.proofs.ManifestMadeLengths.{digest_made, least_made, manifes
 -- what the judgement of a description tells
 record IsJudged (part : BankDescription) : Type 0 where
   pub svn : part.svn ≤ 127
-  pub regions : judge_regions [] (map outline part.regions) part.layout part.size ≡ Ok tt
+  pub regions : judge_regions 0 0 0 part.regions part.layout part.size ≡ Ok tt
   pub rules : length part.smbus ≤ 64
 
 entries_judged : (part : BankDescription) → judge_entries part ≡ Ok tt → IsJudged part
 unfolding judge_entries
 entries_judged part judged =
-    let regions = judge_regions [] (map outline part.regions) part.layout part.size in
+    let regions = judge_regions 0 0 0 part.regions part.layout part.size in
     let last = require TooMany (nat_le (length part.smbus) 64) in
     let p = passed_test Svn (nat_le part.svn 127) (regions >> last) tt judged in
     let q = passed_unit regions last tt p.1 in
@@ -62,7 +62,7 @@ rules_wide rules are = All-map IsRuleWide rule_of rules (All-weaker IsRuleValue 
 
 -- the regions that a description gives a bank are those of a manifest
 pub regions_judged : (part : BankDescription) (active : List ℕ) → judge_entries part ≡ Ok tt → AreRegions part.layout part.size (map (region_of active) part.regions)
-regions_judged part active judged = all_regions_made part.layout part.size active part.regions (entries_judged part judged).regions
+regions_judged part active judged = all_regions_made active part.layout part.size part.regions (entries_judged part judged).regions
 
 module _ (part : BankDescription) (active : List ℕ) (is : IsBankValue part) (judged : judge_entries part ≡ Ok tt) where
   short : manifest_length part active < 2 ^ 32

@@ -1,23 +1,21 @@
 -- What the description says of a page: each page of a region has the region's use, and a page with another use than Keep lies in a region.
-use Rattle.std.proofs.Common.{◌≡◌, ◌∙◌, ap, sym, subst, refl, ℕ, zero, suc, ◌*◌, ◌%◌, ◌<◌, ◌≤◌, Bool, true, false, ◌&&◌, nat_le, nat_lt, if◌then◌else◌, List, [], ◌∷◌, ◌++◌, length, get_or, map, Any, inl, inr, Ok, arith}
+use Rattle.std.proofs.Common.{◌≡◌, ◌∙◌, ap, sym, refl, ℕ, zero, suc, ◌*◌, ◌%◌, ◌<◌, ◌≤◌, Bool, true, false, ◌&&◌, nat_le, nat_lt, if◌then◌else◌, List, [], ◌∷◌, length, get_or, map, All, Any, inl, inr, Ok, arith}
 use Rattle.std.proofs.lemmas.Bool.{cases_Bool, and_parts, and_from, le-leb, leb-true, lt-ltb, le-ltb, ltb-true}
+use Rattle.std.proofs.lemmas.List.Elements.{All-head, All-tail}
 use Rattle.pfr_flash.specs.declared.layout.Layout.{Layout}
-use Rattle.pfr_flash.specs.Judging.{◌>>◌, require}
-use Rattle.pfr_manifest.specs.Judge.{judge_region}
-use Rattle.pfr_manifest.specs.Regions.{last_end}
-use Rattle.pfr_manifest.specs.declared.fail.ManifestFail.TheVariants.{Svn, TooMany}
-use Rattle.pfr_manifest.proofs.PartLaws.{region_holds}
-use Rattle.pfr_manifest.proofs.RegionLemmas.{last_end-push}
-use Rattle.pfr_flash.proofs.JudgingLemmas.{passed_unit, passed_test}
+use Rattle.pfr_manifest.specs.Regions.{IsRegion, IsInOrder}
 use Rattle.pfr_manifest.specs.declared.region.Region.{Region}
 use Rattle.pfr_capsule.specs.Maps.{IsPageOf}
 use Rattle.pfr_description.specs.Described.{BankDescription}
 use Rattle.pfr_description.specs.declared.region.PageUse.{PageUse}
 use Rattle.pfr_description.specs.declared.region.RegionDescription.{RegionDescription}
-use Rattle.pfr_made.specs.Entries.{outline, judge_next, judge_regions, judge_entries}
+use Rattle.pfr_made.specs.Entries.{judge_entries}
 use Rattle.pfr_made.specs.Manifests.{region_of}
 use Rattle.pfr_made.specs.Pages.{has_bit, has_byte, use_of}
+use Rattle.pfr_made.specs.Regions.{IsInside}
 use Rattle.pfr_made.specs.declared.page_map.PageMap.TheVariants as maps
+use Rattle.pfr_made.proofs.ManifestMade.{regions_judged}
+use Rattle.pfr_made.proofs.ManifestMadeRegions.{AreRegions}
 
 -- ---- what the judgement tells of the regions' places
 pub record IsWhole (size : ℕ) (region : RegionDescription) : Type 0 where
@@ -35,27 +33,28 @@ not_second : (a b : Bool) → b ≡ false → (a && b) ≡ false
 not_second true b h = h
 not_second false b h = refl
 
-regions_ordered : (before : List Region) (regions : List RegionDescription) (layout : Layout) (size : ℕ) → judge_regions before (map outline regions) layout size ≡ Ok tt → AreOrdered (last_end before) size regions
-unfolding judge_regions judge_next region_of
-regions_ordered before [] layout size h = tt
-regions_ordered before (region ∷ others) layout size h =
-    let made : Region = outline region in
-    let p = passed_unit (judge_next before made layout size) (judge_regions (before ++ made ∷ []) (map outline others) layout size) tt h in
-    let q = passed_test TooMany (nat_lt (length before) 64) (judge_region made before layout size) tt p.0 in
-    let is = region_holds made before layout size q.1 in
-    let rest = regions_ordered (before ++ made ∷ []) others layout size p.1 in (
-      record { start_aligned = is.0.start_aligned; end_aligned = is.0.end_aligned; some = is.0.some; inside = is.0.inside },
-      is.1,
-      subst (λ (from : ℕ). AreOrdered from size others) (last_end-push before made) rest,
-    )
+region_whole : (layout : Layout) (size : ℕ) (region : RegionDescription) → IsRegion layout size (region_of [] region) → IsWhole size region
+unfolding region_of
+region_whole layout size region is = record { start_aligned = is.start_aligned; end_aligned = is.end_aligned; some = is.some; inside = is.inside }
+
+regions_ordered : (layout : Layout) (size from : ℕ) (region : RegionDescription) (others : List RegionDescription) → from ≤ region.start
+    → All (IsRegion layout size) (map (region_of []) (region ∷ others)) → IsInOrder (map (region_of []) (region ∷ others)) → AreOrdered from size (region ∷ others)
+unfolding region_of
+regions_ordered layout size from region [] behind are in_order =
+    (region_whole layout size region (All-head (IsRegion layout size) (region_of [] region) [] are), behind, tt)
+regions_ordered layout size from region (next ∷ others) behind are in_order = (
+  region_whole layout size region (All-head (IsRegion layout size) (region_of [] region) (map (region_of []) (next ∷ others)) are),
+  behind,
+  regions_ordered layout size region.end next others in_order.0
+      (All-tail (IsRegion layout size) (region_of [] region) (map (region_of []) (next ∷ others)) are) in_order.1,
+)
+
+some_ordered : (layout : Layout) (size : ℕ) (regions : List RegionDescription) → AreRegions layout size (map (region_of []) regions) → AreOrdered 0 size regions
+some_ordered layout size [] are = tt
+some_ordered layout size (region ∷ others) are = regions_ordered layout size 0 region others (omega arith) are.each are.in_order
 
 pub entries_ordered : (part : BankDescription) → judge_entries part ≡ Ok tt → AreOrdered 0 part.size part.regions
-unfolding judge_entries
-entries_ordered part h =
-    let regions = judge_regions [] (map outline part.regions) part.layout part.size in
-    let a = passed_test Svn (nat_le part.svn 127) (regions >> require TooMany (nat_le (length part.smbus) 64)) tt h in
-    let b = passed_unit regions (require TooMany (nat_le (length part.smbus) 64)) tt a.1 in
-    regions_ordered [] part.regions part.layout part.size b.0
+entries_ordered part judged = some_ordered part.layout part.size part.regions (regions_judged part [] judged)
 
 -- ---- one region of them
 pub region_at : (from size : ℕ) (regions : List RegionDescription) (k : ℕ) (d : RegionDescription) → AreOrdered from size regions → k < length regions
@@ -65,6 +64,11 @@ region_at from size (region ∷ others) zero d h within = (h.0, h.1)
 region_at from size (region ∷ others) (suc k) d h within =
     let rest = region_at region.end size others k d h.2 (omega arith) in
     (rest.0, omega (arith, h.0.some, h.1, rest.1))
+
+pub entries_inside : (part : BankDescription) → judge_entries part ≡ Ok tt → All (IsInside part.size) part.regions
+entries_inside part judged = λ k d within.
+    let is = region_at 0 part.size part.regions k d (entries_ordered part judged) within in
+    record { ordered = omega (arith, is.0.some); within = is.0.inside }
 
 -- each page of a region has the region's use
 pub use_is : (from size : ℕ) (regions : List RegionDescription) (k page : ℕ) (d : RegionDescription) → AreOrdered from size regions → k < length regions

@@ -1,5 +1,5 @@
 -- What an engine that accepts the rows of a bank is known to accept: the marks in both blocks.
-use Rattle.std.proofs.Common.{◌≡◌, ℕ, true, List, [], ◌∷◌, ◌++◌, Ok, refl, subst}
+use Rattle.std.proofs.Common.{◌≡◌, ℕ, true, List, [], ◌∷◌, ◌++◌, Ok, refl}
 use Rattle.std.proofs.lemmas.List.Elements.{All-head, recursion_from_All}
 use Rattle.pfr_engine.specs.Acceptance.{Acceptance}
 use Rattle.pfr_engine.specs.Rows.{judge_text}
@@ -15,14 +15,14 @@ use Rattle.pfr_description.specs.declared.form.Form.TheVariants.{One, Two}
 use Rattle.pfr_description.specs.declared.keys.KeyDescription.{KeyDescription}
 use Rattle.pfr_description.specs.declared.keys.PublicKey.{PublicKey}
 use Rattle.pfr_made.specs.Accepting.{AcceptsRow, AcceptsText}
-use Rattle.pfr_made.specs.Blocks.{block0_bytes, signed_rows, root_signed_row}
+use Rattle.pfr_made.specs.Blocks.{block0_bytes, root_signed_row}
 use Rattle.pfr_made.specs.Capsules.{capsule_body}
 use Rattle.pfr_made.specs.Form2 as form2
 use Rattle.pfr_made.specs.Made.{rows_of}
 use Rattle.pfr_made.specs.Manifests.{text_of}
 use Rattle.pfr_made.specs.Marks.{number_of_curve, marks_of}
 use Rattle.pfr_description.specs.Typed.{IsKeyValue, IsBankValue, IsValue}
-use Rattle.pfr_made.proofs.RowsMadeTexts.{signed_key_in, said_in, rows_parse, root_row_parses, four_rows_parse}
+use Rattle.pfr_made.proofs.RowsMadeTexts.{signed_key_in, said_in, root_row_parses, four_rows_parse}
 
 -- the engine accepts the key's marks on the message
 abbrev pub AcceptsShort : Acceptance → Description → PublicKey → List ℕ → Type 0
