@@ -125,7 +125,7 @@ pub record IsVerdict (verdict : BankVerdict) (bank : Bank) (image nv : List ℕ)
   pub staging : (svn : ℕ) → ((verdict.staging ≡ Ok svn) ↔ HasGood Staging svn bank image nv accepts)
   pub same_manifest : IsTrue verdict.same_manifest ↔ HasSameManifest bank image nv accepts
 
--- what a verdict does to both devices: it reads, and where a read fails that is the last one
+-- what a verdict does to both devices: it reads, and where it fails one read of one device did, and no other
 abbrev pub EndsEither : {A : Type 0} → Result A FlashFail → (bank bank_after nv nv_after : FlashState) → Type 0
 EndsEither (Ok x) bank bank_after nv nv_after = EndsAt None bank bank_after × EndsAt None nv nv_after
 EndsEither (Err fail) bank bank_after nv nv_after =

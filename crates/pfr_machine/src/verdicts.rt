@@ -254,7 +254,7 @@ pub fn verdict<F: Flash, E: Engine>(
     // Which causes it has: the first in order, and none is a failed device.
     ensures exact { IfOk result (λ found. found ≡ verdict_of bank (now (F.device flash.old)) (now (F.device nv.old)) (E.accepts engine.now)) }
     ensures causes { IfOk result HasCauses }
-    // Neither device is changed; where one fails, one read of it did, and none was made behind it.
+    // Neither device is changed; where one fails, one read of it did and no other.
     ensures ends { EndsEither result (F.device flash.old) (F.device flash.new) (F.device nv.old) (F.device nv.new) }
 {
     let found = read_fuses(nv)?;
