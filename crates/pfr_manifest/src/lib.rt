@@ -12,6 +12,10 @@ mod rule;
 mod rules;
 mod steps;
 mod stretch;
+#[cfg(test)]
+mod table;
+#[cfg(test)]
+mod tests;
 
 pub use fail::ManifestFail;
 pub use manifest::Manifest;
