@@ -4,7 +4,7 @@ use Rattle.std.specs.Str.{IsUtf8, is_utf8}
 use Rattle.std.proofs.lemmas.Str.{IsUtf8-from_is_utf8, is_utf8-from_IsUtf8}
 use Rattle.toml.specs.Data.{Members}
 use Rattle.toml.specs.Parse.{parse_document}
-use Rattle.pfr_description.specs.Keys.{known}
+use Rattle.pfr_flash.specs.Judging.{known}
 use Rattle.pfr_description.specs.Whole.{Reads, document_in, judge_top, judge_description}
 use Rattle.pfr_description.specs.Described.{Description}
 use Rattle.pfr_description.specs.declared.fail.DescFail.{DescFail}

@@ -4,12 +4,13 @@ use Rattle.std.specs.Prelude.{IfOk, All}
 use Rattle.std.proofs.lemmas.List.Elements.{All-nil, All-cons}
 use Rattle.toml.specs.Data.{Members}
 use Rattle.pfr_flash.specs.declared.names.Bank.{Bank}
+use Rattle.pfr_flash.specs.Bytes.{AreBytes}
 use Rattle.pfr_fuses.specs.RootSlot.{HasFields}
 use Rattle.pfr_description.specs.Keys.{text_in, table_in, extra_in}
 use Rattle.pfr_description.specs.Lists.{tables_in, each, staged_in, regions_in, rules_in}
 use Rattle.pfr_description.specs.Tables.{greatest, signer_in, layout_in, region_in, rule_in}
 use Rattle.pfr_description.specs.Sound.{IsSoundBank, manifest_bit, capsule_bit}
-use Rattle.pfr_description.specs.Typed.{AreBytes, IsBankValue, IsRuleValue}
+use Rattle.pfr_description.specs.Typed.{IsBankValue, IsRuleValue}
 use Rattle.pfr_description.specs.Whole.{identity_in, signers_in, judge_bank, bank_in, bank_keys, table_of}
 use Rattle.pfr_description.specs.Described.{BankDescription}
 use Rattle.pfr_description.specs.declared.fail.DescWhy.{DescWhy}

@@ -1,5 +1,5 @@
--- Each description that was read is sound.
-use Rattle.std.proofs.Common.{◌≡◌, ℕ, List, None, Result, Ok, Err}
+-- What is read of a top table is a sound description.
+use Rattle.std.proofs.Common.{◌≡◌, ℕ, List, None, Ok}
 use Rattle.std.specs.Prelude.{IfOk}
 use Rattle.toml.specs.Data.{Members}
 use Rattle.pfr_flash.specs.declared.names.Bank.TheVariants.{Bmc, Pch}
@@ -7,9 +7,8 @@ use Rattle.pfr_description.specs.Keys.{extra_in}
 use Rattle.pfr_description.specs.Tables.{curve_in, form_in, root_in}
 use Rattle.pfr_description.specs.Sound.{IsSound}
 use Rattle.pfr_description.specs.Typed.{IsKeyValue}
-use Rattle.pfr_description.specs.Whole.{Reads, top_keys, bank_in, judge_top, document_in, judge_description}
+use Rattle.pfr_description.specs.Whole.{top_keys, bank_in, judge_top, document_in, judge_description}
 use Rattle.pfr_description.specs.Described.{Description}
-use Rattle.pfr_description.specs.declared.fail.DescFail.{DescFail}
 use Rattle.pfr_description.proofs.SoundKeys.{after_part, after_any, value_is}
 use Rattle.pfr_description.proofs.SoundTables.{root_is}
 use Rattle.pfr_description.proofs.SoundBanks.{IsBank, bank_is}
@@ -29,15 +28,11 @@ top_is top =
       pch = pch_is.sound;
     }))))))
 
-judgement_is : (text : List ℕ) → IfOk (judge_description text) IsSound
-unfolding judge_description
-judgement_is text = after_any IsSound (document_in text) judge_top top_is
+-- what the top table describes is sound
+pub top_sound : (top : Members) (desc : Description) → judge_top top ≡ Ok desc → IsSound desc
+top_sound top desc is = value_is IsSound (judge_top top) desc (top_is top) is
 
--- what a text describes is sound
+-- and so is what a text describes
 pub described_is : (text : List ℕ) (desc : Description) → judge_description text ≡ Ok desc → IsSound desc
-described_is text desc is = value_is IsSound (judge_description text) desc (judgement_is text) is
-
--- so is what a reading answers, if it answers what is judged
-pub read_is_sound : (text : List ℕ) (result : Result Description DescFail) → Reads result (judge_description text) → IfOk result IsSound
-read_is_sound text (Ok desc) is = described_is text desc is
-read_is_sound text (Err fail) is = tt
+unfolding judge_description
+described_is text desc is = value_is IsSound (judge_description text) desc (after_any IsSound (document_in text) judge_top top_is) is

@@ -1,15 +1,15 @@
 -- What holds of what is read at a key: numbers are in their ranges, and bytes are bytes, of their count.
-use Rattle.std.proofs.Common.{◌≡◌, ℕ, ℤ, pos, negsuc, ◌<◌, ◌≤◌, nat_le, Bool, true, false, List, length, Option, Some, None, Result, Ok, Err, if◌then◌else◌, refl, sym, ◌∙◌, arith}
+use Rattle.std.proofs.Common.{◌≡◌, ℕ, ℤ, pos, negsuc, ◌≤◌, nat_le, Bool, true, false, List, length, Option, Some, None, Result, Ok, Err, if◌then◌else◌, refl, sym, ◌∙◌, arith}
 use Rattle.std.specs.Prelude.{IfOk}
 use Rattle.std.proofs.lemmas.Bool.{leb-true}
-use Rattle.std.proofs.lemmas.List.Elements.{All-from_get_or}
 use Rattle.hex.specs.Hex.{decode_sized}
 use Rattle.hex.specs.declared.error.FromHexError.{FromHexError}
 use Rattle.hex.proofs.HexLemmas.{decode_of-ok, decode_sized-ok, decode_sized-twice}
 use Rattle.toml.specs.Data.{Members, as_integer}
+use Rattle.pfr_flash.specs.Bytes.{AreBytes}
 use Rattle.pfr_flash.specs.declared.names.Bank.{Bank}
-use Rattle.pfr_description.specs.Keys.{◌>>=◌, known, require, value_in, text_in, within, number_in, decoded, bytes_in}
-use Rattle.pfr_description.specs.Typed.{AreBytes}
+use Rattle.pfr_flash.specs.Judging.{◌>>=◌, known, require}
+use Rattle.pfr_description.specs.Keys.{value_in, text_in, within, number_in, decoded, bytes_in}
 use Rattle.pfr_description.specs.declared.fail.DescWhy.{DescWhy}
 use Rattle.pfr_description.specs.declared.fail.DescWhy.TheVariants.{Kind, Value}
 use Rattle.pfr_description.specs.declared.field.Field.{Field}
@@ -57,7 +57,7 @@ decoded_is : (why : DescWhy) (text : List ℕ) (count : ℕ) (read : Result (Lis
 decoded_is why text count (Ok bytes) is =
     let twice = decode_sized-ok text count bytes is in
     let read = decode_of-ok text bytes (sym (decode_sized-twice text count twice) ∙ is) in
-    (omega (arith, read.2), All-from_get_or (λ (byte : ℕ). byte < 256) bytes 0 (λ i fits. read.3 i))
+    (omega (arith, read.2), read.3)
 decoded_is why text count (Err e) is = tt
 
 pub bytes_are : (bank : Option Bank) (key : Field) (count : ℕ) (table : Members) → IfOk (bytes_in bank key count table) (AreCounted count)

@@ -6,7 +6,8 @@ use Rattle.std.proofs.lemmas.Bool.{eqb-true}
 use Rattle.toml.specs.Data.{Members}
 use Rattle.pfr_flash.specs.declared.names.Bank.{Bank}
 use Rattle.pfr_fuses.specs.RootSlot.{HasFields}
-use Rattle.pfr_description.specs.Keys.{◌>>=◌, known, number_in, bytes_in, text_in, table_in, extra_in}
+use Rattle.pfr_flash.specs.Judging.{◌>>=◌, known}
+use Rattle.pfr_description.specs.Keys.{number_in, bytes_in, text_in, table_in, extra_in}
 use Rattle.pfr_description.specs.Tables.{greatest, point_in, root_in, root_keys, signer_in, signer_keys, layout_in, hash_in, pages_named, is_kept, pages_in, region_in, region_keys, rule_in, rule_keys}
 use Rattle.pfr_description.specs.Sound.{IsBrought}
 use Rattle.pfr_description.specs.Typed.{IsKeyValue, IsSignerValue, IsRegionValue, IsRuleValue}

@@ -1,10 +1,11 @@
 -- The keys of a description's tables, and what is read at them.
 use Rattle.std.specs.List.{list_any}
 use Rattle.std.specs.Str.{bytes_eq}
-use Rattle.std.specs.Prelude.{ℕ, ℤ, pos, negsuc, nat_le, ◌&&◌, Bool, true, false, List, codes, Option, Some, None, Result, Ok, Err, if◌then◌else◌}
+use Rattle.std.specs.Prelude.{ℕ, ℤ, pos, negsuc, nat_le, ◌&&◌, Bool, true, List, codes, Option, Some, None, Result, Ok, Err, if◌then◌else◌}
 use Rattle.hex.specs.Hex.{decode_sized}
 use Rattle.hex.specs.declared.error.FromHexError.{FromHexError}
 use Rattle.toml.specs.Data.{Data, Members, no_members, member, get_member, as_integer, as_str, as_table}
+use Rattle.pfr_flash.specs.Judging.{◌>>=◌, known}
 use Rattle.pfr_flash.specs.declared.names.Bank.{Bank}
 use Rattle.pfr_description.specs.declared.fail.DescWhy.{DescWhy}
 use Rattle.pfr_description.specs.declared.fail.DescWhy.TheVariants.{Missing, Kind, Value, Extra}
@@ -46,20 +47,6 @@ name_of fields.Bus = codes "bus"
 name_of fields.Rule = codes "rule"
 name_of fields.Address = codes "address"
 name_of fields.Commands = codes "commands"
-
--- a reading goes through its rules in order, and names the first that is broken
-infixl 10 ◌>>=◌
-abbrev pub ◌>>=◌ : {A B : Type 0} → Result A DescWhy → (A → Result B DescWhy) → Result B DescWhy
-(Ok x) >>= f = f x
-(Err why) >>= f = Err why
-
-abbrev pub known : {A : Type 0} → DescWhy → Option A → Result A DescWhy
-known why (Some x) = Ok x
-known why None = Err why
-
-abbrev pub require : DescWhy → Bool → Result (Unit {0}) DescWhy
-require why true = Ok tt
-require why false = Err why
 
 -- a text is one of these keys
 abbrev pub is_one_of : List Field → List ℕ → Bool

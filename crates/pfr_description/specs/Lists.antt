@@ -2,7 +2,8 @@
 use Rattle.std.specs.Prelude.{ℕ, List, [], ◌∷◌, Option, Some, None, option_map, option_and_then, Result, Ok, Err}
 use Rattle.toml.specs.Data.{Items, no_items, item, Members, as_array, as_table}
 use Rattle.pfr_flash.specs.declared.names.Bank.{Bank}
-use Rattle.pfr_description.specs.Keys.{◌>>=◌, known, value_in, text_in}
+use Rattle.pfr_flash.specs.Judging.{◌>>=◌, known}
+use Rattle.pfr_description.specs.Keys.{value_in, text_in}
 use Rattle.pfr_description.specs.Tables.{region_in, rule_in}
 use Rattle.pfr_description.specs.declared.fail.DescWhy.{DescWhy}
 use Rattle.pfr_description.specs.declared.fail.DescWhy.TheVariants.{Missing, Kind}

@@ -7,7 +7,8 @@ use Rattle.pfr_engine.specs.declared.engine.Curve.{Curve}
 use Rattle.pfr_engine.specs.declared.engine.Curve.TheVariants.{C256, C384}
 use Rattle.pfr_flash.specs.declared.layout.Layout.{Layout}
 use Rattle.pfr_flash.specs.declared.names.Bank.{Bank}
-use Rattle.pfr_description.specs.Keys.{◌>>=◌, known, require, number_in, bytes_in, text_in, table_in, extra_in}
+use Rattle.pfr_flash.specs.Judging.{◌>>=◌, known, require}
+use Rattle.pfr_description.specs.Keys.{number_in, bytes_in, text_in, table_in, extra_in}
 use Rattle.pfr_description.specs.declared.fail.DescWhy.{DescWhy}
 use Rattle.pfr_description.specs.declared.fail.DescWhy.TheVariants.{Missing, Value}
 use Rattle.pfr_description.specs.declared.field.Field.{Field}

@@ -1,5 +1,6 @@
 -- What the values of a program are: lengths of arrays and ranges of numbers.
-use Rattle.std.specs.Prelude.{◌≡◌, ℕ, ◌^◌, ◌<◌, List, length, All}
+use Rattle.std.specs.Prelude.{◌≡◌, ◌^◌, ◌<◌, length, All}
+use Rattle.pfr_flash.specs.Bytes.{AreBytes}
 use Rattle.pfr_fuses.specs.RootSlot.{HasFields}
 use Rattle.pfr_description.specs.Described.{BankDescription}
 use Rattle.pfr_description.specs.Described.{Description}
@@ -7,9 +8,6 @@ use Rattle.pfr_description.specs.declared.keys.KeyDescription.{KeyDescription}
 use Rattle.pfr_description.specs.declared.keys.PublicKey.{PublicKey}
 use Rattle.pfr_description.specs.declared.region.RegionDescription.{RegionDescription}
 use Rattle.pfr_description.specs.declared.smbus.SmbusDescription.{SmbusDescription}
-
-abbrev pub AreBytes : List ℕ → Type 0
-AreBytes bytes = All (λ byte. byte < 256) bytes
 
 pub record IsKeyValue (key : PublicKey) : Type 0 where
   pub x : length key.x ≡ 48

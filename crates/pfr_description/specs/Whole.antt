@@ -5,7 +5,8 @@ use Rattle.toml.specs.Data.{Members}
 use Rattle.toml.specs.Parse.{parse_document}
 use Rattle.pfr_flash.specs.declared.names.Bank.{Bank}
 use Rattle.pfr_flash.specs.declared.names.Bank.TheVariants.{Bmc, Pch}
-use Rattle.pfr_description.specs.Keys.{◌>>=◌, known, number_in, bytes_in, text_in, table_in, extra_in}
+use Rattle.pfr_flash.specs.Judging.{◌>>=◌, known}
+use Rattle.pfr_description.specs.Keys.{number_in, bytes_in, text_in, table_in, extra_in}
 use Rattle.pfr_description.specs.Tables.{greatest, curve_in, form_in, root_in, layout_in, signer_in}
 use Rattle.pfr_description.specs.Lists.{staged_in, regions_in, rules_in}
 use Rattle.pfr_description.specs.Sound.{manifest_bit, capsule_bit}

@@ -1,7 +1,6 @@
 // Reads a whole description.
-ghost use Rattle.std.specs.Prelude.{◌≡◌, IfOk};
+ghost use Rattle.std.specs.Prelude.{◌≡◌};
 ghost use Rattle.toml.specs.View.{table_view};
-ghost use Rattle.pfr_description.specs.Sound.{IsSound};
 ghost use Rattle.pfr_description.specs.Whole.{Reads, ReadsAs, document_in, judge_top, judge_description};
 
 use crate::bank_table::bank_at;
@@ -46,13 +45,7 @@ fn read_top(alloc: Global, top: &Table) -> Result<Description, DescFail>
     let root = root_at(top)?;
     let bmc = bank_at(alloc, top, Bank::Bmc)?;
     let pch = bank_at(alloc, top, Bank::Pch)?;
-    Ok(Description {
-        curve,
-        form,
-        root,
-        bmc,
-        pch,
-    })
+    Ok(Description::new(curve, form, root, bmc, pch))
 }
 
 /// Reads a description: a TOML document in UTF-8 that says what a platform and its firmware are.
@@ -63,7 +56,6 @@ fn read_top(alloc: Global, top: &Table) -> Result<Description, DescFail>
 #[tactic(auto, unfolding(crate::specs::Whole::judge_description))]
 pub fn read_description(alloc: Global, text: &[u8]) -> Result<Description, DescFail>
     ensures exact { Reads result (judge_description text.now) }
-    ensures sound { IfOk result IsSound }
 {
     let top = document(alloc, text)?;
     read_top(alloc, &top)

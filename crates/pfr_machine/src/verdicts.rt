@@ -104,8 +104,8 @@ fn told(
     staging: &Result<Capsule, CapsuleFail>,
 ) -> BankVerdict
     requires image { IfErr image.now IsFound }
-    requires recovery { IfErr recovery.now capsules.IsFound }
-    requires staging { IfErr staging.now capsules.IsFound }
+    requires recovery { IfErr recovery.now (answers.IsFound capsule_failure) }
+    requires staging { IfErr staging.now (answers.IsFound capsule_failure) }
     ensures tells { result ≡ tells floor image.now recovery.now staging.now result.same_manifest }
     ensures same { IsTrue result.same_manifest ↔ AreOne image.now staging.now }
     ensures causes { HasCauses result }

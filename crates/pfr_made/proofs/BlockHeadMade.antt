@@ -7,7 +7,7 @@ use Rattle.sha2.proofs.Facts512.{length-sha384}
 use Rattle.pfr_flash.specs.Bytes.{bytes_at}
 use Rattle.pfr_flash.specs.declared.names.ContentType.{ContentType}
 use Rattle.pfr_flash.specs.declared.names.ContentType.TheVariants.{PchManifest, PchCapsule, BmcManifest, BmcCapsule, Controller, PchManifestCancel, PchCapsuleCancel, BmcManifestCancel, BmcCapsuleCancel}
-use Rattle.pfr_chain.specs.Fields.{number_at}
+use Rattle.pfr_flash.specs.Numbers.{number_at}
 use Rattle.pfr_chain.specs.Types.{number_of}
 use Rattle.pfr_made.specs.Blocks.{magic_of_block0, stated_length, block0_bytes}
 use Rattle.pfr_made.specs.Fields.{number_bytes, padded}

@@ -4,8 +4,8 @@ use Rattle.std.proofs.lemmas.List.{length-replicate, drop_at, take_at, take_all,
 use Rattle.byteorder.specs.Endian.{little_number}
 use Rattle.byteorder.specs.Numbers.{little_number-reads_back, length-bytes_low_first}
 use Rattle.pfr_flash.specs.Bytes.{bytes_at}
-use Rattle.pfr_chain.specs.Fields.{number_at}
-use Rattle.pfr_chain.proofs.Parts.{part_of}
+use Rattle.pfr_flash.specs.Numbers.{little_at, number_at}
+use Rattle.pfr_flash.proofs.PartsLemmas.{part_of}
 use Rattle.pfr_made.specs.Fields.{number_bytes, zeros, padded}
 
 pub length-number : (x : ℕ) → length (number_bytes x) ≡ 4
@@ -50,12 +50,12 @@ inside_at all part from n off at count is there fits = ap (λ (place : ℕ). byt
 -- ---- numbers
 -- the number that four bytes spell
 pub number_there : (all : List ℕ) (at x : ℕ) → x < 2 ^ 32 → bytes_at all at 4 ≡ number_bytes x → number_at all at ≡ x
-unfolding number_at number_bytes
+unfolding little_at number_bytes
 number_there all at x fits is = ap (little_number 4) (is ∙ sym (append-nil (number_bytes x))) ∙ little_number-reads_back 4 x [] fits
 
 -- a number in a part that is known
 pub number_inside : (all part : List ℕ) (at n off : ℕ) → bytes_at all at n ≡ part → off + 4 ≤ n → number_at all (at + off) ≡ number_at part off
-unfolding number_at
+unfolding little_at
 number_inside all part at n off is fits = ap (little_number 4) (inside all part at n off 4 is fits)
 
 pub number_inside_at : (all part : List ℕ) (from n off at : ℕ) → bytes_at all from n ≡ part → at ≡ from + off → off + 4 ≤ n → number_at all at ≡ number_at part off

@@ -2,7 +2,7 @@
 use Rattle.std.proofs.Common.{◌≡◌, ℕ, ◌+◌, ◌^◌, ◌<◌, ◌≤◌, false, List, ◌++◌, length, ◌∙◌, arith, length-append}
 use Rattle.pfr_flash.specs.Bytes.{bytes_at}
 use Rattle.pfr_flash.specs.declared.names.ContentType.{ContentType}
-use Rattle.pfr_chain.specs.Fields.{number_at}
+use Rattle.pfr_flash.specs.Numbers.{number_at}
 use Rattle.pfr_chain.specs.Types.{is_certificate}
 use Rattle.pfr_chain.specs.Keys.{any}
 use Rattle.pfr_made.specs.Blocks.{block0_bytes, block_in, signed_bytes}

@@ -20,7 +20,7 @@ use Rattle.pfr_description.specs.declared.form.Form.{Form}
 use Rattle.pfr_description.specs.declared.form.Form.TheVariants.{One, Two}
 use Rattle.pfr_description.specs.declared.keys.KeyDescription.{KeyDescription}
 use Rattle.pfr_made.specs.Blocks.{block0_bytes, block_in, signed_bytes}
-use Rattle.pfr_made.specs.Chained.{made_chain}
+use Rattle.pfr_made.proofs.Chained.{made_chain}
 use Rattle.pfr_made.specs.Store.{store_for}
 use Rattle.pfr_made.specs.Store.{root_hash}
 use Rattle.pfr_description.specs.Typed.{IsKeyValue, IsSignerValue, IsValue}

@@ -6,7 +6,7 @@ use Rattle.pfr_engine.specs.Acceptance.{Acceptance}
 use Rattle.pfr_engine.specs.declared.engine.Ask.{Ask}
 use Rattle.pfr_engine.specs.declared.engine.Curve.{Curve}
 use Rattle.pfr_chain.specs.Chain.{IsBlock1, IsChain}
-use Rattle.pfr_chain.specs.Fields.{number_at}
+use Rattle.pfr_flash.specs.Numbers.{number_at}
 use Rattle.pfr_chain.specs.Form1.{IsRoot, IsSigned, IsKey, IsBlock0Entry, IsForm1}
 use Rattle.pfr_chain.specs.Keys.{any, public_key_at, signature_at, MaySign}
 use Rattle.pfr_chain.specs.Types.{is_certificate}
@@ -14,7 +14,7 @@ use Rattle.pfr_chain.specs.declared.form.Form as chain_forms
 use Rattle.pfr_chain.specs.declared.public_key.PublicKey as chain
 use Rattle.pfr_chain.specs.declared.signature.Signature.{Signature}
 use Rattle.pfr_made.specs.Blocks.{block0_bytes, block_in, signed_bytes}
-use Rattle.pfr_made.specs.Chained.{made_chain}
+use Rattle.pfr_made.proofs.Chained.{made_chain}
 use Rattle.pfr_made.specs.Fields.{number_bytes}
 use Rattle.pfr_made.specs.Form1.{key_bytes, signature_bytes, signed_key, marks_on_key, head_bytes, key_entry, block0_entry, block_of}
 use Rattle.pfr_made.specs.Marks.{marks_of}

@@ -5,7 +5,7 @@ use Rattle.pfr_engine.specs.Curves.{curve_of, signature_magic}
 use Rattle.pfr_engine.specs.declared.engine.Ask.{Ask}
 use Rattle.pfr_engine.specs.declared.engine.Curve.{Curve}
 use Rattle.pfr_engine.specs.declared.engine.Curve.TheVariants.{C256, C384}
-use Rattle.pfr_chain.specs.Fields.{number_at}
+use Rattle.pfr_flash.specs.Numbers.{number_at}
 use Rattle.pfr_chain.specs.Keys.{public_key_at, signature_at}
 use Rattle.pfr_chain.specs.declared.public_key.PublicKey as chain
 use Rattle.pfr_chain.specs.declared.signature.Signature.{Signature}

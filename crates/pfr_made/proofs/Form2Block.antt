@@ -3,7 +3,7 @@ use Rattle.std.proofs.Common.{◌≡◌, ℕ, ◌+◌, List, ◌++◌, arith}
 use Rattle.pfr_engine.specs.declared.engine.Ask.{Ask}
 use Rattle.pfr_engine.specs.declared.engine.Curve.TheVariants.{C384}
 use Rattle.pfr_flash.specs.Bytes.{bytes_at}
-use Rattle.pfr_chain.specs.Fields.{number_at}
+use Rattle.pfr_flash.specs.Numbers.{number_at}
 use Rattle.pfr_chain.specs.Keys.{any}
 use Rattle.pfr_made.specs.Fields.{number_bytes, zeros}
 use Rattle.pfr_made.specs.Form2.{key_bytes, signature_bytes, signed_key, long_marks_of, marks_on_key, head_bytes, key_entry, block0_entry}

@@ -8,7 +8,7 @@ use Rattle.pfr_chain.specs.Keys.{MaySign}
 use Rattle.pfr_chain.specs.Chain.{IsBlock1, IsChain}
 use Rattle.pfr_chain.specs.declared.form.Form as chain_forms
 use Rattle.pfr_made.specs.Blocks.{block0_bytes, block_in, signed_bytes}
-use Rattle.pfr_made.specs.Chained.{made_chain}
+use Rattle.pfr_made.proofs.Chained.{made_chain}
 use Rattle.pfr_made.specs.Form2.{block_of}
 use Rattle.pfr_made.specs.Store.{root_hash}
 use Rattle.pfr_description.specs.Typed.{IsKeyValue, IsSignerValue}

@@ -4,7 +4,7 @@ use Rattle.pfr_engine.specs.declared.engine.Ask.{Ask}
 use Rattle.pfr_engine.specs.declared.engine.Curve.{Curve}
 use Rattle.pfr_engine.specs.declared.engine.Curve.TheVariants.{C256, C384}
 use Rattle.pfr_flash.specs.Bytes.{bytes_at}
-use Rattle.pfr_chain.specs.Fields.{number_at}
+use Rattle.pfr_flash.specs.Numbers.{number_at}
 use Rattle.pfr_made.specs.Fields.{number_bytes}
 use Rattle.pfr_made.specs.Form2.{key_bytes, signature_bytes}
 use Rattle.pfr_made.specs.Marks.{number_of_curve}

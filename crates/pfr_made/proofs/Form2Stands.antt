@@ -3,8 +3,8 @@ use Rattle.std.proofs.Common.{◌≡◌, ℕ, ◌+◌, ◌≤◌, ◌<◌, ◌^�
 use Rattle.std.proofs.lemmas.List.{take-take, take_at, drop_at, take_all}
 use Rattle.byteorder.specs.Endian.{little_bytes, little_number}
 use Rattle.pfr_flash.specs.Bytes.{bytes_at}
-use Rattle.pfr_chain.specs.Fields.{number_at}
-use Rattle.pfr_chain.proofs.Parts.{part_of}
+use Rattle.pfr_flash.specs.Numbers.{little_at, number_at}
+use Rattle.pfr_flash.proofs.PartsLemmas.{part_of}
 use Rattle.pfr_manifest.proofs.Numbers.{number_read}
 use Rattle.pfr_made.specs.Fields.{number_bytes}
 use Rattle.pfr_made.proofs.BlockPartsMade.{length-number}
@@ -36,5 +36,5 @@ pub read_bytes : (bytes : List ℕ) (at n : ℕ) (piece : List ℕ) → length p
 read_bytes bytes at n piece long h = subst (λ (k : ℕ). bytes_at bytes at k ≡ piece) long h.is
 
 pub read_number : (bytes : List ℕ) (at n : ℕ) → n < 2 ^ 32 → Stands bytes at (number_bytes n) → number_at bytes at ≡ n
-unfolding number_at number_bytes
+unfolding little_at number_bytes
 read_number bytes at n fits h = ap (little_number 4) (read_bytes bytes at 4 (little_bytes 4 n) (length-number n) h) ∙ number_read n fits

@@ -5,7 +5,6 @@ use Rattle.std.proofs.lemmas.Bool.{leb-true, eqb-true}
 use Rattle.pfr_flash.specs.Layout.{judge_layout}
 use Rattle.pfr_flash.specs.declared.layout.LayoutRule.{LayoutRule}
 use Rattle.pfr_flash.specs.declared.names.Bank.{Bank}
-use Rattle.pfr_flash.specs.declared.names.Bank.TheVariants.{Bmc, Pch}
 use Rattle.pfr_flash.proofs.LayoutLemmas.{judged_valid}
 use Rattle.pfr_manifest.specs.declared.fail.ManifestFail.{ManifestFail}
 use Rattle.pfr_description.specs.Banks.{bank_of}
@@ -16,10 +15,10 @@ use Rattle.pfr_description.specs.declared.fail.DescWhy.TheVariants.{Fit}
 use Rattle.pfr_description.specs.declared.fail.FitPart.{FitPart}
 use Rattle.pfr_description.specs.declared.fail.FitPart.TheVariants as parts
 use Rattle.pfr_made.specs.Capsules.{capsule_body}
-use Rattle.pfr_made.specs.Judge.{IsPlaced, before, fit_capsule, fit_manifest, is_bank_size, judge_image, judge_place, judge_places, of_bank, of_manifest, require_fit, require_image}
+use Rattle.pfr_made.specs.Judge.{IsPlaced, before, fit_capsule, fit_manifest, is_bank_size, judge_image, judge_place, of_bank, of_manifest, require_fit, require_image}
 use Rattle.pfr_made.specs.Made.{active_image, judge_bank, judge_fits, judge_given}
 use Rattle.pfr_made.specs.Manifests.{manifest_length}
-use Rattle.pfr_made.specs.Regions.{judge_entries}
+use Rattle.pfr_made.specs.Entries.{judge_entries}
 
 -- all that a bank's description, image and staged file obey
 pub record IsMakeable (desc : Description) (bank : Bank) (image staged : List ℕ) : Type 0 where
@@ -72,11 +71,6 @@ place_told bank part h =
       greatest = leb-true part.size 67108864 t.2;
       layout = judged_valid part.layout part.size (passed_layout bank (judge_layout part.layout part.size) p.1);
     }
-
-pub places_told : (desc : Description) (bank : Bank) → judge_places desc ≡ Ok tt → IsPlaced (bank_of desc bank)
-unfolding judge_places bank_of
-places_told desc Bmc h = place_told Bmc desc.bmc (passed_before (judge_place Bmc desc.bmc) (judge_place Pch desc.pch) h).0
-places_told desc Pch h = place_told Pch desc.pch (passed_before (judge_place Bmc desc.bmc) (judge_place Pch desc.pch) h).1
 
 pub bank_told : (desc : Description) (bank : Bank) (image staged : List ℕ) → judge_bank desc bank image staged ≡ Ok tt → IsMakeable desc bank image staged
 unfolding judge_given judge_fits judge_image fit_manifest fit_capsule

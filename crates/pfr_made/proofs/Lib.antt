@@ -1,10 +1,6 @@
 pub mod ManifestMadeRegions
 pub mod ManifestMadeLengths
 pub mod ManifestMade
-pub mod EntriesCauseDefinitions
-pub mod EntriesCauseRegions
-pub mod EntriesCauseRules
-pub mod EntriesCause
 pub mod BlockPartsMade
 pub mod BlockHeadMade
 pub mod BlockMade
@@ -43,3 +39,4 @@ pub mod ServesMade
 pub mod StoreMade
 pub mod TrustMade
 pub mod WorthMade
+pub mod Chained

@@ -4,10 +4,10 @@ use Rattle.std.proofs.lemmas.Bool.{leb-true}
 use Rattle.std.proofs.lemmas.List.{length-map}
 use Rattle.std.proofs.lemmas.List.Elements.{All-map, All-weaker}
 use Rattle.pfr_manifest.specs.Hashes.{HasHash}
-use Rattle.pfr_manifest.specs.Judging.{◌>>◌, require}
+use Rattle.pfr_flash.specs.Judging.{◌>>◌, require}
 use Rattle.pfr_manifest.specs.Manifest.{IsRegionWide, IsRuleWide, IsManifestOf}
 use Rattle.pfr_manifest.specs.declared.fail.ManifestFail.TheVariants.{Svn, TooMany}
-use Rattle.pfr_manifest.proofs.Tests.{passed_test, passed_unit, passed_last}
+use Rattle.pfr_flash.proofs.JudgingLemmas.{passed_test, passed_unit, passed_last}
 use Rattle.pfr_auth.specs.Regions.{IsHashed}
 use Rattle.pfr_description.specs.Described.{BankDescription}
 use Rattle.pfr_description.specs.declared.region.HashKind.{HashKind}
@@ -16,7 +16,8 @@ use Rattle.pfr_description.specs.declared.region.RegionDescription.{RegionDescri
 use Rattle.pfr_description.specs.declared.smbus.SmbusDescription.{SmbusDescription}
 use Rattle.pfr_made.specs.Fields.{zeros}
 use Rattle.pfr_made.specs.Manifests.{hash_of, region_of, rule_of, manifest_of, text_of, manifest_length}
-use Rattle.pfr_made.specs.Regions.{bytes_of, judge_regions, judge_entries}
+use Rattle.pfr_made.specs.Entries.{judge_regions, judge_entries}
+use Rattle.pfr_made.specs.Regions.{bytes_of}
 use Rattle.pfr_description.specs.Typed.{IsRegionValue, IsRuleValue, IsBankValue}
 use Rattle.pfr_made.proofs.ManifestMadeRegions.{AreRegions, all_regions_made}
 use Rattle.pfr_made.proofs.ManifestMadeLengths.{digest_made, least_made, manifest_len_made, manifest_short}
@@ -39,11 +40,6 @@ entries_judged part judged =
       regions = q.0;
       rules = leb-true (length part.smbus) 64 (passed_last TooMany (nat_le (length part.smbus) 64) q.1);
     }
-
--- what the manifest holds is what the description says
-pub manifest_svn : (part : BankDescription) (active : List ℕ) → (manifest_of part active).svn ≡ part.svn
-unfolding manifest_of
-manifest_svn part active = refl
 
 pub manifest_regions : (part : BankDescription) (active : List ℕ) → (manifest_of part active).regions ≡ map (region_of active) part.regions
 unfolding manifest_of

@@ -2,7 +2,7 @@
 use Rattle.std.proofs.Common.{◌≡◌, ◌∙◌, ap, sym, refl, ℕ, zero, suc, ◌+◌, ◌-◌, ◌*◌, ◌/◌, ◌%◌, ◌<◌, ◌≤◌, true, List, length, take, replicate, arith}
 use Rattle.std.proofs.lemmas.List.{drop-replicate, take-replicate}
 use Rattle.pfr_flash.specs.Bytes.{blank, bytes_at}
-use Rattle.pfr_chain.proofs.Parts.{bytes_at-append, part_of}
+use Rattle.pfr_flash.proofs.PartsLemmas.{bytes_at-append, part_of}
 use Rattle.pfr_capsule.specs.Maps.{count_before, map_bit}
 use Rattle.pfr_capsule.specs.PageBytes.{bytes_of_pages, page_bytes}
 use Rattle.pfr_capsule.specs.Pages.{copy_map, erase_map, page_in, page_of, pages_at}

@@ -3,7 +3,7 @@ use Rattle.std.proofs.Common.{◌≡◌, ◌∙◌, ap, sym, refl, ℕ, ◌+◌,
 use Rattle.std.proofs.lemmas.List.{drop_at, drop-drop, drop-take, length-replicate, take_at, take-take}
 use Rattle.byteorder.specs.Endian.{little_number, little_bytes}
 use Rattle.pfr_flash.specs.Bytes.{bytes_at}
-use Rattle.pfr_chain.specs.Fields.{number_at}
+use Rattle.pfr_flash.specs.Numbers.{little_at, number_at}
 use Rattle.pfr_manifest.proofs.Numbers.{number_read}
 use Rattle.pfr_capsule.specs.PageHeader.{page_header_of}
 use Rattle.pfr_capsule.specs.declared.page_header.PageHeader.{PageHeader}
@@ -28,11 +28,11 @@ unfolding number_bytes
 length-number_bytes number = refl
 
 pub first_number : (number : ℕ) (rest : List ℕ) → number < 2 ^ 32 → number_at (number_bytes number ++ rest) 0 ≡ number
-unfolding number_at number_bytes
+unfolding little_at number_bytes
 first_number number rest h = ap (λ (bytes : List ℕ). little_number 4 bytes) (take_at (little_bytes 4 number) rest 4 refl) ∙ number_read number h
 
 pub next_number : (number : ℕ) (rest : List ℕ) (at : ℕ) → number_at (number_bytes number ++ rest) (4 + at) ≡ number_at rest at
-unfolding number_at
+unfolding little_at
 next_number number rest at =
     ap (λ (bytes : List ℕ). little_number 4 (take 4 bytes))
     (sym (drop-drop at 4 (number_bytes number ++ rest)) ∙ ap (λ (bytes : List ℕ). drop at bytes) (drop_at (number_bytes number) rest 4 (length-number_bytes number)))

@@ -1,20 +1,21 @@
 -- What the description says of a page: each page of a region has the region's use, and a page with another use than Keep lies in a region.
-use Rattle.std.proofs.Common.{◌≡◌, ◌∙◌, ap, sym, refl, ℕ, zero, suc, ◌+◌, ◌*◌, ◌%◌, ◌<◌, ◌≤◌, Bool, true, false, not, ◌==◌, ◌&&◌, nat_le, nat_lt, is_some, if◌then◌else◌, List, [], ◌∷◌, length, get_or, map, Any, inl, inr, Result, Ok, Err, arith}
+use Rattle.std.proofs.Common.{◌≡◌, ◌∙◌, ap, sym, refl, ℕ, zero, suc, ◌*◌, ◌%◌, ◌<◌, ◌≤◌, Bool, true, false, ◌&&◌, nat_le, nat_lt, if◌then◌else◌, List, [], ◌∷◌, length, get_or, map, All, Any, inl, inr, Ok, arith}
 use Rattle.std.proofs.lemmas.Bool.{cases_Bool, and_parts, and_from, le-leb, leb-true, lt-ltb, le-ltb, ltb-true}
-use Rattle.std.proofs.lemmas.Bool.Decides.{nat_tests}
+use Rattle.std.proofs.lemmas.List.Elements.{All-head, All-tail}
 use Rattle.pfr_flash.specs.declared.layout.Layout.{Layout}
-use Rattle.pfr_manifest.specs.Judging.{◌>>◌}
-use Rattle.pfr_manifest.specs.declared.fail.ManifestFail.{ManifestFail}
-use Rattle.pfr_manifest.proofs.Tests.{passed_test, passed_last}
+use Rattle.pfr_manifest.specs.Regions.{IsRegion, IsInOrder}
 use Rattle.pfr_manifest.specs.declared.region.Region.{Region}
 use Rattle.pfr_capsule.specs.Maps.{IsPageOf}
 use Rattle.pfr_description.specs.Described.{BankDescription}
 use Rattle.pfr_description.specs.declared.region.PageUse.{PageUse}
 use Rattle.pfr_description.specs.declared.region.RegionDescription.{RegionDescription}
+use Rattle.pfr_made.specs.Entries.{judge_entries}
 use Rattle.pfr_made.specs.Manifests.{region_of}
 use Rattle.pfr_made.specs.Pages.{has_bit, has_byte, use_of}
-use Rattle.pfr_made.specs.Regions.{is_clear, is_writable, judge_region, judge_regions, judge_entries}
+use Rattle.pfr_made.specs.Regions.{IsInside}
 use Rattle.pfr_made.specs.declared.page_map.PageMap.TheVariants as maps
+use Rattle.pfr_made.proofs.ManifestMade.{regions_judged}
+use Rattle.pfr_made.proofs.ManifestMadeRegions.{AreRegions}
 
 -- ---- what the judgement tells of the regions' places
 pub record IsWhole (size : ℕ) (region : RegionDescription) : Type 0 where
@@ -28,48 +29,32 @@ abbrev pub AreOrdered : ℕ → ℕ → List RegionDescription → Type 0
 AreOrdered from size [] = Unit {0}
 AreOrdered from size (region ∷ others) = IsWhole size region × (from ≤ region.start) × AreOrdered region.end size others
 
-align_tells : (start end : ℕ) → (start % 4096 == 0 && end % 4096 == 0) ≡ true → (start % 4096 ≡ 0) × (end % 4096 ≡ 0)
-align_tells start end h = grind (arith, nat_tests)
-
-range_tells : (start end size : ℕ) (clear : Bool) → (nat_lt start end && nat_le end size && clear) ≡ true → (start < end) × (end ≤ size)
-range_tells start end size clear h = grind (arith, nat_tests)
-
-passed_judgement : (first rest : Result (Unit {0}) ManifestFail) → (first >> rest) ≡ Ok tt → (first ≡ Ok tt) × (rest ≡ Ok tt)
-passed_judgement (Ok x) rest h = (refl, h)
-passed_judgement (Err cause) rest h = absurd cc
-
 not_second : (a b : Bool) → b ≡ false → (a && b) ≡ false
 not_second true b h = h
 not_second false b h = refl
 
-region_whole : (k : ℕ) (region : RegionDescription) (last_start last_end : ℕ) (layout : Layout) (size : ℕ) → judge_region k region last_start last_end layout size ≡ Ok tt
-    → IsWhole size region × (last_end ≤ region.start)
-unfolding judge_region
-region_whole k region last_start last_end layout size h =
-    let a = passed_test _ (nat_lt k 64) _ tt h in
-    let b = passed_test _ (not (is_some region.hash && is_writable region)) _ tt a.1 in
-    let c = passed_test _ (region.start % 4096 == 0 && region.end % 4096 == 0) _ tt b.1 in
-    let d = passed_test _ (nat_lt region.start region.end && nat_le region.end size && is_clear region layout) _ tt c.1 in
-    let e = passed_test _ (nat_le last_start region.start) _ tt d.1 in
-    let f = passed_last _ (nat_le last_end region.start) e.1 in
-    let aligned = align_tells region.start region.end c.0 in
-    let range = range_tells region.start region.end size (is_clear region layout) d.0 in
-    (record { start_aligned = aligned.0; end_aligned = aligned.1; some = range.0; inside = range.1 }, leb-true last_end region.start f)
+region_whole : (layout : Layout) (size : ℕ) (region : RegionDescription) → IsRegion layout size (region_of [] region) → IsWhole size region
+unfolding region_of
+region_whole layout size region is = record { start_aligned = is.start_aligned; end_aligned = is.end_aligned; some = is.some; inside = is.inside }
 
-regions_ordered : (k last_start last_end : ℕ) (regions : List RegionDescription) (layout : Layout) (size : ℕ) → judge_regions k last_start last_end regions layout size ≡ Ok tt → AreOrdered last_end size regions
-unfolding judge_regions
-regions_ordered k last_start last_end [] layout size h = tt
-regions_ordered k last_start last_end (region ∷ others) layout size h =
-    let p = passed_judgement (judge_region k region last_start last_end layout size) _ h in
-    let here = region_whole k region last_start last_end layout size p.0 in
-    (here.0, here.1, regions_ordered (k + 1) region.start region.end others layout size p.1)
+regions_ordered : (layout : Layout) (size from : ℕ) (region : RegionDescription) (others : List RegionDescription) → from ≤ region.start
+    → All (IsRegion layout size) (map (region_of []) (region ∷ others)) → IsInOrder (map (region_of []) (region ∷ others)) → AreOrdered from size (region ∷ others)
+unfolding region_of
+regions_ordered layout size from region [] behind are in_order =
+    (region_whole layout size region (All-head (IsRegion layout size) (region_of [] region) [] are), behind, tt)
+regions_ordered layout size from region (next ∷ others) behind are in_order = (
+  region_whole layout size region (All-head (IsRegion layout size) (region_of [] region) (map (region_of []) (next ∷ others)) are),
+  behind,
+  regions_ordered layout size region.end next others in_order.0
+      (All-tail (IsRegion layout size) (region_of [] region) (map (region_of []) (next ∷ others)) are) in_order.1,
+)
+
+some_ordered : (layout : Layout) (size : ℕ) (regions : List RegionDescription) → AreRegions layout size (map (region_of []) regions) → AreOrdered 0 size regions
+some_ordered layout size [] are = tt
+some_ordered layout size (region ∷ others) are = regions_ordered layout size 0 region others (omega arith) are.each are.in_order
 
 pub entries_ordered : (part : BankDescription) → judge_entries part ≡ Ok tt → AreOrdered 0 part.size part.regions
-unfolding judge_entries
-entries_ordered part h =
-    let a = passed_test _ (nat_le part.svn 127) _ tt h in
-    let b = passed_judgement (judge_regions 0 0 0 part.regions part.layout part.size) _ a.1 in
-    regions_ordered 0 0 0 part.regions part.layout part.size b.0
+entries_ordered part judged = some_ordered part.layout part.size part.regions (regions_judged part [] judged)
 
 -- ---- one region of them
 pub region_at : (from size : ℕ) (regions : List RegionDescription) (k : ℕ) (d : RegionDescription) → AreOrdered from size regions → k < length regions
@@ -79,6 +64,11 @@ region_at from size (region ∷ others) zero d h within = (h.0, h.1)
 region_at from size (region ∷ others) (suc k) d h within =
     let rest = region_at region.end size others k d h.2 (omega arith) in
     (rest.0, omega (arith, h.0.some, h.1, rest.1))
+
+pub entries_inside : (part : BankDescription) → judge_entries part ≡ Ok tt → All (IsInside part.size) part.regions
+entries_inside part judged = λ k d within.
+    let is = region_at 0 part.size part.regions k d (entries_ordered part judged) within in
+    record { ordered = omega (arith, is.0.some); within = is.0.inside }
 
 -- each page of a region has the region's use
 pub use_is : (from size : ℕ) (regions : List RegionDescription) (k page : ℕ) (d : RegionDescription) → AreOrdered from size regions → k < length regions

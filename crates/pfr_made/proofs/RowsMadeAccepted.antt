@@ -1,5 +1,5 @@
 -- What an engine that accepts the rows of a bank is known to accept: the marks in both blocks.
-use Rattle.std.proofs.Common.{◌≡◌, ℕ, true, List, [], ◌∷◌, ◌++◌, Ok, refl, subst}
+use Rattle.std.proofs.Common.{◌≡◌, ℕ, true, List, [], ◌∷◌, ◌++◌, Ok, refl}
 use Rattle.std.proofs.lemmas.List.Elements.{All-head, recursion_from_All}
 use Rattle.pfr_engine.specs.Acceptance.{Acceptance}
 use Rattle.pfr_engine.specs.Rows.{judge_text}
@@ -15,14 +15,14 @@ use Rattle.pfr_description.specs.declared.form.Form.TheVariants.{One, Two}
 use Rattle.pfr_description.specs.declared.keys.KeyDescription.{KeyDescription}
 use Rattle.pfr_description.specs.declared.keys.PublicKey.{PublicKey}
 use Rattle.pfr_made.specs.Accepting.{AcceptsRow, AcceptsText}
-use Rattle.pfr_made.specs.Blocks.{block0_bytes, signed_rows, root_signed_row}
+use Rattle.pfr_made.specs.Blocks.{block0_bytes, root_signed_row}
 use Rattle.pfr_made.specs.Capsules.{capsule_body}
 use Rattle.pfr_made.specs.Form2 as form2
 use Rattle.pfr_made.specs.Made.{rows_of}
 use Rattle.pfr_made.specs.Manifests.{text_of}
 use Rattle.pfr_made.specs.Marks.{number_of_curve, marks_of}
 use Rattle.pfr_description.specs.Typed.{IsKeyValue, IsBankValue, IsValue}
-use Rattle.pfr_made.proofs.RowsMadeTexts.{signed_key_in, said_in, rows_parse, root_row_parses, four_rows_parse}
+use Rattle.pfr_made.proofs.RowsMadeTexts.{signed_key_in, said_in, root_row_parses, four_rows_parse}
 
 -- the engine accepts the key's marks on the message
 abbrev pub AcceptsShort : Acceptance → Description → PublicKey → List ℕ → Type 0
@@ -55,26 +55,11 @@ module _ (accepts : Acceptance) (text : List ℕ) (h : AcceptsText accepts text)
   of_one : (a : Row) → judge_text text ≡ Ok (a ∷ []) → AcceptsRow accepts a
   of_one a is = All-head (AcceptsRow accepts) a [] (h (a ∷ []) is)
 
-  of_two : (a b : Row) → judge_text text ≡ Ok (a ∷ b ∷ []) → AcceptsRow accepts a × AcceptsRow accepts b
-  of_two a b is =
-      let all = recursion_from_All (AcceptsRow accepts) (a ∷ b ∷ []) (h (a ∷ b ∷ []) is) in
-      (all.0, all.1.0)
-
   of_four : (a b c d : Row) → judge_text text ≡ Ok (a ∷ b ∷ c ∷ d ∷ []) →
       AcceptsRow accepts a × AcceptsRow accepts b × AcceptsRow accepts c × AcceptsRow accepts d
   of_four a b c d is =
       let all = recursion_from_All (AcceptsRow accepts) (a ∷ b ∷ c ∷ d ∷ []) (h (a ∷ b ∷ c ∷ d ∷ []) is) in
       (all.0, all.1.0, all.1.1.0, all.1.1.1.0)
-
--- of one signed content
-pub accepted_block : (accepts : Acceptance) (desc : Description) (key : KeyDescription) (type : ContentType) (content : List ℕ) →
-    IsKeyValue desc.root → IsKeyValue key.key → AcceptsText accepts (signed_rows desc key type content) → AcceptsBlock desc.form accepts desc key type content
-accepted_block accepts desc key type content root signer h =
-    let all = of_two accepts (signed_rows desc key type content) h _ _ (rows_parse desc key type content root signer) in
-    record {
-      on_key = accepted_in desc.form accepts desc desc.root (signed_key_in desc.form desc key) all.0;
-      on_block0 = accepted_in desc.form accepts desc key.key (block0_bytes desc.form type content) all.1;
-    }
 
 -- of one content that the root signs
 pub accepted_root : (accepts : Acceptance) (desc : Description) (type : ContentType) (content : List ℕ) →
@@ -110,13 +95,3 @@ bank_value desc Pch h = h.pch
 pub accepted_rows : (accepts : Acceptance) (desc : Description) (bank : Bank) (active : List ℕ) → IsValue desc →
     AcceptsText accepts (rows_of desc bank active) → AcceptsBank desc.form accepts desc bank active
 accepted_rows accepts desc bank active h = accepted accepts desc bank active h.root (bank_value desc bank h)
-
-pub accepted_1 : (accepts : Acceptance) (desc : Description) (bank : Bank) (active : List ℕ) → desc.form ≡ One → IsValue desc →
-    AcceptsText accepts (rows_of desc bank active) → AcceptsBank One accepts desc bank active
-accepted_1 accepts desc bank active form h text =
-    subst (λ (f : Form). AcceptsBank f accepts desc bank active) form (accepted_rows accepts desc bank active h text)
-
-pub accepted_2 : (accepts : Acceptance) (desc : Description) (bank : Bank) (active : List ℕ) → desc.form ≡ Two → IsValue desc →
-    AcceptsText accepts (rows_of desc bank active) → AcceptsBank Two accepts desc bank active
-accepted_2 accepts desc bank active form h text =
-    subst (λ (f : Form). AcceptsBank f accepts desc bank active) form (accepted_rows accepts desc bank active h text)

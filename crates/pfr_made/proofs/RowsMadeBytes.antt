@@ -1,34 +1,15 @@
 -- Hex words of bytes: they are digits, without space and newline.
-use Rattle.std.proofs.Common.{◌≡◌, ◌==◌, ℕ, zero, suc, ◌<◌, true, false, List, length, All, inl, inr, arith}
-use Rattle.std.specs.Int.{byte_at, bytes_high_first}
+use Rattle.std.proofs.Common.{◌≡◌, ◌==◌, ℕ, true, false, List, All, arith}
 use Rattle.std.specs.List.{AllPass, list_all}
-use Rattle.std.proofs.lemmas.Bool.{cases_lt}
 use Rattle.std.proofs.lemmas.Bool.Decides.{nat_tests}
-use Rattle.std.proofs.lemmas.List.{get_or_past}
-use Rattle.std.proofs.lemmas.List.Elements.{All-nil, All-cons, All-weaker}
+use Rattle.std.proofs.lemmas.List.Elements.{All-weaker}
 use Rattle.std.proofs.lemmas.List.Sums.{list_all-from_AllPass}
-use Rattle.hex.specs.Hex.{IsBytes, encode_lower, is_hex_digit}
+use Rattle.hex.specs.Hex.{encode_lower, is_hex_digit}
 use Rattle.hex.proofs.HexLemmas.{decode_of-encode_lower, decode_of-ok}
-use Rattle.pfr_description.specs.Typed.{AreBytes}
-
-byte_at-small : (k n : ℕ) → byte_at k n < 256
-byte_at-small zero n = omega arith
-byte_at-small (suc k) n = omega arith
-
-pub number_are_bytes : (k n : ℕ) → AreBytes (bytes_high_first k n)
-number_are_bytes zero n = All-nil (λ (b : ℕ). b < 256)
-number_are_bytes (suc k) n = All-cons (λ b. b < 256) (byte_at k n) (bytes_high_first k n) (byte_at-small k n) (number_are_bytes k n)
-
--- past its end a list has zeros
-pub each_byte : (bytes : List ℕ) → AreBytes bytes → IsBytes bytes
-each_byte bytes h i =
-    elim (cases_lt i (length bytes)) [
-      | inl within ↦ h i 0 within
-      | inr past ↦ rw (get_or_past bytes i 0 past) (omega arith)
-    ]
+use Rattle.pfr_flash.specs.Bytes.{AreBytes}
 
 word_digits : (bytes : List ℕ) → AreBytes bytes → AllPass is_hex_digit (encode_lower bytes)
-word_digits bytes h = (decode_of-ok (encode_lower bytes) bytes (decode_of-encode_lower bytes (each_byte bytes h))).1
+word_digits bytes h = (decode_of-ok (encode_lower bytes) bytes (decode_of-encode_lower bytes h)).1
 
 pub word_is_hex : (bytes : List ℕ) → AreBytes bytes → list_all is_hex_digit (encode_lower bytes) ≡ true
 word_is_hex bytes h = list_all-from_AllPass is_hex_digit (encode_lower bytes) (word_digits bytes h)

@@ -51,10 +51,6 @@ pub one_row : (text : List ℕ) (row : Row) → SpellsRow text row → judge_tex
 unfolding judge_text
 one_row text row spells = row_alone 1 text row (omega arith) spells
 
-pub two_rows : (first second : List ℕ) (a b : Row) → SpellsRow first a → SpellsRow second b → judge_text (first ++ second) ≡ Ok (a ∷ b ∷ [])
-unfolding judge_text
-two_rows first second a b h k = row_front 1 first second a (b ∷ []) (omega arith) h (row_alone 2 second b (omega arith) k)
-
 -- four rows in front of others
 pub four_front : (number : ℕ) (first second third fourth rest : List ℕ) (a b c d : Row) (rows : List Row) → number + 3 ≤ 4096 →
     SpellsRow first a → SpellsRow second b → SpellsRow third c → SpellsRow fourth d → judge_lines (number + 1 + 1 + 1 + 1) (lines_in rest) ≡ Ok rows →

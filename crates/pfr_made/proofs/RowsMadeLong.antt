@@ -17,9 +17,10 @@ use Rattle.pfr_description.specs.declared.keys.PublicKey.{PublicKey}
 use Rattle.pfr_made.specs.Form2.{long_marks_of}
 use Rattle.pfr_made.specs.Marks.{number_of_curve, mark_of}
 use Rattle.pfr_made.specs.Rows.{word, long_row_of}
-use Rattle.pfr_description.specs.Typed.{AreBytes, IsKeyValue}
-use Rattle.pfr_made.proofs.ByteLaws.{sha384-bytes, AreBytes-append}
-use Rattle.pfr_made.proofs.RowsMadeBytes.{number_are_bytes}
+use Rattle.pfr_flash.specs.Bytes.{AreBytes}
+use Rattle.pfr_description.specs.Typed.{IsKeyValue}
+use Rattle.pfr_flash.proofs.AreBytesLemmas.{AreBytes-append}
+use Rattle.pfr_made.proofs.ByteLaws.{number_are_bytes, sha384-bytes}
 use Rattle.pfr_made.proofs.RowsMadeLines.{SpellsRow}
 use Rattle.pfr_made.proofs.RowsMadeShort.{length-mark_of, mark_of-bytes}
 use Rattle.pfr_made.proofs.RowsMadeWords.{IsField, words_of, fields_words, fields_clear, fields_are_words, fields_are_hex, read_word, read_long_word}

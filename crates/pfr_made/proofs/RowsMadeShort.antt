@@ -22,9 +22,9 @@ use Rattle.pfr_chain.specs.Keys.{digest_on}
 use Rattle.pfr_description.specs.declared.keys.PublicKey.{PublicKey}
 use Rattle.pfr_made.specs.Marks.{number_of_curve, digest_bytes, mark_of, marks_of}
 use Rattle.pfr_made.specs.Rows.{word, row_of}
-use Rattle.pfr_description.specs.Typed.{AreBytes, IsKeyValue}
-use Rattle.pfr_made.proofs.ByteLaws.{sha256-bytes, sha384-bytes}
-use Rattle.pfr_made.proofs.RowsMadeBytes.{number_are_bytes, each_byte}
+use Rattle.pfr_flash.specs.Bytes.{AreBytes}
+use Rattle.pfr_description.specs.Typed.{IsKeyValue}
+use Rattle.pfr_made.proofs.ByteLaws.{number_are_bytes, sha256-bytes, sha384-bytes}
 use Rattle.pfr_made.proofs.RowsMadeLines.{SpellsRow}
 use Rattle.pfr_made.proofs.RowsMadeWords.{IsField, words_of, fields_words, fields_clear, fields_are_words, fields_are_hex, read_word}
 
@@ -52,8 +52,8 @@ digest_field C384 message = record { some = omega (arith, length-sha384 message)
 
 digest_said : (curve : Curve) (message : List ℕ) → digest_of curve (encode_lower (digest_bytes (digest_on curve message))) ≡ Ok (digest_on curve message)
 unfolding digest_of
-digest_said C256 message = rw (decode_sized-encode_lower (sha256 message) 32 (length-sha256 message) (each_byte (sha256 message) (sha256-bytes message))) refl
-digest_said C384 message = rw (decode_sized-encode_lower (sha384 message) 48 (length-sha384 message) (each_byte (sha384 message) (sha384-bytes message))) refl
+digest_said C256 message = rw (decode_sized-encode_lower (sha256 message) 32 (length-sha256 message) (sha256-bytes message)) refl
+digest_said C384 message = rw (decode_sized-encode_lower (sha384 message) 48 (length-sha384 message) (sha384-bytes message)) refl
 
 -- what the six words say
 asked : (curve : Curve) (x y r s message : List ℕ) → length x ≡ 48 → length y ≡ 48 → length r ≡ 48 → length s ≡ 48 →

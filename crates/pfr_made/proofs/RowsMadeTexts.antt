@@ -23,7 +23,7 @@ use Rattle.pfr_made.specs.Manifests.{text_of}
 use Rattle.pfr_made.specs.Marks.{number_of_curve, marks_of}
 use Rattle.pfr_made.specs.Rows.{row_of, long_row_of}
 use Rattle.pfr_description.specs.Typed.{IsKeyValue}
-use Rattle.pfr_made.proofs.RowsMadeLines.{SpellsRow, one_row, two_rows, four_front}
+use Rattle.pfr_made.proofs.RowsMadeLines.{SpellsRow, one_row, four_front}
 use Rattle.pfr_made.proofs.RowsMadeShort.{short_spells}
 use Rattle.pfr_made.proofs.RowsMadeLong.{long_said, long_spells}
 
@@ -55,16 +55,6 @@ rows_in-are Two desc key block0 = refl
 root_row_in-is : (form : Form) (desc : Description) (block0 : List ℕ) → root_row_in form desc block0 ≡ row_in form desc desc.root block0
 root_row_in-is One desc block0 = refl
 root_row_in-is Two desc block0 = refl
-
--- the root's row on the key, then the key's on Block 0
-pub rows_parse : (desc : Description) (key : KeyDescription) (type : ContentType) (content : List ℕ) → IsKeyValue desc.root → IsKeyValue key.key →
-    judge_text (signed_rows desc key type content)
-    ≡ Ok (said_in desc.form desc desc.root (signed_key_in desc.form desc key) ∷ said_in desc.form desc key.key (block0_bytes desc.form type content) ∷ [])
-unfolding signed_rows
-rows_parse desc key type content root signer =
-    let block0 = block0_bytes desc.form type content in
-    ap judge_text (rows_in-are desc.form desc key block0)
-    ∙ two_rows _ _ _ _ (spells_in desc.form desc desc.root (signed_key_in desc.form desc key) root) (spells_in desc.form desc key.key block0 signer)
 
 -- the one row of a content that the root signs
 pub root_row_parses : (desc : Description) (type : ContentType) (content : List ℕ) → IsKeyValue desc.root →
@@ -103,29 +93,3 @@ pub four_rows_parse : (desc : Description) (bank : Bank) (active : List ℕ) →
 unfolding judge_text
 four_rows_parse desc bank active root manifest capsule =
     ap judge_text (sym (append-nil (rows_of desc bank active))) ∙ four_rows_front 1 desc bank active [] [] (omega arith) root manifest capsule refl
-
--- ---- in the words of each form
-pub short_rows_parse : (desc : Description) (key : KeyDescription) (type : ContentType) (content : List ℕ) → desc.form ≡ One → IsKeyValue desc.root → IsKeyValue key.key →
-    judge_text (signed_rows desc key type content) ≡ Ok (Short (form1.marks_on_key desc key) ∷ Short (marks_of desc.curve key.key (block0_bytes desc.form type content)) ∷ [])
-short_rows_parse desc key type content form root signer =
-    let block0 = block0_bytes desc.form type content in
-    rows_parse desc key type content root signer
-    ∙ ap (λ (f : Form). Ok (said_in f desc desc.root (signed_key_in f desc key) ∷ said_in f desc key.key block0 ∷ [])) form
-
-pub long_rows_parse : (desc : Description) (key : KeyDescription) (type : ContentType) (content : List ℕ) → desc.form ≡ Two → IsKeyValue desc.root → IsKeyValue key.key →
-    judge_text (signed_rows desc key type content)
-    ≡ Ok (Long (long_said desc.curve desc.root (form2.signed_key desc key)) ∷ Long (long_said desc.curve key.key (block0_bytes desc.form type content)) ∷ [])
-long_rows_parse desc key type content form root signer =
-    let block0 = block0_bytes desc.form type content in
-    rows_parse desc key type content root signer
-    ∙ ap (λ (f : Form). Ok (said_in f desc desc.root (signed_key_in f desc key) ∷ said_in f desc key.key block0 ∷ [])) form
-
-pub short_root_row_parses : (desc : Description) (type : ContentType) (content : List ℕ) → desc.form ≡ One → IsKeyValue desc.root →
-    judge_text (root_signed_row desc type content) ≡ Ok (Short (marks_of desc.curve desc.root (block0_bytes desc.form type content)) ∷ [])
-short_root_row_parses desc type content form root =
-    root_row_parses desc type content root ∙ ap (λ (f : Form). Ok (said_in f desc desc.root (block0_bytes desc.form type content) ∷ [])) form
-
-pub long_root_row_parses : (desc : Description) (type : ContentType) (content : List ℕ) → desc.form ≡ Two → IsKeyValue desc.root →
-    judge_text (root_signed_row desc type content) ≡ Ok (Long (long_said desc.curve desc.root (block0_bytes desc.form type content)) ∷ [])
-long_root_row_parses desc type content form root =
-    root_row_parses desc type content root ∙ ap (λ (f : Form). Ok (said_in f desc desc.root (block0_bytes desc.form type content) ∷ [])) form

@@ -9,8 +9,8 @@ use Rattle.hex.specs.Hex.{encode_lower, is_hex_digit, lower_digits}
 use Rattle.hex.proofs.HexLemmas.{length-encode_with, decode_of-encode_lower, decode_sized-encode_lower}
 use Rattle.pfr_engine.specs.declared.engine_why.EngineWhy.TheVariants as causes
 use Rattle.pfr_engine.specs.Words.{words_in, is_word, are_words, are_hex, decoded, bytes_of, long_bytes_of}
-use Rattle.pfr_description.specs.Typed.{AreBytes}
-use Rattle.pfr_made.proofs.RowsMadeBytes.{each_byte, word_is_hex, word_no_space, word_no_newline}
+use Rattle.pfr_flash.specs.Bytes.{AreBytes}
+use Rattle.pfr_made.proofs.RowsMadeBytes.{word_is_hex, word_no_space, word_no_newline}
 use Rattle.pfr_made.proofs.RowsMadeLines.{words_of_join, join_clear}
 
 -- some bytes, of which a word is made
@@ -58,7 +58,7 @@ module _ (fields : List (List ℕ)) (h : All IsField fields) where
 -- a word of just so many bytes
 pub read_word : (count : ℕ) (bytes : List ℕ) → length bytes ≡ count → AreBytes bytes → bytes_of count (encode_lower bytes) ≡ Ok bytes
 unfolding bytes_of
-read_word count bytes len are = ap (decoded causes.Length) (decode_sized-encode_lower bytes count len (each_byte bytes are))
+read_word count bytes len are = ap (decoded causes.Length) (decode_sized-encode_lower bytes count len are)
 
 -- and one of up to so many
 pub read_long_word : (most times : ℕ) (bytes : List ℕ) → length bytes ≡ 4 * times → 0 < times → length bytes ≤ most → AreBytes bytes →
@@ -69,4 +69,4 @@ read_long_word most times bytes len some fits are =
     let low : nat_le 8 (length (encode_lower bytes)) ≡ true = grind (arith, nat_tests) in
     let high : nat_le (length (encode_lower bytes)) (2 * most) ≡ true = grind (arith, nat_tests) in
     let multiple : (length (encode_lower bytes) % 8 == 0) ≡ true = grind (arith, nat_tests) in
-    rw (low, high, multiple) (ap (decoded causes.Length) (decode_of-encode_lower bytes (each_byte bytes are)))
+    rw (low, high, multiple) (ap (decoded causes.Length) (decode_of-encode_lower bytes are))

@@ -6,7 +6,6 @@ use Rattle.sha2.specs.Sha256.{sha256}
 use Rattle.sha2.specs.Sha512.{sha384}
 use Rattle.pfr_flash.specs.Bytes.{blank, bytes_at}
 use Rattle.pfr_manifest.specs.Hashes.{HasHash}
-use Rattle.pfr_manifest.specs.Regions.{has_hash}
 use Rattle.pfr_capsule.specs.Good.{Serves}
 use Rattle.pfr_capsule.specs.Maps.{IsCovered}
 use Rattle.pfr_capsule.specs.PageBytes.{IsCoherent, page_bytes, region_bytes}
@@ -28,8 +27,10 @@ use Rattle.pfr_made.specs.Images.{is_blank, is_erased_only}
 use Rattle.pfr_made.specs.Judge.{IsPlaced}
 use Rattle.pfr_made.specs.Manifests.{hash_of, region_of}
 use Rattle.pfr_made.specs.Pages.{has_bit, use_of}
-use Rattle.pfr_made.specs.Regions.{bytes_of, judge_entries}
+use Rattle.pfr_made.specs.Entries.{judge_entries}
+use Rattle.pfr_made.specs.Regions.{bytes_of}
 use Rattle.pfr_made.specs.declared.page_map.PageMap.TheVariants as maps
+use Rattle.pfr_made.proofs.ManifestMadeRegions.{has_hash_of}
 use Rattle.pfr_made.proofs.PagesGive.{copied_page, copy_bit, erase_bit, erased_page, page_of_blanks, pages_give, payload_counted}
 use Rattle.pfr_made.proofs.PagesHeader.{header_read, header_with}
 use Rattle.pfr_made.proofs.PagesPlace.{PagesStand, length-pages_bytes, pages_stand, payload_length}
@@ -44,11 +45,6 @@ abbrev pub made_header : BankDescription → List ℕ → PageHeader
 made_header part active = header_with (page_count part) (payload_length part active)
 
 -- ---- regions with a hash
-static_is : (kind : Option HashKind) (bytes : List ℕ) → has_hash (hash_of kind bytes) ≡ is_some kind
-static_is None bytes = refl
-static_is (Some Sha256) bytes = refl
-static_is (Some Sha384) bytes = refl
-
 hash_made : (kind : Option HashKind) (made bytes : List ℕ) → (is_some kind ≡ true → made ≡ bytes) → HasHash made (hash_of kind bytes)
 hash_made None made bytes h = tt
 hash_made (Some Sha256) made bytes h = ap sha256 (h refl)
@@ -107,7 +103,7 @@ module _ (image active : List ℕ) (at : ℕ) (part : BankDescription) (sized : 
     region_covered : IsCovered (erase_map image (pages_at image (at + 128) (page_count part))) (page_count part) (region_of active region)
     unfolding region_of
     region_covered static page inside lies =
-        let hashed : is_some region.hash ≡ true = sym (static_is region.hash (bytes_of active region)) ∙ static in
+        let hashed : is_some region.hash ≡ true = sym (has_hash_of region.hash (bytes_of active region)) ∙ static in
         erase_bit image active at part placed.whole long stand page inside ∙ ap (λ (pages : PageUse). has_bit maps.Erase pages) (used page lies.low lies.high)
         ∙ erased_unless_kept region.pages (not_kept (is_some region.hash) region.pages brought hashed)
 

@@ -5,7 +5,7 @@ use Rattle.std.proofs.lemmas.Bool.{ne_eqb}
 use Rattle.std.proofs.lemmas.List.{drop-replicate, length-replicate, take-replicate, take-take, take_at}
 use Rattle.byteorder.specs.Endian.{little_bytes}
 use Rattle.sha2.proofs.Facts256.{length-sha256}
-use Rattle.pfr_flash.specs.Bytes.{bytes_at, continued}
+use Rattle.pfr_flash.specs.Bytes.{AreBytes, bytes_at, continued}
 use Rattle.pfr_flash.specs.FuseRow.{fuse_at, is_cleared}
 use Rattle.pfr_flash.specs.declared.layout.Layout.{Layout}
 use Rattle.pfr_flash.specs.declared.names.Bank.{Bank}
@@ -31,9 +31,9 @@ use Rattle.pfr_description.specs.declared.keys.PublicKey.{PublicKey}
 use Rattle.pfr_made.specs.Fields.{blanks, number_bytes}
 use Rattle.pfr_made.specs.Marks.{number_of_curve}
 use Rattle.pfr_made.specs.Store.{layout_bytes, root_hash, store_of}
-use Rattle.pfr_description.specs.Typed.{AreBytes}
 use Rattle.pfr_made.proofs.AreasMade.{length-blanks}
-use Rattle.pfr_made.proofs.ByteLaws.{AreBytes-append, little_bytes-are, sha256-bytes}
+use Rattle.pfr_flash.proofs.AreBytesLemmas.{AreBytes-append}
+use Rattle.pfr_made.proofs.ByteLaws.{little_bytes-are, sha256-bytes}
 
 -- ---- the fuses that are meant
 abbrev pub made_slot : Form → Curve → PublicKey → Layout → Layout → RootSlot
@@ -126,7 +126,7 @@ module _ (form : Form) (curve : Curve) (root : PublicKey) (bmc pch : Layout) (bm
     root = length-root form curve root;
     bmc = bmc_fields;
     pch = pch_fields;
-    bytes = λ i below. slot_all i 0 (omega (arith, length-what));
+    bytes = λ i below. slot_all i;
   }
 
   parts : nv ≡ slot_bytes what ++ (blanks 183 ++ ((0 ∷ []) ++ (blanks 2304 ++ ((0 ∷ []) ++ blanks 30207))))

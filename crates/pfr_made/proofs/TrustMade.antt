@@ -22,7 +22,7 @@ use Rattle.pfr_description.specs.Described.{Description}
 use Rattle.pfr_made.specs.Accepting.{AcceptsText}
 use Rattle.pfr_made.specs.Blocks.{signed_bytes}
 use Rattle.pfr_made.specs.Capsules.{capsule_body, signed_capsule}
-use Rattle.pfr_made.specs.Chained.{made_chain}
+use Rattle.pfr_made.proofs.Chained.{made_chain}
 use Rattle.pfr_made.specs.Images.{signed_manifest}
 use Rattle.pfr_made.specs.Made.{active_image, flash_of, judge_bank, rows_of, with_areas}
 use Rattle.pfr_made.specs.Manifests.{manifest_of, text_of}

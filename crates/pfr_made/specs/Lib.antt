@@ -2,7 +2,7 @@ pub mod Accepting
 pub mod Blocks
 pub mod Capsules
 pub mod Certificates
-pub mod Chained
+pub mod Entries
 pub mod Fields
 pub mod Form1
 pub mod Form2

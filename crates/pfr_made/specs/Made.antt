@@ -8,7 +8,7 @@ use Rattle.pfr_made.specs.Capsules.{signed_capsule, capsule_rows}
 use Rattle.pfr_made.specs.Fields.{filled}
 use Rattle.pfr_made.specs.Images.{active_of, signed_manifest, manifest_rows}
 use Rattle.pfr_made.specs.Judge.{before, judge_image, of_manifest, require_fit, fit_manifest, fit_capsule}
-use Rattle.pfr_made.specs.Regions.{judge_entries}
+use Rattle.pfr_made.specs.Entries.{judge_entries}
 use Rattle.pfr_description.specs.Described.{Description}
 use Rattle.pfr_description.specs.declared.fail.DescWhy.{DescWhy}
 use Rattle.pfr_description.specs.declared.fail.FitPart.TheVariants as parts

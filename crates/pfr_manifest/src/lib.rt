@@ -3,6 +3,9 @@
 
 mod entry;
 mod fail;
+#[cfg(test)]
+mod first_broken;
+mod halving;
 mod manifest;
 mod reading;
 mod region;
@@ -12,8 +15,6 @@ mod rule;
 mod rules;
 mod steps;
 mod stretch;
-#[cfg(test)]
-mod table;
 #[cfg(test)]
 mod tests;
 

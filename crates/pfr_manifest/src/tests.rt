@@ -2,7 +2,7 @@
 ghost use Rattle.std.specs.Prelude.{◌<◌};
 
 use crate::Manifest;
-use crate::table::first_broken;
+use crate::first_broken::first_broken;
 use pfr_flash::{Flash, Layout, MemFlash};
 use std::process::Abort;
 use std::test::Fail;

@@ -1,26 +1,26 @@
 -- Regions that are judged, or made blank, one after the other.
-use Rattle.std.proofs.Common.{◌≡◌, ℕ, ◌+◌, ◌-◌, ◌<◌, ◌≤◌, Bool, true, false, List, length, drop, get_or, replicate, Ok, Err, refl, sym, ap, subst, arith, if◌then◌else◌}
-use borrow.Author.Count.{below_more}
-use Rattle.std.proofs.lemmas.List.{drop_more, drop_all, get_or_default, length-replicate}
+use Rattle.std.proofs.Common.{◌≡◌, ℕ, ◌+◌, ◌-◌, ◌<◌, ◌≤◌, Bool, true, false, List, length, drop, get_or, replicate, Ok, Err, refl, sym, ap, arith, if◌then◌else◌}
+use Rattle.std.proofs.lemmas.List.{drop_more, drop_all, length-replicate}
 use Rattle.pfr_flash.specs.declared.layout.Layout.{Layout}
 use Rattle.pfr_flash.proofs.BytesLemmas.{put_mid_is}
 use Rattle.pfr_manifest.specs.declared.fail.ManifestFail.{ManifestFail}
 use borrow.Rule.Slice.PartMut.{put_mid}
 use Rattle.pfr_made.specs.Fields.{blanks}
 use Rattle.pfr_made.specs.Images.{is_blank, blanked, active_of}
-use Rattle.pfr_made.specs.Regions.{judge_region, judge_regions, IsInside}
+use Rattle.pfr_made.specs.Entries.{judge_next, judge_regions}
+use Rattle.pfr_made.specs.Regions.{IsInside}
 use Rattle.pfr_description.specs.declared.region.RegionDescription.{RegionDescription}
 
 -- a region that passes leaves the others to be judged
 pub passed_region : (k s e : ℕ) (xs : List RegionDescription) (layout : Layout) (size : ℕ) (d : RegionDescription) → k < length xs
-    → judge_region k (get_or xs k d) s e layout size ≡ Ok tt
+    → judge_next k (get_or xs k d) s e layout size ≡ Ok tt
     → judge_regions (k + 1) (get_or xs k d).start (get_or xs k d).end (drop (k + 1) xs) layout size ≡ judge_regions k s e (drop k xs) layout size
 unfolding judge_regions
 passed_region k s e xs layout size d h passes = rw (drop_more xs k d h, passes) refl
 
 -- a region that fails is the answer
 pub failed_region : (k s e : ℕ) (xs : List RegionDescription) (layout : Layout) (size : ℕ) (d : RegionDescription) (cause : ManifestFail) → k < length xs
-    → judge_region k (get_or xs k d) s e layout size ≡ Err cause → judge_regions k s e (drop k xs) layout size ≡ Err cause
+    → judge_next k (get_or xs k d) s e layout size ≡ Err cause → judge_regions k s e (drop k xs) layout size ≡ Err cause
 unfolding judge_regions
 failed_region k s e xs layout size d cause h fails = rw (drop_more xs k d h, fails) refl
 
@@ -29,14 +29,6 @@ pub passed_all : (k s e : ℕ) (xs : List RegionDescription) (layout : Layout) (
     → judge_regions k s e (drop k xs) layout size ≡ Ok tt
 unfolding judge_regions
 passed_all k s e xs layout size h = rw (drop_all k xs h) refl
-
--- one more region that lies inside
-pub inside_more : (size : ℕ) (xs : List RegionDescription) (k : ℕ) (x : RegionDescription) → k < length xs
-    → ((j : ℕ) → j < k → (d : RegionDescription) → IsInside size (get_or xs j d)) → IsInside size (get_or xs k x)
-    → (j : ℕ) → j < k + 1 → (d : RegionDescription) → IsInside size (get_or xs j d)
-inside_more size xs k x h before here =
-    below_more (λ j. (d : RegionDescription) → IsInside size (get_or xs j d)) k before
-    (λ d. let P : RegionDescription → Type 0 = λ r. IsInside size r in subst P (get_or_default xs k x d h) here)
 
 if_true : {X : Type 0} (b : Bool) (x y : X) → b ≡ true → (if b then x else y) ≡ x
 if_true true x y h = refl

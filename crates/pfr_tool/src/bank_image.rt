@@ -1,14 +1,14 @@
 // A bank's image, and its capsule.
 ghost use Rattle.std.specs.Prelude.{◌≡◌, ◌↔◌, ◌≤◌, length, vec_len, IsOk, OnOk, IfOk};
 ghost use Rattle.pfr_description.specs.Banks.{bank_of};
-ghost use Rattle.pfr_description.specs.Sound.{IsSound};
 ghost use Rattle.pfr_made.specs.Trust.{IsWorthy};
 ghost use Rattle.pfr_flash.specs.Layout.{IsValidLayout};
 ghost use Rattle.pfr_made.specs.Capsules.{signed_capsule};
 ghost use Rattle.pfr_made.specs.Images.{active_of, signed_manifest};
 ghost use Rattle.pfr_made.specs.Judge.{IsPlaced, Judged, judge_image, of_manifest, require_fit};
 ghost use Rattle.pfr_made.specs.Made.{active_image, with_areas, flash_of, rows_of, judge_given, judge_fits, judge_bank};
-ghost use Rattle.pfr_made.specs.Regions.{IsInside, judge_entries};
+ghost use Rattle.pfr_made.specs.Entries.{judge_entries};
+ghost use Rattle.pfr_made.specs.Regions.{IsInside};
 ghost use Rattle.std.specs.List.{All};
 
 use crate::capsule::signed_capsule;
@@ -216,7 +216,8 @@ pub fn make_bank(
     ensures judged { Judged result (judge_bank desc.now bank image.now staged.now) }
 
     // With the store of the same description it is trusted by any engine that accepts the rows, and its recovery area is good.
-    ensures worth { IsSound desc.now → IfOk result (λ made. IsWorthy desc.now bank made.flash made.rows) }
+    ensures worth { IfOk result (λ made. IsWorthy desc.now bank made.flash made.rows) }
 {
+    desc.sound();
     make_image(alloc, desc, bank, image, staged)
 }

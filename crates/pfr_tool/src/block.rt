@@ -1,10 +1,10 @@
 // Signature blocks, of 1,024 bytes in front of what they sign.
 ghost use Rattle.std.specs.Prelude.{◌≡◌, ◌+◌, ◌<◌, ◌^◌, ◌++◌, length, vec_len, OnOk, IfOk};
-ghost use Rattle.pfr_chain.specs.Types.{number_of};
 ghost use Rattle.pfr_made.specs.Blocks.{magic_of_block0, stated_length, block0_bytes, block_in, rows_in, signed_bytes, signed_rows, root_block_in, root_row_in, root_signed_bytes, root_signed_row};
 
 use crate::writing::{pad, push_number};
 use crate::{form1, form2};
+use pfr_chain::type_number;
 use pfr_description::{Description, Form, KeyDescription};
 use pfr_flash::{ContentType, NoMemory};
 use sha2::{Digest, Sha256, Sha384};
@@ -23,23 +23,6 @@ pub const ANY: u32 = 0xFFFF_FFFF;
 pub struct Signed {
     pub bytes: Vec<u8>,
     pub rows: Vec<u8>,
-}
-
-// the number that Block 0 has for the type
-fn type_number(ty: ContentType) -> u32
-    ensures { result ≡ number_of ty }
-{
-    match ty {
-        ContentType::PchManifest => 1,
-        ContentType::PchCapsule => 2,
-        ContentType::BmcManifest => 3,
-        ContentType::BmcCapsule => 4,
-        ContentType::Controller => 5,
-        ContentType::PchManifestCancel => 0x101,
-        ContentType::PchCapsuleCancel => 0x102,
-        ContentType::BmcManifestCancel => 0x103,
-        ContentType::BmcCapsuleCancel => 0x104,
-    }
 }
 
 // Block 0's magic, and what stands behind the type: only form 2 states the block's length
@@ -85,7 +68,7 @@ fn push_block1(
     ensures len { OnOk result (vec_len block.new ≡ 1024) }
     ensures rows { OnOk result (rows.new.items ≡ rows.old.items ++ rows_in desc.now.form desc.now key.now block.old.items) }
 {
-    match desc.form {
+    match desc.form() {
         Form::One => form1::push_block1(alloc, desc, key, block, rows),
         Form::Two => form2::push_block1(alloc, desc, key, block, rows),
     }
@@ -105,7 +88,7 @@ pub fn sign_content(
     ensures rows { IfOk result (λ signed. signed.rows.items ≡ signed_rows desc.now key.now ty content.now) }
     ensures len { IfOk result (λ signed. vec_len signed.bytes ≡ 1024 + length content.now) }
 {
-    let mut bytes = block0(alloc, desc.form, ty, content)?;
+    let mut bytes = block0(alloc, desc.form(), ty, content)?;
     let mut rows = Vec::new(alloc);
     push_block1(alloc, desc, key, &mut bytes, &mut rows)?;
     bytes.extend_from_slice(content)?;
@@ -123,7 +106,7 @@ fn push_root_block1(
     ensures bytes { OnOk result (block.new.items ≡ root_block_in desc.now.form desc.now block.old.items) }
     ensures rows { OnOk result (rows.new.items ≡ rows.old.items ++ root_row_in desc.now.form desc.now block.old.items) }
 {
-    match desc.form {
+    match desc.form() {
         Form::One => form1::push_root_block1(alloc, desc, block, rows),
         Form::Two => form2::push_root_block1(alloc, desc, block, rows),
     }
@@ -141,7 +124,7 @@ pub fn sign_by_root(
     ensures bytes { IfOk result (λ signed. signed.bytes.items ≡ root_signed_bytes desc.now ty content.now) }
     ensures rows { IfOk result (λ signed. signed.rows.items ≡ root_signed_row desc.now ty content.now) }
 {
-    let mut bytes = block0(alloc, desc.form, ty, content)?;
+    let mut bytes = block0(alloc, desc.form(), ty, content)?;
     let mut rows = Vec::new(alloc);
     push_root_block1(alloc, desc, &mut bytes, &mut rows)?;
     bytes.extend_from_slice(content)?;

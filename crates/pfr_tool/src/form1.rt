@@ -51,7 +51,7 @@ fn push_head(alloc: Global, desc: &Description, block: &mut Vec<u8>) -> Result<(
     ensures bytes { OnOk result (block.new.items ≡ block.old.items ++ head_bytes desc.now) }
     ensures len { OnOk result (vec_len block.new ≡ vec_len block.old + 148) }
 {
-    let root = entry_key(alloc, desc.curve, ANY, ANY, &desc.root)?;
+    let root = entry_key(alloc, desc.curve(), ANY, ANY, desc.root())?;
     push_number(block, 0xF27F_28D7)?;
     push_zeros(block, 12)?;
     push_number(block, 0xA757_A046)?;
@@ -73,8 +73,8 @@ fn push_key_entry(
     ensures row { OnOk result (rows.new.items ≡ rows.old.items ++ row_of (marks_on_key desc.now key.now)) }
 {
     let id = u32::from(key.id);
-    let entry = entry_key(alloc, desc.curve, key.permissions, id, &key.key)?;
-    let marks = sign(desc.curve, &desc.root, &entry);
+    let entry = entry_key(alloc, desc.curve(), key.permissions, id, &key.key)?;
+    let marks = sign(desc.curve(), desc.root(), &entry);
     push_number(block, 0x1471_1C2F)?;
     block.extend_from_slice(&entry)?;
     push_signature(block, &marks)?;
@@ -105,7 +105,7 @@ pub fn push_block1(
     ensures len { OnOk result (vec_len block.new ≡ 1024) }
     ensures rows { OnOk result (rows.new.items ≡ rows.old.items ++ rows_of desc.now key.now block.old.items) }
 {
-    let marks = sign(desc.curve, &key.key, block);
+    let marks = sign(desc.curve(), &key.key, block);
     push_head(alloc, desc, block)?;
     push_key_entry(alloc, desc, key, block, rows)?;
     push_block0_entry(block, &marks)?;
@@ -126,7 +126,7 @@ pub fn push_root_block1(
     ensures len { OnOk result (vec_len block.new ≡ 1024) }
     ensures rows { OnOk result (rows.new.items ≡ rows.old.items ++ root_row_of desc.now block.old.items) }
 {
-    let marks = sign(desc.curve, &desc.root, block);
+    let marks = sign(desc.curve(), desc.root(), block);
     push_head(alloc, desc, block)?;
     push_block0_entry(block, &marks)?;
     pad(block, BLOCK)?;

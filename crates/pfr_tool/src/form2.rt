@@ -55,7 +55,7 @@ fn push_head(alloc: Global, desc: &Description, block: &mut Vec<u8>) -> Result<(
     ensures bytes { OnOk result (block.new.items ≡ block.old.items ++ head_bytes desc.now) }
     ensures len { OnOk result (vec_len block.new ≡ vec_len block.old + 132) }
 {
-    let root = entry_key(alloc, desc.curve, ANY, ANY, &desc.root)?;
+    let root = entry_key(alloc, desc.curve(), ANY, ANY, desc.root())?;
     push_number(block, 0xF27F_28D8)?;
     push_zeros(block, 12)?;
     push_number(block, 0xA757_A047)?;
@@ -77,12 +77,12 @@ fn push_key_entry(
     ensures row { OnOk result (rows.new.items ≡ rows.old.items ++ long_row_of (number_of_curve desc.now.curve) (marks_on_key desc.now key.now)) }
 {
     let id = u32::from(key.id);
-    let entry = entry_key(alloc, desc.curve, key.permissions, id, &key.key)?;
-    let marks = sign(Curve::C384, &desc.root, &entry);
+    let entry = entry_key(alloc, desc.curve(), key.permissions, id, &key.key)?;
+    let marks = sign(Curve::C384, desc.root(), &entry);
     push_number(block, 0x1471_1C30)?;
     block.extend_from_slice(&entry)?;
     push_signature(block, &marks)?;
-    push_long_row(alloc, rows, curve_number(desc.curve), &marks)?;
+    push_long_row(alloc, rows, curve_number(desc.curve()), &marks)?;
     Ok(())
 }
 
@@ -115,7 +115,7 @@ pub fn push_block1(
     push_key_entry(alloc, desc, key, block, rows)?;
     push_block0_entry(block, &marks)?;
     pad(block, BLOCK)?;
-    push_long_row(alloc, rows, curve_number(desc.curve), &marks)
+    push_long_row(alloc, rows, curve_number(desc.curve()), &marks)
 }
 
 /// Appends Block 1 without a key entry behind Block 0, and the engine's row of the root's signature.
@@ -131,9 +131,9 @@ pub fn push_root_block1(
     ensures len { OnOk result (vec_len block.new ≡ 1024) }
     ensures rows { OnOk result (rows.new.items ≡ rows.old.items ++ root_row_of desc.now block.old.items) }
 {
-    let marks = sign(Curve::C384, &desc.root, block);
+    let marks = sign(Curve::C384, desc.root(), block);
     push_head(alloc, desc, block)?;
     push_block0_entry(block, &marks)?;
     pad(block, BLOCK)?;
-    push_long_row(alloc, rows, curve_number(desc.curve), &marks)
+    push_long_row(alloc, rows, curve_number(desc.curve()), &marks)
 }

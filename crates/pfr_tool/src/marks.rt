@@ -1,12 +1,11 @@
 // The marks that stand in the place of signatures. They protect nothing.
 ghost use Rattle.std.specs.Prelude.{◌≡◌};
 ghost use Rattle.pfr_engine.specs.Curves.{curve_of};
-ghost use Rattle.pfr_chain.specs.Keys.{digest_on};
 ghost use Rattle.pfr_made.specs.Marks.{number_of_curve, digest_bytes, mark_of, marks_of};
 
-use pfr_chain::{Ask, Curve, Digest};
+use pfr_chain::{Ask, Curve, Digest, digest_on};
 use pfr_description::PublicKey;
-use sha2::{Digest as _, Sha256, Sha384};
+use sha2::{Digest as _, Sha384};
 
 const MARK_R: u8 = b'R';
 
@@ -30,16 +29,6 @@ pub fn digest_bytes(digest: &Digest) -> &[u8]
     match digest {
         Digest::D256(bytes) => bytes,
         Digest::D384(bytes) => bytes,
-    }
-}
-
-// the digest that is signed on a curve
-fn digest_on(curve: Curve, message: &[u8]) -> Digest
-    ensures { result ≡ digest_on curve message.now }
-{
-    match curve {
-        Curve::C256 => Digest::D256(Sha256::digest(message)),
-        Curve::C384 => Digest::D384(Sha384::digest(message)),
     }
 }
 

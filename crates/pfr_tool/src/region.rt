@@ -4,10 +4,12 @@ ghost use Rattle.pfr_manifest.specs.Spelling.{hash_info};
 ghost use Rattle.pfr_made.specs.Images.{is_blank, blanked};
 ghost use Rattle.pfr_made.specs.Manifests.{hash_of};
 ghost use Rattle.pfr_made.specs.Pages.{has_bit, has_byte};
-ghost use Rattle.pfr_made.specs.Regions.{bytes_of, is_writable, IsInside};
+ghost use Rattle.pfr_made.specs.Entries.{stretch_of};
+ghost use Rattle.pfr_made.specs.Regions.{bytes_of, IsInside};
 
 use pfr_description::{HashKind, PageUse, RegionDescription};
 use pfr_made::PageMap;
+use pfr_manifest::Stretch;
 
 /// Whether a page of this use has its bit in a map of the capsule.
 pub fn is_in(pages: PageUse, map: PageMap) -> bool
@@ -26,11 +28,15 @@ pub fn has_byte(region: &RegionDescription, at: u32) -> bool
     region.start <= at && at < region.end
 }
 
-/// Whether the bank's bus may write it.
-pub fn is_writable(region: &RegionDescription) -> bool
-    ensures { result ≡ is_writable region.now }
+/// Where it lies, and whether the bank's bus may write it.
+pub fn stretch_of(region: &RegionDescription) -> Stretch
+    ensures { result ≡ stretch_of region.now }
 {
-    (region.mask >> 1) & 1 == 1
+    Stretch {
+        start: region.start,
+        end: region.end,
+        writable: (region.mask >> 1) & 1 == 1,
+    }
 }
 
 /// The region's bytes.

@@ -1,9 +1,10 @@
 // Judges what a manifest would have of a description.
-ghost use Rattle.std.specs.Prelude.{◌≡◌, OnOk, IfOk};
+ghost use Rattle.std.specs.Prelude.{◌≡◌, OnOk};
 ghost use Rattle.std.specs.List.{All};
-ghost use Rattle.pfr_made.specs.Regions.{is_clear_of, is_clear, judge_region, judge_regions, judge_entries, IsInside};
+ghost use Rattle.pfr_made.specs.Entries.{judge_next, judge_regions, judge_entries};
+ghost use Rattle.pfr_made.specs.Regions.{IsInside};
 
-use crate::region::is_writable;
+use crate::region::stretch_of;
 use pfr_description::{BankDescription, RegionDescription};
 use pfr_flash::Layout;
 use pfr_manifest::ManifestFail;
@@ -13,24 +14,8 @@ const MOST: usize = 64;
 
 const GREATEST_SVN: u8 = 127;
 
-// whether a region shares no byte with an area
-fn is_clear_of(region: &RegionDescription, at: u32, len: u32) -> bool
-    ensures { result ≡ is_clear_of region.now at len }
-{
-    region.end <= at || at as u64 + len as u64 <= region.start as u64
-}
-
-// whether a region shares no byte with the areas of a layout
-fn is_clear(region: &RegionDescription, layout: &Layout) -> bool
-    ensures { result ≡ is_clear region.now layout.now }
-{
-    is_clear_of(region, layout.manifest_at, layout.manifest_len)
-        && is_clear_of(region, layout.recovery_at, layout.area_len)
-        && is_clear_of(region, layout.staging_at, layout.area_len)
-}
-
 // region k, behind a region from one place to another
-#[tactic(auto, unfolding(pfr_made::specs::Regions::judge_region))]
+#[tactic(auto, unfolding(pfr_made::specs::Entries::judge_next))]
 fn check_region(
     k: usize,
     region: &RegionDescription,
@@ -38,29 +23,13 @@ fn check_region(
     layout: &Layout,
     size: u32,
 ) -> Result<(), ManifestFail>
-    ensures exact { result ≡ judge_region k region.now last.0 last.1 layout.now size }
-    ensures inside { OnOk result (IsInside size region.now) }
+    ensures { result ≡ judge_next k region.now last.0 last.1 layout.now size }
 {
     if k >= MOST {
         return Err(ManifestFail::TooMany);
     }
-    let k = k as u32;
-    if region.hash.is_some() && is_writable(region) {
-        return Err(ManifestFail::WritableHashed(k));
-    }
-    if region.start % 4096 != 0 || region.end % 4096 != 0 {
-        return Err(ManifestFail::Align(k));
-    }
-    if region.start >= region.end || region.end > size || !is_clear(region, layout) {
-        return Err(ManifestFail::Range(k));
-    }
-    if region.start < last.0 {
-        return Err(ManifestFail::Order(k));
-    }
-    if region.start < last.1 {
-        return Err(ManifestFail::Overlap(k));
-    }
-    Ok(())
+    let has_hash = region.hash.is_some();
+    stretch_of(region).judge(k as u32, has_hash, last, layout, size)
 }
 
 fn check_regions(
@@ -68,8 +37,7 @@ fn check_regions(
     layout: &Layout,
     size: u32,
 ) -> Result<(), ManifestFail>
-    ensures exact { result ≡ judge_regions 0 0 0 regions.now layout.now size }
-    ensures inside { OnOk result (All (IsInside size) regions.now) }
+    ensures { result ≡ judge_regions 0 0 0 regions.now layout.now size }
 {
     let mut last = (0, 0);
     for (k, region) in regions.iter().enumerate() {
@@ -80,7 +48,7 @@ fn check_regions(
 }
 
 /// Whether a manifest may have what the description gives a bank.
-#[tactic(auto, unfolding(pfr_made::specs::Regions::judge_entries))]
+#[tactic(auto, unfolding(pfr_made::specs::Entries::judge_entries))]
 pub fn check_entries(part: &BankDescription) -> Result<(), ManifestFail>
     ensures exact { result ≡ judge_entries part.now }
     ensures inside { OnOk result (All (IsInside part.now.size) part.now.regions) }

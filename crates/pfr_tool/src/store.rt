@@ -18,12 +18,12 @@ fn root_hash(desc: &Description) -> [u8; 32]
     ensures { result ≡ root_hash desc.now.form desc.now.curve desc.now.root }
 {
     let mut hasher = Sha256::new();
-    if let Form::Two = desc.form {
+    if let Form::Two = desc.form() {
         hasher.update([2]);
-        hasher.update(number_bytes(curve_number(desc.curve)));
+        hasher.update(number_bytes(curve_number(desc.curve())));
     }
-    hasher.update(desc.root.x);
-    hasher.update(desc.root.y);
+    hasher.update(desc.root().x);
+    hasher.update(desc.root().y);
     hasher.finalize()
 }
 
@@ -48,6 +48,7 @@ fn check_places(desc: &Description) -> Result<(), DescWhy>
 }
 
 /// Makes the store of the platform, which is provisioned in its first slot and has fuses of profile 2.
+#[tactic(auto, unfolding(pfr_description::specs::Banks::bank_of))]
 pub fn make_store(alloc: Global, desc: &Description) -> Result<Bytes, DescFail>
     ensures store { IfOk result (λ store. store ≡ store_for desc.now) }
     ensures placed { OnOk result (IsPlaced desc.now.bmc × IsPlaced desc.now.pch) }
@@ -56,8 +57,8 @@ pub fn make_store(alloc: Global, desc: &Description) -> Result<Bytes, DescFail>
     check_places(desc)?;
     let mut store = Vec::new(alloc);
     store.extend_from_slice(&root_hash(desc))?;
-    push_layout(&mut store, &desc.bmc.layout)?;
-    push_layout(&mut store, &desc.pch.layout)?;
+    push_layout(&mut store, &desc.bank(Bank::Bmc).layout)?;
+    push_layout(&mut store, &desc.bank(Bank::Pch).layout)?;
     push_blanks(&mut store, 183)?;
     store.push(0)?;
     push_blanks(&mut store, 2304)?;

@@ -1,6 +1,6 @@
 use Rattle.std.proofs.Common.{◌≡◌, ◌++◌, drop, map, Ok}
 use Rattle.toml.specs.View.{table_view}
-use Rattle.pfr_description.specs.Keys.{◌>>=◌}
+use Rattle.pfr_flash.specs.Judging.{◌>>=◌}
 use Rattle.pfr_description.specs.Lists.{each}
 use Rattle.pfr_description.specs.Tables.{rule_in}
 use Rattle.pfr_description.proofs.lists.rules_at.Given as goal

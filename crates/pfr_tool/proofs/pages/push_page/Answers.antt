@@ -1,4 +1,4 @@
-use Rattle.std.proofs.Common.{◌≡◌, ◌+◌, ◌-◌, ◌*◌, true, refl, sym, ◌∙◌, arith, rules}
+use Rattle.std.proofs.Common.{◌≡◌, ◌+◌, ◌-◌, ◌*◌, true, refl, ◌∙◌, arith, rules}
 use Rattle.pfr_made.specs.Pages.{page_bit}
 use Rattle.pfr_made.specs.declared.page_map.PageMap.TheVariants as maps
 use Rattle.pfr_tool.proofs.PageSteps.{copied_page}
