@@ -8,10 +8,6 @@ mod capsule_tests;
 #[cfg(test)]
 mod fixtures;
 #[cfg(test)]
-mod manifest_rules;
-#[cfg(test)]
-mod manifest_tests;
-#[cfg(test)]
 mod operations_tests;
 #[cfg(test)]
 mod small;

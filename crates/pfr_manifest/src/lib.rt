@@ -3,6 +3,9 @@
 
 mod entry;
 mod fail;
+#[cfg(test)]
+mod first_broken;
+mod halving;
 mod manifest;
 mod reading;
 mod region;
@@ -12,6 +15,8 @@ mod rule;
 mod rules;
 mod steps;
 mod stretch;
+#[cfg(test)]
+mod tests;
 
 pub use fail::ManifestFail;
 pub use manifest::Manifest;

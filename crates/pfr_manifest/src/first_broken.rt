@@ -1,9 +1,9 @@
 // The rules of a manifest as their table has them, in its order. Nothing here is shared with the reader.
 ghost use Rattle.std.specs.Prelude.{◌≤◌, ◌<◌, ◌+◌, ◌^◌, length};
 
+use crate::ManifestFail;
 use byteorder::{ByteOrder, LittleEndian};
 use pfr_flash::Layout;
-use pfr_manifest::ManifestFail;
 
 // What was met in front of an entry.
 #[derive(Drop)]
