@@ -49,21 +49,47 @@ fn want_pages(rt: &impl Abort, pages: &Pages) {
     assert_eq!(rt; before[4], 0);
 }
 
-#[test]
-fn pages_of_a_capsule(rt: HostRuntime) -> Result<(), Fail> {
-    let alloc = rt.alloc();
+// The small platform's bank of the BMC, the engine's rows of it, and the platform's store.
+#[derive(Drop)]
+struct Small {
+    bank: Vec<u8>,
+    rows: Vec<u8>,
+    store: Vec<u8>,
+}
+
+fn make_small(alloc: Global) -> Result<Small, Fail> {
     let desc = small_platform(alloc)?;
     let image = small_image(alloc)?;
     let made = make_bank(alloc, &desc, Bank::Bmc, image.as_slice(), &[])?;
-    let rows = made.rows.into_vec();
-    assert!(&rt; rows.len() < 1_048_576);
-    let engine = ListEngine::parse(alloc, &rows)?;
-    let fuses = fuses_in(&rt, alloc, make_store(alloc, &desc)?.into_vec())?;
-    let mut flash = bank_with(&rt, alloc, made.flash.into_vec(), 0)?;
+    Ok(Small {
+        bank: made.flash.into_vec(),
+        rows: made.rows.into_vec(),
+        store: make_store(alloc, &desc)?.into_vec(),
+    })
+}
+
+// Wants that the capsule in the recovery area of this bank is good, and its pages where they are.
+fn want_good(
+    rt: &impl Abort,
+    alloc: Global,
+    bank: Vec<u8>,
+    rows: &[u8],
+    fuses: &Fuses,
+) -> Result<(), Fail> {
+    let mut flash = bank_with(rt, alloc, bank, 0)?;
+    assert!(rt; rows.len() < 1_048_576);
+    let engine = ListEngine::parse(alloc, rows)?;
     let layout = fuses.provision().layout(Bank::Bmc);
-    assert!(&rt; layout.judge(1_048_576).is_ok());
-    let judged = Capsule::judge(&mut flash, PLACE, AREA, Bank::Bmc, layout, &fuses, &engine);
-    let capsule = judged?;
-    want_pages(&rt, capsule.pages());
+    assert!(rt; layout.judge(1_048_576).is_ok());
+    let capsule = Capsule::judge(&mut flash, PLACE, AREA, Bank::Bmc, layout, fuses, &engine)?;
+    want_pages(rt, capsule.pages());
     Ok(())
+}
+
+#[test]
+fn pages_of_a_capsule(rt: HostRuntime) -> Result<(), Fail> {
+    let alloc = rt.alloc();
+    let small = make_small(alloc)?;
+    let fuses = fuses_in(&rt, alloc, small.store)?;
+    want_good(&rt, alloc, small.bank, &small.rows, &fuses)
 }
