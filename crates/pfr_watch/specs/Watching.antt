@@ -2,7 +2,7 @@
 use Rattle.std.specs.Prelude.{ℕ, ◌+◌, ◌-◌, min, nat_lt, nat_le, Bool, false, if◌then◌else◌}
 use Rattle.pfr_flash.specs.declared.names.Bank.{Bank}
 use Rattle.pfr_watch.specs.declared.stage.Stage.{Stage}
-use Rattle.pfr_watch.specs.declared.stage.Stage.TheVariants.{Bmc, Me, Acm, Ibb, Obb, Done}
+use Rattle.pfr_watch.specs.declared.stage.Stage.TheVariants.{Done}
 use Rattle.pfr_watch.specs.declared.watch.Watch.{Watch}
 use Rattle.pfr_watch.specs.Stages.{first_stage, next_stage, length_of}
 
