@@ -2,7 +2,7 @@
 use Rattle.std.specs.Prelude.{◌≡◌, ◌==◌, ◌&&◌, ℕ, ◌/◌, ◌%◌, ◌≤◌, nat_le, Bool, List, [], ◌∷◌, length, take, slice_index, Any, Result, Ok}
 use Rattle.std.specs.Int.{bit_at}
 use Rattle.std.specs.List.{list_any}
-use Rattle.pfr_flash.specs.Judging.{◌>>=◌, ◌>>◌, require}
+use Rattle.pfr_flash.specs.Judging.{◌>>◌, require}
 use Rattle.pfr_manifest.specs.declared.rule.Rule.{Rule}
 use Rattle.pfr_smbus.specs.declared.frame.SmbusFrame.{SmbusFrame}
 use Rattle.pfr_smbus.specs.declared.cause.SmbusCause.{SmbusCause}
