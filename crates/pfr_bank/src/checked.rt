@@ -37,7 +37,12 @@ impl<F: Flash> Checked<F> {
         let layout = self.layout;
         let manifest = self.manifest;
         let flash = self.flash;
-        Running { flash, bank, manifest, layout }
+        Running {
+            flash,
+            bank,
+            manifest,
+            layout,
+        }
     }
 
     /// How many erases and programs the flash has done.

@@ -71,7 +71,12 @@ impl<F: Flash> Held<F> {
         match active(&mut flash, bank, layout, fuses, engine) {
             Ok(manifest) => {
                 let layout = *layout;
-                Ok(Checked { flash, bank, manifest, layout })
+                Ok(Checked {
+                    flash,
+                    bank,
+                    manifest,
+                    layout,
+                })
             }
             Err(why) => {
                 let held = Held { flash, bank };
