@@ -1,0 +1,61 @@
+// A bank whose active image was judged and is trusted.
+ghost use Rattle.std.specs.Prelude.{◌≡◌};
+ghost use Rattle.pfr_flash.specs.FlashState.{op_count_of};
+
+use crate::held::Held;
+use crate::running::Running;
+use pfr_auth::ActiveFail;
+use pfr_flash::{Bank, Flash, Layout};
+use pfr_manifest::Manifest;
+
+/// A bank whose active image is trusted by the manifest that it keeps, with the layout of that judgement. It lends its
+/// flash to nobody, so what was found stays true.
+#[derive(Drop)]
+pub struct Checked<F: Flash> {
+    pub(crate) flash: F,
+    pub(crate) bank: Bank,
+    pub(crate) manifest: Manifest,
+    pub(crate) layout: Layout,
+}
+
+/// A bank whose active image isn't trusted, and the first cause against it.
+#[derive(Drop)]
+pub struct Unchecked<F: Flash> {
+    pub held: Held<F>,
+    pub why: ActiveFail,
+}
+
+impl<F: Flash> Checked<F> {
+    /// Lets the bank run. The flash stays as it is.
+    pub fn release(self) -> Running<F>
+        ensures flash { result.flash ≡ self.flash }
+        ensures bank { result.bank ≡ self.bank }
+        ensures manifest { result.manifest ≡ self.manifest }
+        ensures layout { result.layout ≡ self.layout }
+    {
+        let bank = self.bank;
+        let layout = self.layout;
+        let manifest = self.manifest;
+        let flash = self.flash;
+        Running {
+            flash,
+            bank,
+            manifest,
+            layout,
+        }
+    }
+
+    /// How many erases and programs the flash has done.
+    pub fn op_count(&self) -> u32
+        ensures { result ≡ op_count_of (F.device self.now.flash) }
+    {
+        self.flash.op_count()
+    }
+
+    /// Gives the flash up as it stands.
+    pub fn into_flash(self) -> F
+        ensures { result ≡ self.flash }
+    {
+        self.flash
+    }
+}

@@ -1,0 +1,14 @@
+//! The states of a bank, each of which owns the bank's flash. Only a bank that is held lends it.
+#![tactic(auto)]
+
+mod checked;
+mod held;
+mod locked;
+mod off;
+mod running;
+
+pub use checked::{Checked, Unchecked};
+pub use held::Held;
+pub use locked::Locked;
+pub use off::Off;
+pub use running::Running;
