@@ -231,7 +231,7 @@ does_at op old Off (is_off off) whole holds fits a r = record {
   answers = sym r;
   ok = tt;
   err = inl refl;
-  fault = λ h. cc;
+  failed = (off, refl);
   lost = (λ _. off, λ _. refl);
   worked = worked_still old old.faults old.taken old.read_due (omega arith) (omega arith) (inl refl) (none refl) (λ _. (refl, refl));
 }
@@ -240,7 +240,7 @@ does_at op old Full (is_full on full) whole holds fits a r = record {
   answers = sym r;
   ok = tt;
   err = inl refl;
-  fault = λ h. omega arith;
+  failed = refl;
   lost = (λ h. cc, λ h. cc);
   worked = worked_still old (raised_by old.faults 1) old.taken old.read_due (omega arith) (omega arith) (inl refl) (no_room full) (λ off. absurd cc);
 }
@@ -249,7 +249,7 @@ does_at op old (Cut tear) (is_cut on room c) whole holds fits a r = record {
   answers = sym r;
   ok = tt;
   err = inr (record { done = torn_by tear (now old) op; torn = torn_by-torn (now old) tear op (tear_bytes old.cut_due _ tear c holds.cut) (fits_now old op fits); is = refl });
-  fault = λ h. cc;
+  failed = (refl, refl);
   lost = (λ _. refl, λ _. refl);
   worked = worked_cut old op tear whole on room c;
 }
@@ -258,7 +258,7 @@ does_at op old (Broken tear) (is_broken on room c f) whole holds fits a r = reco
   answers = sym r;
   ok = tt;
   err = inr (record { done = torn_by tear (now old) op; torn = torn_by-torn (now old) tear op (tear_bytes old.fault_due _ tear f holds.fault) (fits_now old op fits); is = refl });
-  fault = λ h. omega arith;
+  failed = refl;
   lost = (λ h. cc, λ h. cc);
   worked = worked_broken old op tear whole on room c f;
 }
@@ -267,7 +267,7 @@ does_at op old Done (is_done on room c f) whole holds fits a r = record {
   answers = sym r;
   ok = refl;
   err = tt;
-  fault = λ h. cc;
+  failed = tt;
   lost = (λ h. cc, λ h. cc);
   worked = worked_done old op on room c f;
 }

@@ -39,18 +39,11 @@ DoesPart-then first plan old middle new start ops h =
       part = IsPart-after (now old) first plan h.added (subst (λ (image : List ℕ). IsPart image plan h.added) now_is h.part);
     }
 
--- ---- why a call failed
-pub FailsWorking-reading : (f : FlashFail) (old new : FlashState) → FailsReading f old new → FailsWorking f old new
-FailsWorking-reading Fault old new h = h.counted
-FailsWorking-reading Lost old new h = h
-
-pub FailsWorking-later : (f : FlashFail) (a b c : FlashState) → a.faults ≤ b.faults → FailsWorking f b c → FailsWorking f a c
-FailsWorking-later Fault a b c le h = omega (arith, le, h)
-FailsWorking-later Lost a b c le h = h
-
-fails_later : {A : Type 0} (a b c : FlashState) (result : Result A FlashFail) → a.faults ≤ b.faults → IfErr result (λ f. FailsWorking f b c) → IfErr result (λ f. FailsWorking f a c)
-fails_later a b c (Ok x) le h = tt
-fails_later a b c (Err f) le h = FailsWorking-later f a b c le h
+-- ---- how a call failed
+-- what was done before without a fault changes nothing of it
+pub FailsWorking-later : (f : FlashFail) (a b c : FlashState) → b.faults ≡ a.faults → FailsWorking f b c → FailsWorking f a c
+FailsWorking-later Fault a b c e h = rw e at h
+FailsWorking-later Lost a b c e h = (h.0, h.1 ∙ e)
 
 -- ---- one call
 -- nothing to do
@@ -60,17 +53,9 @@ Follows-none d x = record { ok = sym (append-nil d.ops); on = refl; whole = ap (
 none_added : (old new : FlashState) → OnlyReads old new → DoesPart [] old new
 none_added old new h = record { added = []; is = h.ops ∙ sym (append-nil old.ops); part = tt }
 
--- a call that only reads, and failed
-pub Follows-failed : {A : Type 0} (old new : FlashState) (f : FlashFail) → OnlyReads old new → FailsReading f old new → Follows {A = A} [] old new (Err f)
-Follows-failed old new f reads failed = record {
-  ok = tt;
-  on = tt;
-  whole = tt;
-  part = none_added old new reads;
-  failed = FailsWorking-reading f old new failed;
-  still = λ e. reads.powered;
-  worked = reads.worked;
-}
+pub FailsWorking-reading : (f : FlashFail) (old new : FlashState) → EndsAt (Some f) old new → FailsWorking f old new
+FailsWorking-reading Fault old new h = ap (λ (d : FlashState). d.faults) h.leaves
+FailsWorking-reading Lost old new h = (ap (λ (d : FlashState). d.powered) h.leaves ∙ h.can, ap (λ (d : FlashState). d.faults) h.leaves)
 
 -- a call that only reads
 pub Follows-reads : {A : Type 0} (old new : FlashState) (result : Result A FlashFail) → EndsAt (failed_by (λ fail. Some fail) result) old new → Follows [] old new result
@@ -85,13 +70,11 @@ Follows-reads old new (Ok x) h =
       still = tt;
       worked = reads.worked;
     }
-Follows-reads old new (Err f) h = Follows-failed old new f (ends_reads h) (ends_fails f old new h)
+Follows-reads old new (Err f) h =
+    let reads : OnlyReads old new = ends_reads h in
+    record { ok = tt; on = tt; whole = tt; part = none_added old new reads; failed = FailsWorking-reading f old new h; still = λ e. reads.powered; worked = reads.worked }
 
 -- an erase or a program
-why_failed : (op : Operation) (old new : FlashState) (f : FlashFail) → Does op old new (Err f) → FailsWorking f old new
-why_failed op old new Fault h = h.fault refl
-why_failed op old new Lost h = h.lost.0 refl
-
 on_at_fault : (old new : FlashState) (before after : Bool) → old.powered ≡ before → new.powered ≡ after → Worked old new → ¬ (after ≡ false) → after ≡ before
 on_at_fault old new before true e f w n = elim before as (λ (b : Bool). old.powered ≡ b → true ≡ b) [
   | true ↦ λ _. refl
@@ -116,7 +99,7 @@ Follows-does op old new (Ok u) h = record {
   still = tt;
   worked = h.worked;
 }
-Follows-does op old new (Err f) h = record { ok = tt; on = tt; whole = tt; part = DoesPart-err op [] old new f h; failed = why_failed op old new f h; still = still_on op old new f h; worked = h.worked }
+Follows-does op old new (Err f) h = record { ok = tt; on = tt; whole = tt; part = DoesPart-err op [] old new f h; failed = h.failed; still = still_on op old new f h; worked = h.worked }
 
 -- ---- calls in a row
 -- the first was done, and then the next
@@ -136,7 +119,7 @@ Follows-then plan next a b c x (Err f) h k = record {
   on = tt;
   whole = tt;
   part = DoesPart-then plan next a b c h.worked.moved.start h.ok k.part;
-  failed = FailsWorking-later f a b c h.worked.moved.faults k.failed;
+  failed = FailsWorking-later f a b c (ap (λ (d : FlashState). d.faults) h.whole) k.failed;
   still = λ e. k.still e ∙ h.on;
   worked = Worked-trans a b c h.worked k.worked;
 }

@@ -39,8 +39,8 @@ CanFail None d = Unit {0}
 CanFail (Some Fault) d = (d.powered ≡ true) × (d.read_due ≡ true)
 CanFail (Some Lost) d = d.powered ≡ false
 
--- Calls that only read, up to the first that fails: none did, or the last one failed so. Nothing changes but the count of bytes
--- that were asked for, and no fault comes that isn't told.
+-- Calls that only read, of which none failed, or one did so. Nothing changes but the count of bytes that were asked for, and no
+-- fault comes that isn't told.
 pub record EndsAt (failed : Option FlashFail) (old new : FlashState) : Type 0 where
   pub leaves : new ≡ left_at failed old new.taken
   pub can : CanFail failed old

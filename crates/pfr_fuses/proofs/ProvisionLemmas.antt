@@ -347,7 +347,7 @@ fails_before : (old new : FlashState) (what : RootSlot) (bmc_size pch_size : ℕ
     → MatchOption failed (IsBarred (now old) what bmc_size pch_size cause × EndsAt None old new) (λ f. FailsWorking f old new × LeavesProvision old new what)
 fails_before old new what bmc_size pch_size cause other None is same ends =
     let e : other ≡ cause = cc in (judged-err (now old) what bmc_size pch_size cause (is ∙ ap (λ (c : FuseFail). Err c) e), ends)
-fails_before old new what bmc_size pch_size cause other (Some f) is same ends = (FailsWorking-reading f old new (ends_fails f old new ends), inr (inr (ends_content ends)))
+fails_before old new what bmc_size pch_size cause other (Some f) is same ends = (FailsWorking-reading f old new ends, inr (inr (ends_content ends)))
 
 provision_err : (old new : FlashState) (what : RootSlot) (bmc_size pch_size : ℕ) (result : Result (Unit {0}) FuseFail) → size_of old ≡ 32768 → IsSlot what → (judged : Result ℕ FuseFail)
     → judge_provision (now old) what bmc_size pch_size ≡ judged → Provisions what old new result judged → IfErr result (ProvisionFails old new what bmc_size pch_size)

@@ -36,7 +36,7 @@ Did-then ops more a b c h k = record {
 pub Failed-then : (fail : FlashFail) (ops more : List Operation) (a b c : FlashState) → Did ops a b → Failed fail more b c → Failed fail (ops ++ more) a c
 Failed-then fail ops more a b c h k = record {
   done = k.done ∙ ap (λ (o : List Operation). o ++ more) (Did-ops ops a b h) ∙ append_assoc a.ops ops more;
-  failed = FailsWorking-later fail a b c h.worked.moved.faults k.failed;
+  failed = FailsWorking-later fail a b c (ap (λ (d : FlashState). d.faults) h.whole) k.failed;
   still = λ e. k.still e ∙ ap (λ (d : FlashState). d.powered) h.whole;
   worked = Worked-trans a b c h.worked k.worked;
 }
