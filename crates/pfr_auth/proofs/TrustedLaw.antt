@@ -70,7 +70,7 @@ pub stands_whole : (nv : List ℕ) (fuses : FusesState) (bank : Bank) → fuses_
 stands_whole nv fuses bank p = record { all = fuses; provisioned = p; provision = refl; floor = refl; row = refl }
 
 -- ---- What is judged well is trusted, by this manifest, in an image of bytes.
-judged_parts : (image : List ℕ) (bank : Bank) (accepts : Acceptance) (fuses : FusesState) (m : Manifest) → judge_active image bank fuses accepts ≡ Ok m →
+pub judged_parts : (image : List ℕ) (bank : Bank) (accepts : Acceptance) (fuses : FusesState) (m : Manifest) → judge_active image bank fuses accepts ≡ Ok m →
     (judge_signed image bank fuses accepts ≡ Ok m) × (floor_of fuses bank ≤ m.svn) × All (IsHashed image) m.regions
 unfolding judge_active
 judged_parts image bank accepts fuses m j =

@@ -1,2 +1,4 @@
 pub mod Lending
+pub mod Spelling
+pub mod Seats
 pub mod Checking

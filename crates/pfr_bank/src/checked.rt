@@ -1,21 +1,35 @@
 // A bank whose active image was judged and is trusted.
 ghost use Rattle.std.specs.Prelude.{◌≡◌};
-ghost use Rattle.pfr_flash.specs.FlashState.{op_count_of};
+ghost use Rattle.pfr_flash.specs.FlashState.{now, op_count_of};
+ghost use Rattle.pfr_bank.specs.Spelling.{StillSpells};
 
 use crate::held::Held;
 use crate::running::Running;
 use pfr_auth::ActiveFail;
 use pfr_flash::{Bank, Flash, Layout};
-use pfr_manifest::Manifest;
+use pfr_manifest::{Manifest, RegionTable};
+use std::marker::Model;
 
 /// A bank whose active image is trusted by the manifest that it keeps, with the layout of that judgement. It lends its
-/// flash to nobody, so what was found stays true.
+/// flash to nobody, so what was found stays true: the image holds the manifest still, and what that says.
 #[derive(Drop)]
 pub struct Checked<F: Flash> {
     pub(crate) flash: F,
     pub(crate) bank: Bank,
     pub(crate) manifest: Manifest,
     pub(crate) layout: Layout,
+}
+
+impl<F: Flash> Model for Checked<F> {
+    ghost use Rattle.pfr_flash.specs.FlashState.{now};
+    ghost use Rattle.pfr_bank.specs.Seats.{JudgedState};
+    ghost use Rattle.pfr_bank.specs.Spelling.{StillSpells};
+
+    ghost Value = { JudgedState F };
+
+    ghost view = { λ c. record { flash = c.flash; bank = c.bank; manifest = c.manifest; layout = c.layout } };
+
+    ghost invariant = { λ c. StillSpells (now (F.device c.flash)) c.manifest c.layout };
 }
 
 /// A bank whose active image isn't trusted, and the first cause against it.
@@ -33,6 +47,7 @@ impl<F: Flash> Checked<F> {
         ensures manifest { result.manifest ≡ self.manifest }
         ensures layout { result.layout ≡ self.layout }
     {
+        let table = RegionTable::new(&self.manifest);
         let bank = self.bank;
         let layout = self.layout;
         let manifest = self.manifest;
@@ -42,7 +57,15 @@ impl<F: Flash> Checked<F> {
             bank,
             manifest,
             layout,
+            table,
         }
+    }
+
+    /// What was found of the image holds still. This does nothing.
+    pub fn known(&self)
+        ensures spells { StillSpells (now (F.device self.now.flash)) self.now.manifest self.now.layout }
+    {
+        let _ = &self.bank;
     }
 
     /// How many erases and programs the flash has done.

@@ -1,19 +1,38 @@
 // A bank that runs.
 ghost use Rattle.std.specs.Prelude.{◌≡◌, false};
-ghost use Rattle.pfr_flash.specs.FlashState.{op_count_of};
+ghost use Rattle.pfr_flash.specs.FlashState.{now, op_count_of};
+ghost use Rattle.pfr_manifest.specs.Stretches.{stretches_of};
+ghost use Rattle.pfr_bank.specs.Spelling.{StillSpells};
 
 use crate::held::Held;
 use crate::off::Off;
 use pfr_flash::{Bank, Flash, Layout};
-use pfr_manifest::Manifest;
+use pfr_manifest::{Manifest, RegionTable};
+use std::marker::Model;
 
-/// A bank that runs, with the manifest and the layout that it was judged by. It lends its flash to nobody.
+/// A bank that runs, with the manifest and the layout that it was judged by, and the table of the stretches that its bus
+/// may write. It lends its flash to nobody, so the image holds the manifest still, and what that says.
 #[derive(Drop)]
 pub struct Running<F: Flash> {
     pub(crate) flash: F,
     pub(crate) bank: Bank,
     pub(crate) manifest: Manifest,
     pub(crate) layout: Layout,
+    pub(crate) table: RegionTable,
+}
+
+impl<F: Flash> Model for Running<F> {
+    ghost use Rattle.std.specs.Prelude.{◌≡◌};
+    ghost use Rattle.pfr_flash.specs.FlashState.{now};
+    ghost use Rattle.pfr_manifest.specs.Stretches.{stretches_of};
+    ghost use Rattle.pfr_bank.specs.Seats.{JudgedState};
+    ghost use Rattle.pfr_bank.specs.Spelling.{StillSpells};
+
+    ghost Value = { JudgedState F };
+
+    ghost view = { λ r. record { flash = r.flash; bank = r.bank; manifest = r.manifest; layout = r.layout } };
+
+    ghost invariant = { λ r. StillSpells (now (F.device r.flash)) r.manifest r.layout × (r.table ≡ stretches_of r.manifest) };
 }
 
 impl<F: Flash> Running<F> {
@@ -43,6 +62,20 @@ impl<F: Flash> Running<F> {
         let mut flash = self.flash;
         flash.power_down();
         Off { flash, bank }
+    }
+
+    /// What was found of the image holds still. This does nothing.
+    pub fn known(&self)
+        ensures spells { StillSpells (now (F.device self.now.flash)) self.now.manifest self.now.layout }
+    {
+        let _ = &self.bank;
+    }
+
+    /// The stretches of the bank that the manifest's regions are, by which frames of the bus are judged.
+    pub fn table(&self) -> &RegionTable
+        ensures { result.now ≡ stretches_of self.now.manifest }
+    {
+        &self.table
     }
 
     /// How many erases and programs the flash has done.
