@@ -6,6 +6,8 @@ mod held;
 mod locked;
 mod off;
 mod running;
+#[cfg(test)]
+mod tests;
 
 pub use checked::{Checked, Unchecked};
 pub use held::Held;
