@@ -1,5 +1,6 @@
 -- What holds of a plan that is cut, the last operation perhaps torn.
 use Rattle.std.proofs.Common.{◌≡◌, ℕ, zero, suc, ◌+◌, ◌-◌, ◌≤◌, List, [], ◌∷◌, length, take, refl, sym, ap, ◌∙◌, subst, arith, length-append, ◌⊎◌, inl, inr}
+use Rattle.std.proofs.Math.Seq.{take-nil}
 use Rattle.pfr_flash.specs.Operation.{Operation, Erase, Program, Torn, applied, play, IsTorn}
 use Rattle.pfr_flash.specs.FlashState.{FlashState, now, upto, op_count_of}
 use Rattle.pfr_flash.specs.Losing.{AddsAtMost}
@@ -14,11 +15,8 @@ pub part_step : (P : List ℕ → Type 0) (image : List ℕ) (op : Operation) (p
     → ((done : Operation) → IsTorn image op done → P (applied image done)) → ((ops : List Operation) → IsPart (applied image op) plan ops → P (play (applied image op) ops))
     → P (play image added)
 part_step P image op plan [] h none torn rest = none
-part_step P image op plan (done ∷ ops) h none torn rest = by_part h
-  where
-    by_part : (((done ≡ op) × IsPart (applied image op) plan ops) ⊎ (IsTorn image op done × (ops ≡ []))) → P (play (applied image done) ops)
-    by_part (inl whole) = subst (λ (o : Operation). P (play (applied image o) ops)) (sym whole.0) (rest ops whole.1)
-    by_part (inr t) = subst (λ (o : List Operation). P (play (applied image done) o)) (sym t.1) (torn done t.0)
+part_step P image op plan (done ∷ ops) (inl whole) none torn rest = subst (λ (o : Operation). P (play (applied image o) ops)) (sym whole.0) (rest ops whole.1)
+part_step P image op plan (done ∷ ops) (inr t) none torn rest = subst (λ (o : List Operation). P (play (applied image done) o)) (sym t.1) (torn done t.0)
 
 -- nothing is part of an empty plan but nothing
 pub part_end : (P : List ℕ → Type 0) (image : List ℕ) (added : List Operation) → IsPart image [] added → P image → P (play image added)
@@ -61,14 +59,10 @@ part_clears size image (op ∷ plan) added e h p =
     part_step (λ (after : List ℕ). OnlyClears image after) image op plan added p (OnlyClears-refl image) (λ done t. torn_clears image op done fits t)
     (λ ops q. then_clears (program_clears image op fits) (part_clears size (applied image op) plan ops (length-applied image op ∙ e) h.1 q))
 
-pub take_nil : (j : ℕ) → take {A = Operation} j [] ≡ []
-take_nil zero = refl
-take_nil (suc j) = refl
-
 clears_nothing : (image : List ℕ) (ops : List Operation) (i j : ℕ) → ops ≡ [] → OnlyClears (play image (take i ops)) (play image (take j ops))
 clears_nothing image ops i j e =
-    let a : take i ops ≡ [] = ap (λ (o : List Operation). take i o) e ∙ take_nil i in
-    let b : take j ops ≡ [] = ap (λ (o : List Operation). take j o) e ∙ take_nil j in
+    let a : take i ops ≡ [] = ap (λ (o : List Operation). take i o) e ∙ take-nil i in
+    let b : take j ops ≡ [] = ap (λ (o : List Operation). take j o) e ∙ take-nil j in
     rw (a, b) (OnlyClears-refl image)
 
 -- between any two moments of such a plan bits are only cleared
@@ -78,26 +72,18 @@ clears_between size image plan added zero j e h p le = part_clears size image pl
 clears_between size image plan added (suc i) zero e h p le = absurd (omega arith)
 clears_between size image plan [] (suc i) (suc j) e h p le = OnlyClears-refl image
 clears_between size image [] (op ∷ ops) (suc i) (suc j) e h p le = absurd p
-clears_between size image (next ∷ plan) (op ∷ ops) (suc i) (suc j) e h p le =
-    by_part (λ q. clears_between size (applied image next) plan ops i j (length-applied image next ∙ e) h.1 q (omega arith)) p
-  where
-    by_part : (IsPart (applied image next) plan ops → OnlyClears (play (applied image next) (take i ops)) (play (applied image next) (take j ops)))
-        → (((op ≡ next) × IsPart (applied image next) plan ops) ⊎ (IsTorn image next op × (ops ≡ [])))
-        → OnlyClears (play (applied image op) (take i ops)) (play (applied image op) (take j ops))
-    by_part later (inl whole) = subst (λ (o : Operation). OnlyClears (play (applied image o) (take i ops)) (play (applied image o) (take j ops))) (sym whole.0) (later whole.1)
-    by_part later (inr torn) = clears_nothing (applied image op) ops i j torn.1
+clears_between size image (next ∷ plan) (op ∷ ops) (suc i) (suc j) e h (inl whole) le =
+    subst (λ (o : Operation). OnlyClears (play (applied image o) (take i ops)) (play (applied image o) (take j ops))) (sym whole.0)
+    (clears_between size (applied image next) plan ops i j (length-applied image next ∙ e) h.1 whole.1 (omega arith))
+clears_between size image (next ∷ plan) (op ∷ ops) (suc i) (suc j) e h (inr torn) le = clears_nothing (applied image op) ops i j torn.1
 
 -- ---- how many operations there are
 -- no more than the plan has
 pub part_length : (image : List ℕ) (plan added : List Operation) → IsPart image plan added → length added ≤ length plan
 part_length image plan [] h = omega arith
 part_length image [] (op ∷ ops) h = absurd h
-part_length image (next ∷ plan) (op ∷ ops) h = by_part (λ q. part_length (applied image next) plan ops q) h
-  where
-    by_part : (IsPart (applied image next) plan ops → length ops ≤ length plan) → (((op ≡ next) × IsPart (applied image next) plan ops) ⊎ (IsTorn image next op × (ops ≡ [])))
-        → length (op ∷ ops) ≤ length (next ∷ plan)
-    by_part later (inl whole) = omega (arith, later whole.1)
-    by_part later (inr torn) = let none : length ops ≡ 0 = ap (λ (o : List Operation). length o) torn.1 in omega (arith, none)
+part_length image (next ∷ plan) (op ∷ ops) (inl whole) = omega (arith, part_length (applied image next) plan ops whole.1)
+part_length image (next ∷ plan) (op ∷ ops) (inr torn) = omega (arith, ap length torn.1)
 
 pub AddsAtMost-plan : (count : ℕ) (plan : List Operation) (old new : FlashState) → DoesPart plan old new → length plan ≤ count → AddsAtMost count old new
 AddsAtMost-plan count plan old new h few =

@@ -61,7 +61,3 @@ ends_fails Fault old new h = record {
   counted = let e : new.faults ≡ raised_by old.faults 1 = ap (λ (d : FlashState). d.faults) h.leaves in omega (arith, e);
 }
 ends_fails Lost old new h = ap (λ (d : FlashState). d.powered) h.leaves ∙ h.can
-
-pub ends_failed : {A : Type 0} (result : Result A FlashFail) (old new : FlashState) → EndsAt (failed_by (λ fail. Some fail) result) old new → IfErr result (λ f. FailsReading f old new)
-ends_failed (Ok x) old new h = tt
-ends_failed (Err f) old new h = ends_fails f old new h

@@ -19,13 +19,8 @@ use Rattle.pfr_flash.proofs.PlanLemmas.{IsPart-none, IsPart-after, DoesPart-none
 pub IsPart-more : (image : List ℕ) (plan more added : List Operation) → IsPart image plan added → IsPart image (plan ++ more) added
 IsPart-more image plan more [] h = IsPart-none image (plan ++ more)
 IsPart-more image [] more (op ∷ ops) h = absurd h
-IsPart-more image (next ∷ plan) more (op ∷ ops) h = by_part (λ q. IsPart-more (applied image next) plan more ops q) h
-  where
-    by_part : (IsPart (applied image next) plan ops → IsPart (applied image next) (plan ++ more) ops)
-        → (((op ≡ next) × IsPart (applied image next) plan ops) ⊎ (IsTorn image next op × (ops ≡ [])))
-        → ((op ≡ next) × IsPart (applied image next) (plan ++ more) ops) ⊎ (IsTorn image next op × (ops ≡ []))
-    by_part later (inl whole) = inl (whole.0, later whole.1)
-    by_part later (inr torn) = inr torn
+IsPart-more image (next ∷ plan) more (op ∷ ops) (inl whole) = inl (whole.0, IsPart-more (applied image next) plan more ops whole.1)
+IsPart-more image (next ∷ plan) more (op ∷ ops) (inr torn) = inr torn
 
 -- what was done goes before what is done later
 pub DoesPart-then : (first plan : List Operation) (old middle new : FlashState) → middle.start ≡ old.start → middle.ops ≡ old.ops ++ first

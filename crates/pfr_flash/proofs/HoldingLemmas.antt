@@ -17,9 +17,6 @@ now_bytes d h = AreBytes-play d.start d.ops h.start h.ops
 pub bytes_at_now : (d : FlashState) (at count : ℕ) → HoldsBytes d → AreBytes (bytes_at (now d) at count)
 bytes_at_now d at count h = AreBytes-bytes_at (now d) at count (now_bytes d h)
 
-pub upto_bytes : (d : FlashState) (k : ℕ) → HoldsBytes d → AreBytes (upto d k)
-upto_bytes d k h = AreBytes-play d.start (take k d.ops) h.start (All-take WritesBytes k d.ops h.ops)
-
 -- ---- and stay so
 -- what stays armed was armed
 tear_of-after : (number : ℕ) (due : Option Due) → AreBytes (tear_of due) → AreBytes (tear_of (due_after number due))
@@ -62,7 +59,3 @@ HoldsBytes-at op d Done (is_done on room c f) w h = record {
 -- a call that is given bytes leaves bytes
 pub HoldsBytes-after : (op : Operation) (d : FlashState) → WritesBytes op → HoldsBytes d → HoldsBytes (after_ending op d (ending d))
 HoldsBytes-after op d w h = HoldsBytes-at op d (ending d) (ending_of d) w h
-
-pub HoldsBytes-done : (op : Operation) (old new : FlashState) (result : Result (Unit {0}) FlashFail) → Does op old new result → WritesBytes op → HoldsBytes old → HoldsBytes new
-unfolding after
-HoldsBytes-done op old new result does w h = subst HoldsBytes (sym does.leaves) (HoldsBytes-after op old w h)

@@ -3,6 +3,7 @@ use Rattle.std.proofs.Common.{◌≡◌, ℕ, zero, suc, ◌+◌, ◌-◌, ◌�
 use Rattle.std.specs.Int.{bit_at}
 use Rattle.std.proofs.lemmas.Bool.{cases_lt}
 use Rattle.std.proofs.lemmas.List.{get_or_past, length-take}
+use Rattle.std.proofs.Math.Seq.{take-nil}
 use Rattle.std.proofs.lemmas.Nat.Bits.{bit_at-zero}
 use Rattle.pfr_flash.specs.Bytes.{bytes_at}
 use Rattle.pfr_flash.specs.FlashState.{FlashState, now, upto, size_of, op_count_of}
@@ -14,7 +15,7 @@ use Rattle.pfr_flash.proofs.PlayLemmas.{length-applied}
 use Rattle.pfr_flash.proofs.RangeLemmas.{SameOutside-applied, SameOutside-torn, bytes_at-outside, length-now, OnlyClears-refl, then_clears}
 use Rattle.pfr_flash.proofs.StateLemmas.{upto-added, IsPart-take}
 use Rattle.pfr_flash.specs.Losing.{OnlyLoses}
-use Rattle.pfr_flash.proofs.CutLemmas.{IsProgram, AllPrograms, program_clears, torn_clears, part_step, part_end, take_nil}
+use Rattle.pfr_flash.proofs.CutLemmas.{IsProgram, AllPrograms, program_clears, torn_clears, part_step, part_end}
 
 -- what is only cleared is so in each part
 clears_part : (from len : ℕ) (old new : List ℕ) → OnlyClears old new → OnlyClears (bytes_at old from len) (bytes_at new from len)
@@ -65,8 +66,8 @@ module _ (total from len : ℕ) (fits : from + len ≤ total) where
 
   nothing_more : (image : List ℕ) (ops : List Operation) (i j : ℕ) → ops ≡ [] → OnlyClears (bytes_at (play image (take i ops)) from len) (bytes_at (play image (take j ops)) from len)
   nothing_more image ops i j e =
-      let a : take i ops ≡ [] = ap (λ (o : List Operation). take i o) e ∙ take_nil i in
-      let b : take j ops ≡ [] = ap (λ (o : List Operation). take j o) e ∙ take_nil j in
+      let a : take i ops ≡ [] = ap (λ (o : List Operation). take i o) e ∙ take-nil i in
+      let b : take j ops ≡ [] = ap (λ (o : List Operation). take j o) e ∙ take-nil j in
       rw (a, b) (OnlyClears-refl (bytes_at image from len))
 
   -- between any two moments of such a plan
