@@ -1,5 +1,5 @@
 -- What follows for a device from what its calls do.
-use Rattle.std.proofs.Common.{◌≡◌, ◌≢◌, ℕ, zero, suc, ◌+◌, ◌≤◌, Bool, true, false, eqb, List, [], ◌∷◌, ◌++◌, length, take, refl, sym, ap, ◌∙◌, subst, arith, None, Ok, ◌⊎◌, inl, inr}
+use Rattle.std.proofs.Common.{◌≡◌, ◌≢◌, ℕ, zero, suc, ◌+◌, ◌-◌, ◌≤◌, Bool, true, false, eqb, List, [], ◌∷◌, ◌++◌, length, take, refl, sym, ap, ◌∙◌, subst, arith, None, Ok, ◌⊎◌, inl, inr}
 use Rattle.std.proofs.lemmas.Bool.{cases_Bool, ne_eqb}
 use Rattle.std.proofs.Math.Seq.{take-nil, take-append-add}
 use Rattle.std.proofs.lemmas.List.{take-append-le, append-nil}
@@ -55,6 +55,13 @@ upto-added old new added j start ops =
     ∙ ap (λ (all : List Operation). play old.start (take (op_count_of old + j) all)) ops
     ∙ ap (λ (all : List Operation). play old.start all) (take-append-add old.ops added j)
     ∙ play-append old.start old.ops (take j added)
+
+-- the same at a count
+pub upto_from : (old new : FlashState) (added : List Operation) (n : ℕ) → new.start ≡ old.start → new.ops ≡ old.ops ++ added → op_count_of old ≤ n
+    → upto new n ≡ play (now old) (take (n - op_count_of old) added)
+upto_from old new added n start ops le =
+    let more : op_count_of old + (n - op_count_of old) ≡ n = omega arith in
+    ap (λ (k : ℕ). upto new k) (sym more) ∙ upto-added old new added (n - op_count_of old) start ops
 
 -- the first ones of a part are a part
 pub IsPart-take : (image : List ℕ) (plan added : List Operation) (j : ℕ) → IsPart image plan added → IsPart image plan (take j added)
