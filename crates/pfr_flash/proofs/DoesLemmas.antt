@@ -1,6 +1,6 @@
 -- What one call does, from the ending that it takes.
 use Rattle.std.proofs.Common.{◌≡◌, ◌≢◌, ℕ, ◌+◌, ◌≤◌, Bool, true, false, cond, eqb, List, [], ◌∷◌, ◌++◌, length, refl, sym, ap, ◌∙◌, subst, arith, Option, Some, None, Result, Ok, Err, ◌⊎◌, inl, inr, eqb-true, eq-eqb}
-use Rattle.std.proofs.lemmas.Bool.{cases_Bool, eqb-false}
+use Rattle.std.proofs.lemmas.Bool.{cond_both, eqb-false}
 use Rattle.std.proofs.lemmas.Bool.Decides.{nat_tests}
 use Rattle.std.proofs.lemmas.List.{length_push, append-nil}
 use Rattle.pfr_flash.specs.Operation.{Operation, play, torn_by}
@@ -21,13 +21,13 @@ pub passed_same : (n : ℕ) (due : Option Due) → passed n n due ≡ false
 passed_same n None = refl
 passed_same n (Some due) = grind (arith, nat_tests)
 
+-- an operation that isn't due has another number
+not_due : (number : ℕ) (due : Due) → due_at number (Some due) ≡ None → eqb due.number number ≡ false
+not_due number due h = cond_both (eqb due.number number) (Some due.tear) None (λ (o : Option (List ℕ)). o ≡ None → eqb due.number number ≡ false) (λ same e. cc) (λ other e. other) h
+
 pub passed_one_none : (n : ℕ) (due : Option Due) → due_at (n + 1) due ≡ None → passed n (n + 1) due ≡ false
 passed_one_none n None h = refl
-passed_one_none n (Some due) h = passed_one-cases (cases_Bool (eqb due.number (n + 1)))
-  where
-    passed_one-cases : ((eqb due.number (n + 1) ≡ true) ⊎ (eqb due.number (n + 1) ≡ false)) → passed n (n + 1) (Some due) ≡ false
-    passed_one-cases (inl same) = let t = rw same at h in cc
-    passed_one-cases (inr other) = let ne = eqb-false due.number (n + 1) other in grind (arith, nat_tests)
+passed_one_none n (Some due) h = let other = eqb-false due.number (n + 1) (not_due (n + 1) due h) in grind (arith, nat_tests)
 
 pub passed_one_some : (n : ℕ) (tear : List ℕ) → passed n (n + 1) (Some (record { number = n + 1; tear = tear })) ≡ true
 passed_one_some n tear = grind (arith, nat_tests)
@@ -104,17 +104,7 @@ torn_last old new op tear whole start is = record {
 -- what is left of a fault's arm once an operation is done
 passed_left : (n : ℕ) (due : Option Due) → due_after (n + 1) due ≡ cond (passed n (n + 1) due) None due
 passed_left n None = refl
-passed_left n (Some due) = passed_left-cases (cases_Bool (eqb due.number (n + 1)))
-  where
-    passed_left-cases : ((eqb due.number (n + 1) ≡ true) ⊎ (eqb due.number (n + 1) ≡ false)) → due_after (n + 1) (Some due) ≡ cond (passed n (n + 1) (Some due)) None (Some due)
-    passed_left-cases (inl same) =
-        let e = eqb-true due.number (n + 1) same in
-        let p : passed n (n + 1) (Some due) ≡ true = grind (arith, nat_tests) in
-        rw (same, p) refl
-    passed_left-cases (inr other) =
-        let ne = eqb-false due.number (n + 1) other in
-        let p : passed n (n + 1) (Some due) ≡ false = grind (arith, nat_tests) in
-        rw (other, p) refl
+passed_left n (Some due) = let same : eqb due.number (n + 1) ≡ passed n (n + 1) (Some due) = grind (arith, nat_tests) in rw same refl
 
 -- a fault whose operation is done next is due at the next number
 passed_number : (n : ℕ) (due : Due) → passed n (n + 1) (Some due) ≡ true → due.number ≡ n + 1
@@ -131,19 +121,11 @@ meets_next n tear (Some fault) h = eq-eqb (n + 1) fault.number (sym (passed_numb
 -- and otherwise the fault's
 tear_apart : (cut : Option Due) (fault : Due) → due_at fault.number cut ≡ None → tear_of_fault cut fault ≡ fault.tear
 tear_apart None fault h = refl
-tear_apart (Some cut) fault h = tear_apart-cases (cases_Bool (eqb cut.number fault.number))
-  where
-    tear_apart-cases : ((eqb cut.number fault.number ≡ true) ⊎ (eqb cut.number fault.number ≡ false)) → tear_of_fault (Some cut) fault ≡ fault.tear
-    tear_apart-cases (inl same) = let t = rw same at h in cc
-    tear_apart-cases (inr other) = rw other refl
+tear_apart (Some cut) fault h = rw (not_due fault.number cut h) refl
 
 meets_apart : (cut : Option Due) (fault : Due) → due_at fault.number cut ≡ None → meets cut (Some fault) ≡ false
 meets_apart None fault h = refl
-meets_apart (Some cut) fault h = meets_apart-cases (cases_Bool (eqb cut.number fault.number))
-  where
-    meets_apart-cases : ((eqb cut.number fault.number ≡ true) ⊎ (eqb cut.number fault.number ≡ false)) → meets (Some cut) (Some fault) ≡ false
-    meets_apart-cases (inl same) = let t = rw same at h in cc
-    meets_apart-cases (inr other) = other
+meets_apart (Some cut) fault h = not_due fault.number cut h
 
 -- a call that a cut tears
 pub worked_cut : (old : FlashState) (op : Operation) (tear : List ℕ) → IsWhole op → old.powered ≡ true → op_count_of old ≢ old.room

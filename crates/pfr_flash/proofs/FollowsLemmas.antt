@@ -1,10 +1,11 @@
 -- Calls that follow a plan, and such calls in a row.
 use Rattle.std.proofs.Common.{◌≡◌, ℕ, ◌≤◌, List, [], ◌∷◌, ◌++◌, refl, sym, ap, ◌∙◌, subst, arith, Some, Result, Ok, Err, IfErr, append_assoc, ◌⊎◌, inl, inr, Bool, true, false}
+use Rattle.std.proofs.lemmas.Bool.{cond_both}
 use Rattle.std.proofs.lemmas.List.{append-nil}
 use Rattle.pfr_flash.specs.Operation.{Operation, applied, play, IsTorn}
 use Rattle.pfr_flash.specs.FlashState.{FlashState, now}
 use Rattle.pfr_flash.specs.Flash.{Does}
-use Rattle.pfr_flash.specs.Moved.{Worked}
+use Rattle.pfr_flash.specs.Moved.{Worked, was_done}
 use Rattle.pfr_flash.specs.Reading.{OnlyReads, FailsReading, EndsAt, failed_by}
 use Rattle.pfr_flash.specs.Plan.{IsPart, DoesPart, with_ops, FailsWorking, Follows}
 use Rattle.pfr_flash.specs.Range.{AllWithin, SameOutside}
@@ -70,18 +71,12 @@ Follows-reads old new (Err f) h =
     record { ok = tt; on = tt; whole = tt; part = none_added old new reads; failed = FailsWorking-reading f old new h; still = λ e. reads.powered; worked = reads.worked }
 
 -- an erase or a program
-on_at_fault : (old new : FlashState) (before after : Bool) → old.powered ≡ before → new.powered ≡ after → Worked old new → ¬ (after ≡ false) → after ≡ before
-on_at_fault old new before true e f w n = elim before as (λ (b : Bool). old.powered ≡ b → true ≡ b) [
-  | true ↦ λ _. refl
-  | false ↦ λ off. absurd (n (sym f ∙ ap (λ (d : FlashState). d.powered) (w.off off) ∙ off))
-] e
-on_at_fault old new before false e f w n = absurd (n refl)
-
 fault_is_no_loss : (r : Result (Unit {0}) FlashFail) → r ≡ Err Fault → r ≡ Err Lost → ⊥
 fault_is_no_loss r e f = cc
 
 still_on : (op : Operation) (old new : FlashState) (f : FlashFail) → Does op old new (Err f) → f ≡ Fault → new.powered ≡ old.powered
-still_on op old new Fault h e = on_at_fault old new old.powered new.powered refl refl h.worked (λ off. fault_is_no_loss (Err Fault) refl (h.lost.1 off))
+still_on op old new Fault h e = cond_both (was_done old new old.cut_due) false old.powered (λ (on : Bool). new.powered ≡ on → new.powered ≡ old.powered)
+    (λ lost off. absurd (fault_is_no_loss (Err Fault) refl (h.lost.1 off))) (λ kept same. same) h.worked.powered
 still_on op old new Lost h e = absurd (fault_is_no_loss (Err Lost) (ap (λ (g : FlashFail). Err g) e) refl)
 
 pub Follows-does : (op : Operation) (old new : FlashState) (result : Result (Unit {0}) FlashFail) → Does op old new result → Follows (op ∷ []) old new result

@@ -1,5 +1,7 @@
 -- That a device holds bytes: at each moment, and after each call.
 use Rattle.std.proofs.Common.{◌≡◌, ℕ, ◌+◌, Bool, true, false, cond, eqb, All, List, [], ◌∷◌, ◌++◌, take, sym, subst, Option, Some, None, Result}
+use Rattle.std.proofs.lemmas.Bool.{cond_both}
+use Rattle.std.proofs.lemmas.List.Elements.{All-push}
 use Rattle.std.proofs.lemmas.List.Elements.{All-push, All-take}
 use Rattle.pfr_flash.specs.Bytes.{AreBytes, bytes_at}
 use Rattle.pfr_flash.specs.Operation.{Operation, torn_by}
@@ -21,11 +23,7 @@ bytes_at_now d at count h = AreBytes-bytes_at (now d) at count (now_bytes d h)
 -- what stays armed was armed
 tear_of-after : (number : ℕ) (due : Option Due) → AreBytes (tear_of due) → AreBytes (tear_of (due_after number due))
 tear_of-after number None h = h
-tear_of-after number (Some due) h = by_case (eqb due.number number)
-  where
-    by_case : (same : Bool) → AreBytes (tear_of (cond same None (Some due)))
-    by_case true = AreBytes-nil
-    by_case false = h
+tear_of-after number (Some due) h = cond_both (eqb due.number number) None (Some due) (λ (o : Option Due). AreBytes (tear_of o)) (λ same. AreBytes-nil) (λ other. h)
 
 torn_op : (op : Operation) (d : FlashState) (tear : List ℕ) → AreBytes tear → WritesBytes op → HoldsBytes d → All WritesBytes (d.ops ++ torn_by tear (now d) op ∷ [])
 torn_op op d tear t w h = All-push WritesBytes d.ops (torn_by tear (now d) op) h.ops (WritesBytes-torn_by tear (now d) op t (now_bytes d h) w)

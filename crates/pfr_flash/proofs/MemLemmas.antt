@@ -1,6 +1,5 @@
 -- A flash in memory does what its trait says.
-use Rattle.std.proofs.Common.{◌≡◌, ℕ, ◌+◌, ◌-◌, Bool, true, false, eqb, ltb, List, [], ◌∷◌, ◌++◌, length, refl, sym, ap, ◌∙◌, subst, arith, Option, Some, None, Result, Ok, Err, ◌⊎◌, inl, inr}
-use Rattle.std.proofs.lemmas.Bool.{cases_Bool}
+use Rattle.std.proofs.Common.{◌≡◌, ℕ, ◌+◌, ◌-◌, Bool, true, false, cond, eqb, ltb, List, [], ◌∷◌, ◌++◌, length, refl, sym, ap, ◌∙◌, subst, arith, Option, Some, None, Result, Ok, Err, ◌⊎◌, inl, inr}
 use Rattle.std.proofs.lemmas.List.{get_or_append_left, get_or_push}
 use Rattle.std.proofs.lemmas.Bool.Decides.{nat_tests}
 use Rattle.pfr_flash.specs.Operation.{Operation}
@@ -23,11 +22,11 @@ use Rattle.pfr_flash.proofs.DoesLemmas.{does, reads_ok, reads_lost, reads_fault}
 
 due_of-after : (tears : List (List ℕ)) (number : ℕ) (arm : Option Arm) → due_of tears (arm_after number arm) ≡ due_after number (due_of tears arm)
 due_of-after tears number None = refl
-due_of-after tears number (Some arm) = due_of-cases (cases_Bool (eqb arm.number number))
+due_of-after tears number (Some arm) = cases (eqb arm.number number)
   where
-    due_of-cases : ((eqb arm.number number ≡ true) ⊎ (eqb arm.number number ≡ false)) → due_of tears (arm_after number (Some arm)) ≡ due_after number (due_of tears (Some arm))
-    due_of-cases (inl same) = rw same refl
-    due_of-cases (inr other) = rw other refl
+    cases : (same : Bool) → due_of tears (cond same None (Some arm)) ≡ cond same None (due_of tears (Some arm))
+    cases true = refl
+    cases false = refl
 
 device_after : (op : Operation) (cells : CellsState) (rig : Rig) (taken read_fault : ℕ) (outcome : Outcome)
     → device_of (cells_after op cells outcome) (rig_after (length cells.ops + 1) rig outcome) taken read_fault

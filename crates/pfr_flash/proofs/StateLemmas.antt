@@ -1,6 +1,6 @@
 -- What follows for a device from what its calls do.
 use Rattle.std.proofs.Common.{◌≡◌, ◌≢◌, ℕ, zero, suc, ◌+◌, ◌-◌, ◌≤◌, Bool, true, false, eqb, List, [], ◌∷◌, ◌++◌, length, take, refl, sym, ap, ◌∙◌, subst, arith, None, Ok, ◌⊎◌, inl, inr}
-use Rattle.std.proofs.lemmas.Bool.{cases_Bool, ne_eqb}
+use Rattle.std.proofs.lemmas.Bool.{cond_both}
 use Rattle.std.proofs.Math.Seq.{take-nil, take-append-add}
 use Rattle.std.proofs.lemmas.List.{take-append-le, append-nil}
 use Rattle.pfr_flash.specs.Bytes.{AreBytes}
@@ -34,11 +34,8 @@ Moved-power d on = record {
 
 -- a device that was on and is off now lost its power once
 pub Worked-lost : (old new : FlashState) → Worked old new → old.powered ≡ true → new.powered ≡ false → new.losses ≡ old.losses + 1
-Worked-lost old new h on off = by_case (cases_Bool (was_done old new old.cut_due))
-  where
-    by_case : ((was_done old new old.cut_due ≡ true) ⊎ (was_done old new old.cut_due ≡ false)) → new.losses ≡ old.losses + 1
-    by_case (inl done) = rw done at h.moved.losses
-    by_case (inr not_done) = let still : new.powered ≡ old.powered = rw not_done at h.powered in cc
+Worked-lost old new h on off = cond_both (was_done old new old.cut_due) (old.losses + 1) old.losses (λ (n : ℕ). new.losses ≡ n → new.losses ≡ old.losses + 1)
+    (λ done is. is) (λ not_done is. let still : new.powered ≡ old.powered = rw not_done at h.powered in cc) h.moved.losses
 
 -- ---- the bytes at each moment
 -- operations that are added leave what was before
