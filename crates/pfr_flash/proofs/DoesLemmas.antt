@@ -5,7 +5,7 @@ use Rattle.std.proofs.lemmas.Bool.Decides.{nat_tests}
 use Rattle.std.proofs.lemmas.List.{length_push, append-nil}
 use Rattle.pfr_flash.specs.Operation.{Operation, play, torn_by}
 use Rattle.pfr_flash.specs.FlashState.{FlashState, Due, op_count_of, now, size_of, raised_by, Ending, Off, Full, Cut, Broken, Done, due_at, due_after, ending, with_op, after, after_ending, answer, answer_at}
-use Rattle.pfr_flash.specs.Moved.{IsWhole, IsTornAt, passed, was_done, meets, tear_of_fault, ReadFaulted, FaultCause, none, at_operation, at_read, no_room, Worked}
+use Rattle.pfr_flash.specs.Moved.{IsWhole, IsTornAt, passed, was_done, meets, tear_of_fault, ReadFaulted, FaultCause, none, at_operation, no_room, Moved, Worked}
 use Rattle.pfr_flash.specs.Flash.{Does, Reads, with_taken}
 use Rattle.pfr_flash.specs.Reading.{OnlyReads}
 use Rattle.pfr_flash.specs.declared.flash.FlashFail.{FlashFail}
@@ -32,33 +32,37 @@ passed_one_none n (Some due) h = let other = eqb-false due.number (n + 1) (not_d
 pub passed_one_some : (n : ℕ) (tear : List ℕ) → passed n (n + 1) (Some (record { number = n + 1; tear = tear })) ≡ true
 passed_one_some n tear = grind (arith, nat_tests)
 
--- a call that does no operation
-pub worked_still : (old : FlashState) (faults taken : ℕ) (read_due : Bool) → old.faults ≤ faults → old.taken ≤ taken
-    → ((read_due ≡ old.read_due) ⊎ ReadFaulted old (record old { faults = faults; taken = taken; read_due = read_due }))
-    → FaultCause old (record old { faults = faults; taken = taken; read_due = read_due })
-    → (old.powered ≡ false → (faults ≡ old.faults) × (read_due ≡ old.read_due))
-    → Worked old (record old { faults = faults; taken = taken; read_due = read_due })
-worked_still old faults taken read_due f t due cause off = record {
-  moved = record {
-    start = refl;
-    ops = record { more = []; is = sym (append-nil old.ops) };
-    full = λ _. refl;
-    arms = refl;
-    room = refl;
-    cut_due = rw passed_same refl;
-    cut_torn = λ cut is done. absurd (let e = passed_same (op_count_of old) old.cut_due in cc);
-    fault_due = rw passed_same refl;
-    fault_torn = λ fault is done. absurd (let e = passed_same (op_count_of old) old.fault_due in cc);
-    read_due = due;
-    losses = rw passed_same refl;
-    faults = f;
-    fault_counted = λ done. absurd (let e = passed_same (op_count_of old) old.fault_due in cc);
-    fault_cause = cause;
-  };
-  powered = rw passed_same refl;
-  taken = t;
-  off = λ h. rw ((off h).0, (off h).1) refl;
+-- what does no operation changes the power, the faults, what was taken and the fault of a read alone
+pub moved_still : (old : FlashState) (on : Bool) (faults taken : ℕ) (read_due : Bool) → old.faults ≤ faults
+    → ((read_due ≡ old.read_due) ⊎ ReadFaulted old (record old { powered = on; faults = faults; taken = taken; read_due = read_due }))
+    → FaultCause old (record old { powered = on; faults = faults; taken = taken; read_due = read_due })
+    → Moved old (record old { powered = on; faults = faults; taken = taken; read_due = read_due })
+moved_still old on faults taken read_due rise due cause = record {
+  start = refl;
+  ops = record { more = []; is = sym (append-nil old.ops) };
+  full = λ _. refl;
+  arms = refl;
+  room = refl;
+  cut_due = rw passed_same refl;
+  cut_torn = λ cut is done. absurd (let e = passed_same (op_count_of old) old.cut_due in cc);
+  fault_due = rw passed_same refl;
+  fault_torn = λ fault is done. absurd (let e = passed_same (op_count_of old) old.fault_due in cc);
+  read_due = due;
+  losses = rw passed_same refl;
+  faults = rise;
+  fault_counted = λ done. absurd (let e = passed_same (op_count_of old) old.fault_due in cc);
+  fault_cause = cause;
 }
+
+-- a call that does no operation
+pub worked_still : (old : FlashState) (faults taken : ℕ) (read_due : Bool) → Moved old (record old { faults = faults; taken = taken; read_due = read_due }) → old.taken ≤ taken
+    → (old.powered ≡ false → (faults ≡ old.faults) × (read_due ≡ old.read_due)) → Worked old (record old { faults = faults; taken = taken; read_due = read_due })
+worked_still old faults taken read_due moved more off = record { moved = moved; powered = rw passed_same refl; taken = more; off = λ h. rw ((off h).0, (off h).1) refl }
+
+-- one that has no fault
+pub worked_same : (old : FlashState) (taken : ℕ) → old.taken ≤ taken → Worked old (record old { taken = taken })
+worked_same old taken more =
+    worked_still old old.faults taken old.read_due (moved_still old old.powered old.faults taken old.read_due (omega arith) (inl refl) (none refl)) more (λ _. (refl, refl))
 
 -- a call that does its operation
 pub worked_done : (old : FlashState) (op : Operation) → old.powered ≡ true → op_count_of old ≢ old.room
@@ -215,7 +219,7 @@ does_at op old Off (is_off off) whole holds fits a r = record {
   err = inl refl;
   failed = (off, refl);
   lost = (λ _. off, λ _. refl);
-  worked = worked_still old old.faults old.taken old.read_due (omega arith) (omega arith) (inl refl) (none refl) (λ _. (refl, refl));
+  worked = worked_same old old.taken (omega arith);
 }
 does_at op old Full (is_full on full) whole holds fits a r = record {
   leaves = sym a;
@@ -224,7 +228,8 @@ does_at op old Full (is_full on full) whole holds fits a r = record {
   err = inl refl;
   failed = refl;
   lost = (λ h. cc, λ h. cc);
-  worked = worked_still old (raised_by old.faults 1) old.taken old.read_due (omega arith) (omega arith) (inl refl) (no_room full) (λ off. absurd cc);
+  worked = worked_still old (raised_by old.faults 1) old.taken old.read_due
+      (moved_still old old.powered (raised_by old.faults 1) old.taken old.read_due (omega arith) (inl refl) (no_room full)) (omega arith) (λ off. absurd cc);
 }
 does_at op old (Cut tear) (is_cut on room c) whole holds fits a r = record {
   leaves = sym a;
@@ -260,71 +265,3 @@ pub does : (op : Operation) (old new : FlashState) (result : Result (Unit {0}) F
 unfolding after answer
 does op old new result whole holds fits n r =
     rw (n, r) (does_at op old (ending old) (ending_of old) whole holds fits refl refl)
-
--- ---- a read
-pub only_still : (old : FlashState) (faults taken : ℕ) (read_due : Bool) → old.faults ≤ faults → old.taken ≤ taken
-    → ((read_due ≡ old.read_due) ⊎ ReadFaulted old (record old { faults = faults; taken = taken; read_due = read_due }))
-    → FaultCause old (record old { faults = faults; taken = taken; read_due = read_due })
-    → (old.powered ≡ false → (faults ≡ old.faults) × (read_due ≡ old.read_due))
-    → (old.read_due ≡ false → (read_due ≡ false) × (faults ≡ old.faults))
-    → OnlyReads old (record old { faults = faults; taken = taken; read_due = read_due })
-only_still old faults taken read_due f t due cause off calm = record {
-  content = refl;
-  start = refl;
-  ops = refl;
-  powered = refl;
-  losses = refl;
-  arms = refl;
-  room = refl;
-  cut_due = refl;
-  fault_due = refl;
-  taken = t;
-  faults = f;
-  calm = calm;
-  worked = worked_still old faults taken read_due f t due cause off;
-}
-
-pub reads_ok : (old : FlashState) (count : ℕ) → old.powered ≡ true → Reads count old (with_taken old count) (Ok tt)
-reads_ok old count on = record {
-  ok = refl;
-  off = λ h. cc;
-  ops = refl;
-  due = λ h. cc;
-  failed = λ h. cc;
-  fault = λ h. cc;
-  lost = (λ h. cc, λ h. cc);
-  reads = only_still old old.faults (raised_by old.taken count) old.read_due (omega arith) (omega arith) (inl refl) (none refl) (λ _. (refl, refl)) (λ h. (h, refl));
-  cause = tt;
-  ends = record { leaves = refl; can = tt; taken = omega arith };
-}
-
-pub reads_lost : (old : FlashState) (count : ℕ) → old.powered ≡ false → Reads count old (with_taken old count) (Err Lost)
-reads_lost old count off = record {
-  ok = tt;
-  off = λ _. refl;
-  ops = refl;
-  due = λ h. cc;
-  failed = λ h. cc;
-  fault = λ h. cc;
-  lost = (λ _. off, λ _. refl);
-  reads = only_still old old.faults (raised_by old.taken count) old.read_due (omega arith) (omega arith) (inl refl) (none refl) (λ _. (refl, refl)) (λ h. (h, refl));
-  cause = off;
-  ends = record { leaves = refl; can = off; taken = omega arith };
-}
-
-pub reads_fault : (old : FlashState) (count : ℕ) → old.powered ≡ true → old.read_due ≡ true
-    → Reads count old (record (with_taken old count) { read_due = false; faults = raised_by old.faults 1 }) (Err Fault)
-reads_fault old count on due =
-    let faulted : ReadFaulted old (record (with_taken old count) { read_due = false; faults = raised_by old.faults 1 }) = record { was = due; is = refl; counted = omega arith } in
-    record {
-      ok = tt;
-      off = λ h. cc;
-      ops = refl;
-      due = λ _. due;
-      failed = λ _. refl;
-      fault = λ _. omega arith;
-      lost = (λ h. cc, λ h. cc);
-      reads = only_still old (raised_by old.faults 1) (raised_by old.taken count) false (omega arith) (omega arith) (inr faulted) (at_read faulted) (λ off. absurd cc) (λ off. absurd cc);
-      cause = faulted;
-      ends = record { leaves = refl; can = (on, due); taken = omega arith };
-    }

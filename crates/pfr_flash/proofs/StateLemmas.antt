@@ -10,27 +10,12 @@ use Rattle.pfr_flash.specs.FlashState.{FlashState, now, upto, op_count_of, due_a
 use Rattle.pfr_flash.specs.Moved.{Extends, was_done, Moved, Worked, none}
 use Rattle.pfr_flash.specs.Plan.{IsPart}
 use Rattle.pfr_flash.proofs.PlayLemmas.{play-append}
-use Rattle.pfr_flash.proofs.DoesLemmas.{passed_same}
+use Rattle.pfr_flash.proofs.DoesLemmas.{moved_still}
 use Rattle.pfr_flash.proofs.PlanLemmas.{IsPart-none}
 
 -- ---- power
 pub Moved-power : (d : FlashState) (on : Bool) → Moved d (record d { powered = on })
-Moved-power d on = record {
-  start = refl;
-  ops = record { more = []; is = sym (append-nil d.ops) };
-  full = λ _. refl;
-  arms = refl;
-  room = refl;
-  cut_due = rw passed_same refl;
-  cut_torn = λ cut is done. absurd (let e = passed_same (op_count_of d) d.cut_due in cc);
-  fault_due = rw passed_same refl;
-  fault_torn = λ fault is done. absurd (let e = passed_same (op_count_of d) d.fault_due in cc);
-  read_due = inl refl;
-  losses = rw passed_same refl;
-  faults = omega arith;
-  fault_counted = λ done. absurd (let e = passed_same (op_count_of d) d.fault_due in cc);
-  fault_cause = none refl;
-}
+Moved-power d on = moved_still d on d.faults d.taken d.read_due (omega arith) (inl refl) (none refl)
 
 -- a device that was on and is off now lost its power once
 pub Worked-lost : (old new : FlashState) → Worked old new → old.powered ≡ true → new.powered ≡ false → new.losses ≡ old.losses + 1
