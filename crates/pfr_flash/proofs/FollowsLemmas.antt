@@ -14,7 +14,7 @@ use Rattle.pfr_flash.specs.declared.flash.FlashFail.TheVariants.{Fault, Lost}
 use Rattle.pfr_flash.proofs.MovedLemmas.{Worked-refl, Worked-trans}
 use Rattle.pfr_flash.proofs.EndsLemmas.{ends_reads, ends_fails}
 use Rattle.pfr_flash.proofs.PlayLemmas.{play-append}
-use Rattle.pfr_flash.proofs.PlanLemmas.{IsPart-none, IsPart-after, DoesPart-none, DoesPart-whole, DoesPart-err, DoesPart-outside}
+use Rattle.pfr_flash.proofs.PlanLemmas.{IsPart-none, IsPart-after, now-added, DoesPart-none, DoesPart-whole, DoesPart-err, DoesPart-outside}
 
 -- ---- a plan with more behind it
 pub IsPart-more : (image : List ℕ) (plan more added : List Operation) → IsPart image plan added → IsPart image (plan ++ more) added
@@ -26,14 +26,11 @@ IsPart-more image (next ∷ plan) more (op ∷ ops) (inr torn) = inr torn
 -- what was done goes before what is done later
 pub DoesPart-then : (first plan : List Operation) (old middle new : FlashState) → middle.start ≡ old.start → middle.ops ≡ old.ops ++ first
     → DoesPart plan middle new → DoesPart (first ++ plan) old new
-DoesPart-then first plan old middle new start ops h =
-    let now_is : now middle ≡ play (now old) first =
-    ap (λ (s : List ℕ). play s middle.ops) start ∙ ap (λ (o : List Operation). play old.start o) ops ∙ play-append old.start old.ops first in
-    record {
-      added = first ++ h.added;
-      is = h.is ∙ ap (λ (o : List Operation). o ++ h.added) ops ∙ append_assoc old.ops first h.added;
-      part = IsPart-after (now old) first plan h.added (subst (λ (image : List ℕ). IsPart image plan h.added) now_is h.part);
-    }
+DoesPart-then first plan old middle new start ops h = record {
+  added = first ++ h.added;
+  is = h.is ∙ ap (λ (o : List Operation). o ++ h.added) ops ∙ append_assoc old.ops first h.added;
+  part = IsPart-after (now old) first plan h.added (subst (λ (image : List ℕ). IsPart image plan h.added) (now-added old middle first start ops) h.part);
+}
 
 -- ---- how a call failed
 -- what was done before without a fault changes nothing of it
@@ -148,13 +145,11 @@ Follows-gives plan a b x y h = record { ok = h.ok; on = h.on; whole = h.whole; p
 -- ---- the bytes
 -- at Ok they are those that the plan leaves
 pub Follows-now : {A : Type 0} (plan : List Operation) (old new : FlashState) (x : A) → Follows {A = A} plan old new (Ok x) → now new ≡ play (now old) plan
-Follows-now plan old new x h =
-    ap (λ (s : List ℕ). play s new.ops) h.worked.moved.start ∙ ap (λ (o : List Operation). play old.start o) h.ok ∙ play-append old.start old.ops plan
+Follows-now plan old new x h = now-added old new plan h.worked.moved.start h.ok
 
 -- and always those that a part of it leaves
 pub DoesPart-now : (plan : List Operation) (old new : FlashState) → new.start ≡ old.start → (h : DoesPart plan old new) → now new ≡ play (now old) h.added
-DoesPart-now plan old new start h =
-    ap (λ (s : List ℕ). play s new.ops) start ∙ ap (λ (o : List Operation). play old.start o) h.is ∙ play-append old.start old.ops h.added
+DoesPart-now plan old new start h = now-added old new h.added start h.is
 
 -- the bytes outside of the plan's range stay
 pub Follows-outside : {A : Type 0} (from len : ℕ) (plan : List Operation) (old new : FlashState) (result : Result A FlashFail) → AllWithin from len plan → Follows plan old new result
