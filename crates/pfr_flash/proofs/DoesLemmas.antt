@@ -1,15 +1,13 @@
 -- What one call does, from the ending that it takes.
-use Rattle.std.proofs.Common.{◌≡◌, ◌≢◌, ℕ, ◌+◌, ◌≤◌, Bool, true, false, cond, eqb, List, [], ◌∷◌, ◌++◌, length, refl, sym, ap, ◌∙◌, subst, arith, Option, Some, None, Result, Ok, Err, ◌⊎◌, inl, inr, eqb-true, eq-eqb}
+use Rattle.std.proofs.Common.{◌≡◌, ◌≢◌, ℕ, ◌+◌, ◌≤◌, Bool, true, false, cond, eqb, List, [], ◌∷◌, ◌++◌, length, refl, sym, ap, ◌∙◌, subst, arith, Option, Some, None, Result, ◌⊎◌, inl, inr, eq-eqb}
 use Rattle.std.proofs.lemmas.Bool.{cond_both, eqb-false}
 use Rattle.std.proofs.lemmas.Bool.Decides.{nat_tests}
 use Rattle.std.proofs.lemmas.List.{length_push, append-nil}
 use Rattle.pfr_flash.specs.Operation.{Operation, play, torn_by}
 use Rattle.pfr_flash.specs.FlashState.{FlashState, Due, op_count_of, now, size_of, raised_by, Ending, Off, Full, Cut, Broken, Done, due_at, due_after, ending, with_op, after, after_ending, answer, answer_at}
 use Rattle.pfr_flash.specs.Moved.{IsWhole, IsTornAt, passed, was_done, meets, tear_of_fault, ReadFaulted, FaultCause, none, at_operation, no_room, Moved, Worked}
-use Rattle.pfr_flash.specs.Flash.{Does, Reads, with_taken}
-use Rattle.pfr_flash.specs.Reading.{OnlyReads}
+use Rattle.pfr_flash.specs.Flash.{Does}
 use Rattle.pfr_flash.specs.declared.flash.FlashFail.{FlashFail}
-use Rattle.pfr_flash.specs.declared.flash.FlashFail.TheVariants.{Fault, Lost}
 use Rattle.pfr_flash.specs.Holding.{HoldsBytes}
 use Rattle.pfr_flash.proofs.HoldingLemmas.{tear_bytes}
 use Rattle.pfr_flash.proofs.EndingLemmas.{EndingOf, is_off, is_full, is_cut, is_broken, is_done, ending_of}

@@ -1,5 +1,5 @@
 -- How an erase or a program ends, case by case.
-use Rattle.std.proofs.Common.{◌≡◌, ◌≢◌, ℕ, ◌+◌, Bool, true, false, cond, eqb, List, refl, Option, Some, None, ◌⊎◌, inl, inr, eqb-true}
+use Rattle.std.proofs.Common.{◌≡◌, ◌≢◌, ℕ, ◌+◌, true, false, eqb, List, refl, Option, Some, None, eqb-true}
 use Rattle.std.proofs.lemmas.Bool.{cond_both, eqb-false}
 use Rattle.std.proofs.lemmas.Option.{cond_some}
 use Rattle.pfr_flash.specs.FlashState.{FlashState, Due, op_count_of, Ending, Off, Full, Cut, Broken, Done, due_at, torn_ending, ending}

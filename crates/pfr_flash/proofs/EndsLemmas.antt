@@ -1,9 +1,9 @@
 -- Calls that only read and end at the first read that fails.
-use Rattle.std.proofs.Common.{◌≡◌, ℕ, ◌≤◌, Bool, true, false, refl, sym, ap, ◌∙◌, subst, arith, inl, inr, Option, Some, None, Result, Ok, Err, IfErr}
+use Rattle.std.proofs.Common.{◌≡◌, ℕ, ◌≤◌, Bool, true, false, refl, sym, ap, ◌∙◌, subst, arith, inr, Option, Some, None, Ok, Err}
 use Rattle.pfr_flash.specs.FlashState.{FlashState, now, raised_by}
 use Rattle.pfr_flash.specs.Moved.{Moved, Worked, ReadFaulted, at_read}
 use Rattle.pfr_flash.specs.Flash.{Reads, with_taken}
-use Rattle.pfr_flash.specs.Reading.{OnlyReads, FailsReading, left_at, EndsAt, failed_by}
+use Rattle.pfr_flash.specs.Reading.{OnlyReads, FailsReading, left_at, EndsAt}
 use Rattle.pfr_flash.specs.declared.flash.FlashFail.{FlashFail}
 use Rattle.pfr_flash.specs.declared.flash.FlashFail.TheVariants.{Fault, Lost}
 use Rattle.pfr_flash.proofs.DoesLemmas.{moved_still, worked_still, worked_same}

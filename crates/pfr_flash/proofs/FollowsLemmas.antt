@@ -1,19 +1,18 @@
 -- Calls that follow a plan, and such calls in a row.
-use Rattle.std.proofs.Common.{◌≡◌, ℕ, ◌≤◌, List, [], ◌∷◌, ◌++◌, refl, sym, ap, ◌∙◌, subst, arith, Some, Result, Ok, Err, IfErr, append_assoc, ◌⊎◌, inl, inr, Bool, true, false}
+use Rattle.std.proofs.Common.{◌≡◌, ℕ, List, [], ◌∷◌, ◌++◌, refl, sym, ap, ◌∙◌, subst, Some, Result, Ok, Err, append_assoc, inl, inr, Bool, false}
 use Rattle.std.proofs.lemmas.Bool.{cond_both}
 use Rattle.std.proofs.lemmas.List.{append-nil}
-use Rattle.pfr_flash.specs.Operation.{Operation, applied, play, IsTorn}
+use Rattle.pfr_flash.specs.Operation.{Operation, applied, play}
 use Rattle.pfr_flash.specs.FlashState.{FlashState, now}
 use Rattle.pfr_flash.specs.Flash.{Does}
-use Rattle.pfr_flash.specs.Moved.{Worked, was_done}
-use Rattle.pfr_flash.specs.Reading.{OnlyReads, FailsReading, EndsAt, failed_by}
+use Rattle.pfr_flash.specs.Moved.{was_done}
+use Rattle.pfr_flash.specs.Reading.{OnlyReads, EndsAt, failed_by}
 use Rattle.pfr_flash.specs.Plan.{IsPart, DoesPart, with_ops, FailsWorking, Follows}
 use Rattle.pfr_flash.specs.Range.{AllWithin, SameOutside}
 use Rattle.pfr_flash.specs.declared.flash.FlashFail.{FlashFail}
 use Rattle.pfr_flash.specs.declared.flash.FlashFail.TheVariants.{Fault, Lost}
 use Rattle.pfr_flash.proofs.MovedLemmas.{Worked-refl, Worked-trans}
-use Rattle.pfr_flash.proofs.EndsLemmas.{ends_reads, ends_fails}
-use Rattle.pfr_flash.proofs.PlayLemmas.{play-append}
+use Rattle.pfr_flash.proofs.EndsLemmas.{ends_reads}
 use Rattle.pfr_flash.proofs.PlanLemmas.{IsPart-none, IsPart-after, now-added, DoesPart-none, DoesPart-whole, DoesPart-err, DoesPart-outside}
 
 -- ---- a plan with more behind it

@@ -1,14 +1,12 @@
 -- That a device holds bytes: at each moment, and after each call.
-use Rattle.std.proofs.Common.{◌≡◌, ℕ, ◌+◌, Bool, true, false, cond, eqb, All, List, [], ◌∷◌, ◌++◌, take, sym, subst, Option, Some, None, Result}
+use Rattle.std.proofs.Common.{◌≡◌, ℕ, ◌+◌, eqb, All, List, [], ◌∷◌, ◌++◌, subst, Option, Some, None}
 use Rattle.std.proofs.lemmas.Bool.{cond_both}
 use Rattle.std.proofs.lemmas.List.Elements.{All-push}
-use Rattle.std.proofs.lemmas.List.Elements.{All-push, All-take}
+use Rattle.std.proofs.lemmas.List.Elements.{All-push}
 use Rattle.pfr_flash.specs.Bytes.{AreBytes, bytes_at}
 use Rattle.pfr_flash.specs.Operation.{Operation, torn_by}
-use Rattle.pfr_flash.specs.FlashState.{FlashState, Due, Ending, Off, Full, Cut, Broken, Done, now, upto, op_count_of, due_after, ending, after, after_ending}
-use Rattle.pfr_flash.specs.Flash.{Does}
+use Rattle.pfr_flash.specs.FlashState.{FlashState, Due, Ending, Off, Full, Cut, Broken, Done, now, op_count_of, due_after, ending, after_ending}
 use Rattle.pfr_flash.specs.Holding.{WritesBytes, tear_of, HoldsBytes}
-use Rattle.pfr_flash.specs.declared.flash.FlashFail.{FlashFail}
 use Rattle.pfr_flash.proofs.AreBytesLemmas.{AreBytes-nil, AreBytes-bytes_at, AreBytes-play, WritesBytes-torn_by}
 use Rattle.pfr_flash.proofs.EndingLemmas.{EndingOf, is_off, is_full, is_cut, is_broken, is_done, ending_of}
 

@@ -1,14 +1,14 @@
 -- Bits of a device that are only lost.
-use Rattle.std.proofs.Common.{◌≡◌, ℕ, zero, suc, ◌+◌, ◌-◌, ◌≤◌, ◌<◌, List, [], ◌∷◌, length, get_or, take, sym, ap, ◌∙◌, subst, arith, ◌⊎◌, inl, inr}
+use Rattle.std.proofs.Common.{◌≡◌, ℕ, ◌+◌, ◌-◌, ◌≤◌, ◌<◌, List, [], ◌∷◌, length, get_or, sym, ap, ◌∙◌, subst, arith, ◌⊎◌, inl, inr}
 use Rattle.std.specs.Int.{bit_at}
 use Rattle.std.proofs.lemmas.Bool.{cases_lt}
 use Rattle.std.proofs.lemmas.List.{get_or_past, length-take}
 use Rattle.std.specs.List.{AllByRecursion}
 use Rattle.std.proofs.lemmas.Nat.Bits.{bit_at-zero}
 use Rattle.pfr_flash.specs.Bytes.{bytes_at}
-use Rattle.pfr_flash.specs.FlashState.{FlashState, now, upto, size_of, op_count_of}
-use Rattle.pfr_flash.specs.Operation.{Operation, applied, play, IsTorn}
-use Rattle.pfr_flash.specs.Plan.{IsPart, DoesPart}
+use Rattle.pfr_flash.specs.FlashState.{FlashState, now, size_of, op_count_of}
+use Rattle.pfr_flash.specs.Operation.{Operation, applied, IsTorn}
+use Rattle.pfr_flash.specs.Plan.{DoesPart}
 use Rattle.pfr_flash.specs.Range.{OnlyClears, place_of, len_of}
 use Rattle.pfr_flash.proofs.BytesLemmas.{get_or-bytes_at}
 use Rattle.pfr_flash.proofs.PlayLemmas.{length-applied}

@@ -1,11 +1,10 @@
 -- A flash in memory does what its trait says.
-use Rattle.std.proofs.Common.{◌≡◌, ℕ, ◌+◌, ◌-◌, Bool, true, false, cond, eqb, ltb, List, [], ◌∷◌, ◌++◌, length, refl, sym, ap, ◌∙◌, subst, arith, Option, Some, None, Result, Ok, Err, ◌⊎◌, inl, inr}
+use Rattle.std.proofs.Common.{◌≡◌, ℕ, ◌+◌, Bool, true, false, cond, eqb, ltb, List, [], ◌∷◌, ◌++◌, length, refl, sym, ap, ◌∙◌, subst, Option, Some, None, Result}
 use Rattle.std.proofs.lemmas.List.{get_or_append_left, get_or_push}
-use Rattle.std.proofs.lemmas.Bool.Decides.{nat_tests}
 use Rattle.pfr_flash.specs.Operation.{Operation}
-use Rattle.pfr_flash.specs.FlashState.{FlashState, Due, due_after, ending, ending_with, after_ending, answer_at, raised_by}
+use Rattle.pfr_flash.specs.FlashState.{FlashState, Due, due_after, ending, ending_with, after_ending, answer_at}
 use Rattle.pfr_flash.specs.Moved.{IsWhole}
-use Rattle.pfr_flash.specs.Flash.{Does, Reads}
+use Rattle.pfr_flash.specs.Flash.{Does}
 use Rattle.pfr_flash.specs.Cells.{CellsState}
 use Rattle.pfr_flash.specs.Rig.{IsKnownArm, due_of, arm_after, ending_at, cells_after, rig_after, device_of}
 use Rattle.pfr_flash.specs.declared.rig.Arm.{Arm}
@@ -13,7 +12,6 @@ use Rattle.pfr_flash.specs.declared.rig.Rig.{Rig}
 use Rattle.pfr_flash.specs.declared.rig.Outcome.{Outcome}
 use Rattle.pfr_flash.specs.declared.rig.Outcome.TheVariants.{Off, Full, Cut, Broken, Done}
 use Rattle.pfr_flash.specs.declared.flash.FlashFail.{FlashFail}
-use Rattle.pfr_flash.specs.declared.flash.FlashFail.TheVariants.{Fault, Lost}
 use Rattle.pfr_flash.specs.Bytes.{AreBytes}
 use Rattle.pfr_flash.specs.Holding.{HoldsBytes, WritesBytes, tear_of}
 use Rattle.pfr_flash.proofs.TearLemmas.{FitsIn}

@@ -1,17 +1,15 @@
 -- Which bytes operations and calls leave alone, and which bits stay cleared.
-use Rattle.std.proofs.Common.{◌≡◌, ℕ, ◌+◌, ◌-◌, ◌*◌, ◌≤◌, ◌<◌, List, [], ◌∷◌, ◌++◌, length, get_or, refl, sym, ap, ◌∙◌, subst, arith, bit_and, Result, Ok, Err, ◌⊎◌, inl, inr}
+use Rattle.std.proofs.Common.{◌≡◌, ℕ, ◌+◌, ◌-◌, ◌*◌, ◌≤◌, ◌<◌, List, [], ◌∷◌, ◌++◌, length, get_or, refl, sym, ap, ◌∙◌, subst, arith, bit_and, ◌⊎◌, inl, inr}
 use Rattle.std.proofs.lemmas.List.{ext_get_or, get_or_past}
 use Rattle.std.proofs.lemmas.Bool.{cases_lt}
 use Rattle.std.proofs.lemmas.Nat.Bits.{bit_at_and, bit_at-zero}
 use Rattle.std.specs.Int.{bit_at}
 use Rattle.pfr_flash.specs.Bytes.{blank, bytes_at, written, each_byte, and_bytes}
 use Rattle.pfr_flash.specs.Operation.{Operation, Erase, Program, Torn, applied, play, IsTorn}
-use Rattle.pfr_flash.specs.FlashState.{FlashState, now, size_of, with_op}
-use Rattle.pfr_flash.specs.Flash.{Does, AddsTorn}
+use Rattle.pfr_flash.specs.FlashState.{FlashState, now, size_of}
 use Rattle.pfr_flash.specs.Range.{place_of, len_of, AllWithin, SameOutside, OnlyClears}
-use Rattle.pfr_flash.specs.declared.flash.FlashFail.{FlashFail}
 use Rattle.pfr_flash.proofs.BytesLemmas.{length-blank, length-written, get_or-written_below, get_or-written_above, get_or-written_inside, length-each_byte, length-bytes_at, get_or-each_byte, get_or-bytes_at}
-use Rattle.pfr_flash.proofs.PlayLemmas.{length-play, play_push}
+use Rattle.pfr_flash.proofs.PlayLemmas.{length-play}
 
 -- ---- the bytes of a device
 pub length-now : (d : FlashState) → length (now d) ≡ size_of d

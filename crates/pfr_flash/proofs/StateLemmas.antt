@@ -1,12 +1,10 @@
 -- What follows for a device from what its calls do.
-use Rattle.std.proofs.Common.{◌≡◌, ◌≢◌, ℕ, zero, suc, ◌+◌, ◌-◌, ◌≤◌, Bool, true, false, eqb, List, [], ◌∷◌, ◌++◌, length, take, refl, sym, ap, ◌∙◌, subst, arith, None, Ok, ◌⊎◌, inl, inr}
+use Rattle.std.proofs.Common.{◌≡◌, ℕ, zero, suc, ◌+◌, ◌-◌, ◌≤◌, Bool, true, false, List, [], ◌∷◌, ◌++◌, take, refl, sym, ap, ◌∙◌, arith, inl, inr}
 use Rattle.std.proofs.lemmas.Bool.{cond_both}
 use Rattle.std.proofs.Math.Seq.{take-nil, take-append-add}
-use Rattle.std.proofs.lemmas.List.{take-append-le, append-nil}
-use Rattle.pfr_flash.specs.Bytes.{AreBytes}
-use Rattle.pfr_flash.specs.Holding.{HoldsBytes}
-use Rattle.pfr_flash.specs.Operation.{Operation, applied, play, IsTorn}
-use Rattle.pfr_flash.specs.FlashState.{FlashState, now, upto, op_count_of, due_at, ending, answer}
+use Rattle.std.proofs.lemmas.List.{take-append-le}
+use Rattle.pfr_flash.specs.Operation.{Operation, applied, play}
+use Rattle.pfr_flash.specs.FlashState.{FlashState, now, upto, op_count_of}
 use Rattle.pfr_flash.specs.Moved.{Extends, was_done, Moved, Worked, none}
 use Rattle.pfr_flash.specs.Plan.{IsPart}
 use Rattle.pfr_flash.proofs.PlayLemmas.{play-append}
