@@ -1,15 +1,13 @@
 -- What one call does, from the ending that it takes.
-use Rattle.std.proofs.Common.{◌≡◌, ◌≢◌, ℕ, ◌+◌, ◌≤◌, Bool, true, false, cond, eqb, List, [], ◌∷◌, ◌++◌, length, refl, sym, ap, ◌∙◌, subst, arith, Option, Some, None, Result, Ok, Err, ◌⊎◌, inl, inr, eqb-true, eq-eqb}
-use Rattle.std.proofs.lemmas.Bool.{cases_Bool, eqb-false}
+use Rattle.std.proofs.Common.{◌≡◌, ◌≢◌, ℕ, ◌+◌, ◌≤◌, Bool, true, false, cond, eqb, List, [], ◌∷◌, ◌++◌, length, refl, sym, ap, ◌∙◌, subst, arith, Option, Some, None, Result, ◌⊎◌, inl, inr, eq-eqb}
+use Rattle.std.proofs.lemmas.Bool.{cond_both, eqb-false}
 use Rattle.std.proofs.lemmas.Bool.Decides.{nat_tests}
 use Rattle.std.proofs.lemmas.List.{length_push, append-nil}
 use Rattle.pfr_flash.specs.Operation.{Operation, play, torn_by}
 use Rattle.pfr_flash.specs.FlashState.{FlashState, Due, op_count_of, now, size_of, raised_by, Ending, Off, Full, Cut, Broken, Done, due_at, due_after, ending, with_op, after, after_ending, answer, answer_at}
-use Rattle.pfr_flash.specs.Moved.{IsWhole, IsTornAt, passed, was_done, meets, tear_of_fault, ReadFaulted, FaultCause, none, at_operation, at_read, no_room, Worked}
-use Rattle.pfr_flash.specs.Flash.{Does, Reads, with_taken}
-use Rattle.pfr_flash.specs.Reading.{OnlyReads}
+use Rattle.pfr_flash.specs.Moved.{IsWhole, IsTornAt, passed, was_done, meets, tear_of_fault, ReadFaulted, FaultCause, none, at_operation, no_room, Moved, Worked}
+use Rattle.pfr_flash.specs.Flash.{Does}
 use Rattle.pfr_flash.specs.declared.flash.FlashFail.{FlashFail}
-use Rattle.pfr_flash.specs.declared.flash.FlashFail.TheVariants.{Fault, Lost}
 use Rattle.pfr_flash.specs.Holding.{HoldsBytes}
 use Rattle.pfr_flash.proofs.HoldingLemmas.{tear_bytes}
 use Rattle.pfr_flash.proofs.EndingLemmas.{EndingOf, is_off, is_full, is_cut, is_broken, is_done, ending_of}
@@ -21,44 +19,48 @@ pub passed_same : (n : ℕ) (due : Option Due) → passed n n due ≡ false
 passed_same n None = refl
 passed_same n (Some due) = grind (arith, nat_tests)
 
+-- an operation that isn't due has another number
+not_due : (number : ℕ) (due : Due) → due_at number (Some due) ≡ None → eqb due.number number ≡ false
+not_due number due h = cond_both (eqb due.number number) (Some due.tear) None (λ (o : Option (List ℕ)). o ≡ None → eqb due.number number ≡ false) (λ same e. cc) (λ other e. other) h
+
 pub passed_one_none : (n : ℕ) (due : Option Due) → due_at (n + 1) due ≡ None → passed n (n + 1) due ≡ false
 passed_one_none n None h = refl
-passed_one_none n (Some due) h = passed_one-cases (cases_Bool (eqb due.number (n + 1)))
-  where
-    passed_one-cases : ((eqb due.number (n + 1) ≡ true) ⊎ (eqb due.number (n + 1) ≡ false)) → passed n (n + 1) (Some due) ≡ false
-    passed_one-cases (inl same) = let t = rw same at h in cc
-    passed_one-cases (inr other) = let ne = eqb-false due.number (n + 1) other in grind (arith, nat_tests)
+passed_one_none n (Some due) h = let other = eqb-false due.number (n + 1) (not_due (n + 1) due h) in grind (arith, nat_tests)
 
 pub passed_one_some : (n : ℕ) (tear : List ℕ) → passed n (n + 1) (Some (record { number = n + 1; tear = tear })) ≡ true
 passed_one_some n tear = grind (arith, nat_tests)
 
--- a call that does no operation
-pub worked_still : (old : FlashState) (faults taken : ℕ) (read_due : Bool) → old.faults ≤ faults → old.taken ≤ taken
-    → ((read_due ≡ old.read_due) ⊎ ReadFaulted old (record old { faults = faults; taken = taken; read_due = read_due }))
-    → FaultCause old (record old { faults = faults; taken = taken; read_due = read_due })
-    → (old.powered ≡ false → (faults ≡ old.faults) × (read_due ≡ old.read_due))
-    → Worked old (record old { faults = faults; taken = taken; read_due = read_due })
-worked_still old faults taken read_due f t due cause off = record {
-  moved = record {
-    start = refl;
-    ops = record { more = []; is = sym (append-nil old.ops) };
-    full = λ _. refl;
-    arms = refl;
-    room = refl;
-    cut_due = rw passed_same refl;
-    cut_torn = λ cut is done. absurd (let e = passed_same (op_count_of old) old.cut_due in cc);
-    fault_due = rw passed_same refl;
-    fault_torn = λ fault is done. absurd (let e = passed_same (op_count_of old) old.fault_due in cc);
-    read_due = due;
-    losses = rw passed_same refl;
-    faults = f;
-    fault_counted = λ done. absurd (let e = passed_same (op_count_of old) old.fault_due in cc);
-    fault_cause = cause;
-  };
-  powered = rw passed_same refl;
-  taken = t;
-  off = λ h. rw ((off h).0, (off h).1) refl;
+-- what does no operation changes the power, the faults, what was taken and the fault of a read alone
+pub moved_still : (old : FlashState) (on : Bool) (faults taken : ℕ) (read_due : Bool) → old.faults ≤ faults
+    → ((read_due ≡ old.read_due) ⊎ ReadFaulted old (record old { powered = on; faults = faults; taken = taken; read_due = read_due }))
+    → FaultCause old (record old { powered = on; faults = faults; taken = taken; read_due = read_due })
+    → Moved old (record old { powered = on; faults = faults; taken = taken; read_due = read_due })
+moved_still old on faults taken read_due rise due cause = record {
+  start = refl;
+  ops = record { more = []; is = sym (append-nil old.ops) };
+  full = λ _. refl;
+  arms = refl;
+  room = refl;
+  cut_due = rw passed_same refl;
+  cut_torn = λ cut is done. absurd (let e = passed_same (op_count_of old) old.cut_due in cc);
+  fault_due = rw passed_same refl;
+  fault_torn = λ fault is done. absurd (let e = passed_same (op_count_of old) old.fault_due in cc);
+  read_due = due;
+  losses = rw passed_same refl;
+  faults = rise;
+  fault_counted = λ done. absurd (let e = passed_same (op_count_of old) old.fault_due in cc);
+  fault_cause = cause;
 }
+
+-- a call that does no operation
+pub worked_still : (old : FlashState) (faults taken : ℕ) (read_due : Bool) → Moved old (record old { faults = faults; taken = taken; read_due = read_due }) → old.taken ≤ taken
+    → (old.powered ≡ false → (faults ≡ old.faults) × (read_due ≡ old.read_due)) → Worked old (record old { faults = faults; taken = taken; read_due = read_due })
+worked_still old faults taken read_due moved more off = record { moved = moved; powered = rw passed_same refl; taken = more; off = λ h. rw ((off h).0, (off h).1) refl }
+
+-- one that has no fault
+pub worked_same : (old : FlashState) (taken : ℕ) → old.taken ≤ taken → Worked old (record old { taken = taken })
+worked_same old taken more =
+    worked_still old old.faults taken old.read_due (moved_still old old.powered old.faults taken old.read_due (omega arith) (inl refl) (none refl)) more (λ _. (refl, refl))
 
 -- a call that does its operation
 pub worked_done : (old : FlashState) (op : Operation) → old.powered ≡ true → op_count_of old ≢ old.room
@@ -104,17 +106,7 @@ torn_last old new op tear whole start is = record {
 -- what is left of a fault's arm once an operation is done
 passed_left : (n : ℕ) (due : Option Due) → due_after (n + 1) due ≡ cond (passed n (n + 1) due) None due
 passed_left n None = refl
-passed_left n (Some due) = passed_left-cases (cases_Bool (eqb due.number (n + 1)))
-  where
-    passed_left-cases : ((eqb due.number (n + 1) ≡ true) ⊎ (eqb due.number (n + 1) ≡ false)) → due_after (n + 1) (Some due) ≡ cond (passed n (n + 1) (Some due)) None (Some due)
-    passed_left-cases (inl same) =
-        let e = eqb-true due.number (n + 1) same in
-        let p : passed n (n + 1) (Some due) ≡ true = grind (arith, nat_tests) in
-        rw (same, p) refl
-    passed_left-cases (inr other) =
-        let ne = eqb-false due.number (n + 1) other in
-        let p : passed n (n + 1) (Some due) ≡ false = grind (arith, nat_tests) in
-        rw (other, p) refl
+passed_left n (Some due) = let same : eqb due.number (n + 1) ≡ passed n (n + 1) (Some due) = grind (arith, nat_tests) in rw same refl
 
 -- a fault whose operation is done next is due at the next number
 passed_number : (n : ℕ) (due : Due) → passed n (n + 1) (Some due) ≡ true → due.number ≡ n + 1
@@ -131,19 +123,11 @@ meets_next n tear (Some fault) h = eq-eqb (n + 1) fault.number (sym (passed_numb
 -- and otherwise the fault's
 tear_apart : (cut : Option Due) (fault : Due) → due_at fault.number cut ≡ None → tear_of_fault cut fault ≡ fault.tear
 tear_apart None fault h = refl
-tear_apart (Some cut) fault h = tear_apart-cases (cases_Bool (eqb cut.number fault.number))
-  where
-    tear_apart-cases : ((eqb cut.number fault.number ≡ true) ⊎ (eqb cut.number fault.number ≡ false)) → tear_of_fault (Some cut) fault ≡ fault.tear
-    tear_apart-cases (inl same) = let t = rw same at h in cc
-    tear_apart-cases (inr other) = rw other refl
+tear_apart (Some cut) fault h = rw (not_due fault.number cut h) refl
 
 meets_apart : (cut : Option Due) (fault : Due) → due_at fault.number cut ≡ None → meets cut (Some fault) ≡ false
 meets_apart None fault h = refl
-meets_apart (Some cut) fault h = meets_apart-cases (cases_Bool (eqb cut.number fault.number))
-  where
-    meets_apart-cases : ((eqb cut.number fault.number ≡ true) ⊎ (eqb cut.number fault.number ≡ false)) → meets (Some cut) (Some fault) ≡ false
-    meets_apart-cases (inl same) = let t = rw same at h in cc
-    meets_apart-cases (inr other) = other
+meets_apart (Some cut) fault h = not_due fault.number cut h
 
 -- a call that a cut tears
 pub worked_cut : (old : FlashState) (op : Operation) (tear : List ℕ) → IsWhole op → old.powered ≡ true → op_count_of old ≢ old.room
@@ -233,7 +217,7 @@ does_at op old Off (is_off off) whole holds fits a r = record {
   err = inl refl;
   failed = (off, refl);
   lost = (λ _. off, λ _. refl);
-  worked = worked_still old old.faults old.taken old.read_due (omega arith) (omega arith) (inl refl) (none refl) (λ _. (refl, refl));
+  worked = worked_same old old.taken (omega arith);
 }
 does_at op old Full (is_full on full) whole holds fits a r = record {
   leaves = sym a;
@@ -242,7 +226,8 @@ does_at op old Full (is_full on full) whole holds fits a r = record {
   err = inl refl;
   failed = refl;
   lost = (λ h. cc, λ h. cc);
-  worked = worked_still old (raised_by old.faults 1) old.taken old.read_due (omega arith) (omega arith) (inl refl) (no_room full) (λ off. absurd cc);
+  worked = worked_still old (raised_by old.faults 1) old.taken old.read_due
+      (moved_still old old.powered (raised_by old.faults 1) old.taken old.read_due (omega arith) (inl refl) (no_room full)) (omega arith) (λ off. absurd cc);
 }
 does_at op old (Cut tear) (is_cut on room c) whole holds fits a r = record {
   leaves = sym a;
@@ -278,71 +263,3 @@ pub does : (op : Operation) (old new : FlashState) (result : Result (Unit {0}) F
 unfolding after answer
 does op old new result whole holds fits n r =
     rw (n, r) (does_at op old (ending old) (ending_of old) whole holds fits refl refl)
-
--- ---- a read
-pub only_still : (old : FlashState) (faults taken : ℕ) (read_due : Bool) → old.faults ≤ faults → old.taken ≤ taken
-    → ((read_due ≡ old.read_due) ⊎ ReadFaulted old (record old { faults = faults; taken = taken; read_due = read_due }))
-    → FaultCause old (record old { faults = faults; taken = taken; read_due = read_due })
-    → (old.powered ≡ false → (faults ≡ old.faults) × (read_due ≡ old.read_due))
-    → (old.read_due ≡ false → (read_due ≡ false) × (faults ≡ old.faults))
-    → OnlyReads old (record old { faults = faults; taken = taken; read_due = read_due })
-only_still old faults taken read_due f t due cause off calm = record {
-  content = refl;
-  start = refl;
-  ops = refl;
-  powered = refl;
-  losses = refl;
-  arms = refl;
-  room = refl;
-  cut_due = refl;
-  fault_due = refl;
-  taken = t;
-  faults = f;
-  calm = calm;
-  worked = worked_still old faults taken read_due f t due cause off;
-}
-
-pub reads_ok : (old : FlashState) (count : ℕ) → old.powered ≡ true → Reads count old (with_taken old count) (Ok tt)
-reads_ok old count on = record {
-  ok = refl;
-  off = λ h. cc;
-  ops = refl;
-  due = λ h. cc;
-  failed = λ h. cc;
-  fault = λ h. cc;
-  lost = (λ h. cc, λ h. cc);
-  reads = only_still old old.faults (raised_by old.taken count) old.read_due (omega arith) (omega arith) (inl refl) (none refl) (λ _. (refl, refl)) (λ h. (h, refl));
-  cause = tt;
-  ends = record { leaves = refl; can = tt; taken = omega arith };
-}
-
-pub reads_lost : (old : FlashState) (count : ℕ) → old.powered ≡ false → Reads count old (with_taken old count) (Err Lost)
-reads_lost old count off = record {
-  ok = tt;
-  off = λ _. refl;
-  ops = refl;
-  due = λ h. cc;
-  failed = λ h. cc;
-  fault = λ h. cc;
-  lost = (λ _. off, λ _. refl);
-  reads = only_still old old.faults (raised_by old.taken count) old.read_due (omega arith) (omega arith) (inl refl) (none refl) (λ _. (refl, refl)) (λ h. (h, refl));
-  cause = off;
-  ends = record { leaves = refl; can = off; taken = omega arith };
-}
-
-pub reads_fault : (old : FlashState) (count : ℕ) → old.powered ≡ true → old.read_due ≡ true
-    → Reads count old (record (with_taken old count) { read_due = false; faults = raised_by old.faults 1 }) (Err Fault)
-reads_fault old count on due =
-    let faulted : ReadFaulted old (record (with_taken old count) { read_due = false; faults = raised_by old.faults 1 }) = record { was = due; is = refl; counted = omega arith } in
-    record {
-      ok = tt;
-      off = λ h. cc;
-      ops = refl;
-      due = λ _. due;
-      failed = λ _. refl;
-      fault = λ _. omega arith;
-      lost = (λ h. cc, λ h. cc);
-      reads = only_still old (raised_by old.faults 1) (raised_by old.taken count) false (omega arith) (omega arith) (inr faulted) (at_read faulted) (λ off. absurd cc) (λ off. absurd cc);
-      cause = faulted;
-      ends = record { leaves = refl; can = (on, due); taken = omega arith };
-    }

@@ -1,22 +1,15 @@
 -- How an erase or a program ends, case by case.
-use Rattle.std.proofs.Common.{◌≡◌, ◌≢◌, ℕ, ◌+◌, Bool, true, false, cond, eqb, List, refl, Option, Some, None, ◌⊎◌, inl, inr, eqb-true}
-use Rattle.std.proofs.lemmas.Bool.{cases_Bool, eqb-false}
+use Rattle.std.proofs.Common.{◌≡◌, ◌≢◌, ℕ, ◌+◌, true, false, eqb, List, refl, Option, Some, None, eqb-true}
+use Rattle.std.proofs.lemmas.Bool.{cond_both, eqb-false}
+use Rattle.std.proofs.lemmas.Option.{cond_some}
 use Rattle.pfr_flash.specs.FlashState.{FlashState, Due, op_count_of, Ending, Off, Full, Cut, Broken, Done, due_at, torn_ending, ending}
 
 -- an armed cut or fault whose operation is that of this number
 pub due_at-some : (number : ℕ) (due : Option Due) (tear : List ℕ) → due_at number due ≡ Some tear → due ≡ Some (record { number = number; tear = tear })
 due_at-some number None tear h = cc
-due_at-some number (Some due) tear h = due_at-cases (cases_Bool (eqb due.number number))
-  where
-    due_at-cases : ((eqb due.number number ≡ true) ⊎ (eqb due.number number ≡ false)) → Some due ≡ Some (record { number = number; tear = tear })
-    due_at-cases (inl same) =
-        let n = eqb-true due.number number same in
-        let t : Some due.tear ≡ Some tear = rw same at h in
-        let e : due.tear ≡ tear = cc in
-        rw (← n, ← e) refl
-    due_at-cases (inr other) =
-        let t = rw other at h in
-        cc
+due_at-some number (Some due) tear h =
+    let is = cond_some (eqb due.number number) due.tear tear h in
+    rw (← eqb-true due.number number is.0, ← is.1) refl
 
 -- the ending with what it tells of the state
 pub data EndingOf : FlashState → Ending → Type 0 where
@@ -36,16 +29,10 @@ torn_ending_of d (Some tear) fault on room c f = is_cut on room (due_at-some (op
 torn_ending_of d None (Some tear) on room c f = is_broken on room c (due_at-some (op_count_of d + 1) d.fault_due tear f)
 torn_ending_of d None None on room c f = is_done on room c f
 
-room_ending_of : (d : FlashState) (full : Bool) → d.powered ≡ true → eqb (op_count_of d) d.room ≡ full
-    → EndingOf d (cond full Full (torn_ending (due_at (op_count_of d + 1) d.cut_due) (due_at (op_count_of d + 1) d.fault_due)))
-room_ending_of d true on e = is_full on (eqb-true (op_count_of d) d.room e)
-room_ending_of d false on e = torn_ending_of d _ _ on (eqb-false (op_count_of d) d.room e) refl refl
-
-power_ending_of : (d : FlashState) (on : Bool) → d.powered ≡ on
-    → EndingOf d (cond on (cond (eqb (op_count_of d) d.room) Full (torn_ending (due_at (op_count_of d + 1) d.cut_due) (due_at (op_count_of d + 1) d.fault_due))) Off)
-power_ending_of d true e = room_ending_of d (eqb (op_count_of d) d.room) e refl
-power_ending_of d false e = is_off e
-
 pub ending_of : (d : FlashState) → EndingOf d (ending d)
 unfolding ending
-ending_of d = power_ending_of d d.powered refl
+ending_of d = cond_both d.powered _ Off (λ (t : Ending). EndingOf d t)
+    (λ on. cond_both (eqb (op_count_of d) d.room) Full _ (λ (t : Ending). EndingOf d t)
+    (λ full. is_full on (eqb-true (op_count_of d) d.room full))
+    (λ some. torn_ending_of d _ _ on (eqb-false (op_count_of d) d.room some) refl refl))
+    is_off

@@ -1,11 +1,12 @@
 -- Calls that only read and end at the first read that fails.
-use Rattle.std.proofs.Common.{◌≡◌, ◌≤◌, false, refl, sym, ap, ◌∙◌, subst, arith, inl, inr, Option, Some, None, Result, Ok, Err, IfErr}
+use Rattle.std.proofs.Common.{◌≡◌, ℕ, ◌≤◌, Bool, true, false, refl, sym, ap, ◌∙◌, subst, arith, inr, Option, Some, None, Ok, Err}
 use Rattle.pfr_flash.specs.FlashState.{FlashState, now, raised_by}
-use Rattle.pfr_flash.specs.Moved.{ReadFaulted, at_read, none}
-use Rattle.pfr_flash.specs.Reading.{OnlyReads, FailsReading, left_at, EndsAt, failed_by}
+use Rattle.pfr_flash.specs.Moved.{Moved, Worked, ReadFaulted, at_read}
+use Rattle.pfr_flash.specs.Flash.{Reads, with_taken}
+use Rattle.pfr_flash.specs.Reading.{OnlyReads, FailsReading, left_at, EndsAt}
 use Rattle.pfr_flash.specs.declared.flash.FlashFail.{FlashFail}
 use Rattle.pfr_flash.specs.declared.flash.FlashFail.TheVariants.{Fault, Lost}
-use Rattle.pfr_flash.proofs.DoesLemmas.{only_still}
+use Rattle.pfr_flash.proofs.DoesLemmas.{moved_still, worked_still, worked_same}
 
 pub EndsAt-refl : (d : FlashState) → EndsAt None d d
 EndsAt-refl d = record { leaves = refl; can = tt; taken = omega arith }
@@ -34,17 +35,36 @@ then_ends {failed} {a} {b} {c} h k = ends_then failed a b c h k
 
 -- ---- what follows
 -- such calls only read
-still_reads : (old new : FlashState) → old.taken ≤ new.taken → OnlyReads old (record old { taken = new.taken })
-still_reads old new h = only_still old old.faults new.taken old.read_due (omega arith) h (inl refl) (none refl) (λ _. (refl, refl)) (λ z. (z, refl))
+only_reads : (old : FlashState) (faults taken : ℕ) (read_due : Bool) → Worked old (record old { faults = faults; taken = taken; read_due = read_due })
+    → (old.read_due ≡ false → (read_due ≡ false) × (faults ≡ old.faults)) → OnlyReads old (record old { faults = faults; taken = taken; read_due = read_due })
+only_reads old faults taken read_due worked calm = record {
+  content = refl;
+  start = refl;
+  ops = refl;
+  powered = refl;
+  losses = refl;
+  arms = refl;
+  room = refl;
+  cut_due = refl;
+  fault_due = refl;
+  taken = worked.taken;
+  faults = worked.moved.faults;
+  calm = calm;
+  worked = worked;
+}
+
+still_reads : (old : FlashState) (taken : ℕ) → old.taken ≤ taken → OnlyReads old (record old { taken = taken })
+still_reads old taken more = only_reads old old.faults taken old.read_due (worked_same old taken more) (λ z. (z, refl))
 
 reads_if : (failed : Option FlashFail) (old new : FlashState) → EndsAt failed old new → OnlyReads old new
-reads_if None old new h = subst (λ (d : FlashState). OnlyReads old d) (sym h.leaves) (still_reads old new h.taken)
-reads_if (Some Lost) old new h = subst (λ (d : FlashState). OnlyReads old d) (sym h.leaves) (still_reads old new h.taken)
+reads_if None old new h = subst (λ (d : FlashState). OnlyReads old d) (sym h.leaves) (still_reads old new.taken h.taken)
+reads_if (Some Lost) old new h = subst (λ (d : FlashState). OnlyReads old d) (sym h.leaves) (still_reads old new.taken h.taken)
 reads_if (Some Fault) old new h =
-    let left : FlashState = record old { taken = new.taken; read_due = false; faults = raised_by old.faults 1 } in
+    let left : FlashState = left_at (Some Fault) old new.taken in
     let faulted : ReadFaulted old left = record { was = h.can.1; is = refl; counted = omega arith } in
+    let moved : Moved old left = moved_still old old.powered left.faults new.taken false (omega arith) (inr faulted) (at_read faulted) in
     subst (λ (d : FlashState). OnlyReads old d) (sym h.leaves)
-    (only_still old (raised_by old.faults 1) new.taken false (omega arith) h.taken (inr faulted) (at_read faulted) (λ off. absurd (let on = h.can.0 in cc)) (λ calm. absurd (let due = h.can.1 in cc)))
+    (only_reads old left.faults new.taken false (worked_still old left.faults new.taken false moved h.taken (λ off. absurd (let on = h.can.0 in cc))) (λ calm. absurd (let due = h.can.1 in cc)))
 
 pub ends_reads : {failed : Option FlashFail} {old new : FlashState} → EndsAt failed old new → OnlyReads old new
 ends_reads {failed} {old} {new} h = reads_if failed old new h
@@ -62,6 +82,52 @@ ends_fails Fault old new h = record {
 }
 ends_fails Lost old new h = ap (λ (d : FlashState). d.powered) h.leaves ∙ h.can
 
-pub ends_failed : {A : Type 0} (result : Result A FlashFail) (old new : FlashState) → EndsAt (failed_by (λ fail. Some fail) result) old new → IfErr result (λ f. FailsReading f old new)
-ends_failed (Ok x) old new h = tt
-ends_failed (Err f) old new h = ends_fails f old new h
+-- ---- one read
+pub reads_ok : (old new : FlashState) (count : ℕ) → new ≡ with_taken old count → old.powered ≡ true → Reads count old new (Ok tt)
+reads_ok old new count is on =
+    let ends : EndsAt None old (with_taken old count) = record { leaves = refl; can = tt; taken = omega arith } in
+    rw is (record {
+      ok = refl;
+      off = λ h. cc;
+      ops = refl;
+      due = λ h. cc;
+      failed = λ h. cc;
+      fault = λ h. cc;
+      lost = (λ h. cc, λ h. cc);
+      reads = ends_reads ends;
+      cause = tt;
+      ends = ends;
+    })
+
+pub reads_lost : (old new : FlashState) (count : ℕ) → new ≡ with_taken old count → old.powered ≡ false → Reads count old new (Err Lost)
+reads_lost old new count is off =
+    let ends : EndsAt (Some Lost) old (with_taken old count) = record { leaves = refl; can = off; taken = omega arith } in
+    rw is (record {
+      ok = tt;
+      off = λ _. refl;
+      ops = refl;
+      due = λ h. cc;
+      failed = λ h. cc;
+      fault = λ h. cc;
+      lost = (λ _. off, λ _. refl);
+      reads = ends_reads ends;
+      cause = off;
+      ends = ends;
+    })
+
+pub reads_fault : (old new : FlashState) (count : ℕ) → new ≡ left_at (Some Fault) old (raised_by old.taken count) → old.powered ≡ true → old.read_due ≡ true
+    → Reads count old new (Err Fault)
+reads_fault old new count is on due =
+    let ends : EndsAt (Some Fault) old (left_at (Some Fault) old (raised_by old.taken count)) = record { leaves = refl; can = (on, due); taken = omega arith } in
+    rw is (record {
+      ok = tt;
+      off = λ h. cc;
+      ops = refl;
+      due = λ _. due;
+      failed = λ _. refl;
+      fault = λ _. omega arith;
+      lost = (λ h. cc, λ h. cc);
+      reads = ends_reads ends;
+      cause = ends_fails Fault old _ ends;
+      ends = ends;
+    })

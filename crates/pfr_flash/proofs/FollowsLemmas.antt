@@ -1,43 +1,35 @@
 -- Calls that follow a plan, and such calls in a row.
-use Rattle.std.proofs.Common.{◌≡◌, ℕ, ◌≤◌, List, [], ◌∷◌, ◌++◌, refl, sym, ap, ◌∙◌, subst, arith, Some, Result, Ok, Err, IfErr, append_assoc, ◌⊎◌, inl, inr, Bool, true, false}
+use Rattle.std.proofs.Common.{◌≡◌, ℕ, List, [], ◌∷◌, ◌++◌, refl, sym, ap, ◌∙◌, subst, Some, Result, Ok, Err, append_assoc, inl, inr, Bool, false}
+use Rattle.std.proofs.lemmas.Bool.{cond_both}
 use Rattle.std.proofs.lemmas.List.{append-nil}
-use Rattle.pfr_flash.specs.Operation.{Operation, applied, play, IsTorn}
+use Rattle.pfr_flash.specs.Operation.{Operation, applied, play}
 use Rattle.pfr_flash.specs.FlashState.{FlashState, now}
 use Rattle.pfr_flash.specs.Flash.{Does}
-use Rattle.pfr_flash.specs.Moved.{Worked}
-use Rattle.pfr_flash.specs.Reading.{OnlyReads, FailsReading, EndsAt, failed_by}
+use Rattle.pfr_flash.specs.Moved.{was_done}
+use Rattle.pfr_flash.specs.Reading.{OnlyReads, EndsAt, failed_by}
 use Rattle.pfr_flash.specs.Plan.{IsPart, DoesPart, with_ops, FailsWorking, Follows}
 use Rattle.pfr_flash.specs.Range.{AllWithin, SameOutside}
 use Rattle.pfr_flash.specs.declared.flash.FlashFail.{FlashFail}
 use Rattle.pfr_flash.specs.declared.flash.FlashFail.TheVariants.{Fault, Lost}
 use Rattle.pfr_flash.proofs.MovedLemmas.{Worked-refl, Worked-trans}
-use Rattle.pfr_flash.proofs.EndsLemmas.{ends_reads, ends_fails}
-use Rattle.pfr_flash.proofs.PlayLemmas.{play-append}
-use Rattle.pfr_flash.proofs.PlanLemmas.{IsPart-none, IsPart-after, DoesPart-none, DoesPart-whole, DoesPart-err, DoesPart-outside}
+use Rattle.pfr_flash.proofs.EndsLemmas.{ends_reads}
+use Rattle.pfr_flash.proofs.PlanLemmas.{IsPart-none, IsPart-after, now-added, DoesPart-none, DoesPart-whole, DoesPart-err, DoesPart-outside}
 
 -- ---- a plan with more behind it
 pub IsPart-more : (image : List ℕ) (plan more added : List Operation) → IsPart image plan added → IsPart image (plan ++ more) added
 IsPart-more image plan more [] h = IsPart-none image (plan ++ more)
 IsPart-more image [] more (op ∷ ops) h = absurd h
-IsPart-more image (next ∷ plan) more (op ∷ ops) h = by_part (λ q. IsPart-more (applied image next) plan more ops q) h
-  where
-    by_part : (IsPart (applied image next) plan ops → IsPart (applied image next) (plan ++ more) ops)
-        → (((op ≡ next) × IsPart (applied image next) plan ops) ⊎ (IsTorn image next op × (ops ≡ [])))
-        → ((op ≡ next) × IsPart (applied image next) (plan ++ more) ops) ⊎ (IsTorn image next op × (ops ≡ []))
-    by_part later (inl whole) = inl (whole.0, later whole.1)
-    by_part later (inr torn) = inr torn
+IsPart-more image (next ∷ plan) more (op ∷ ops) (inl whole) = inl (whole.0, IsPart-more (applied image next) plan more ops whole.1)
+IsPart-more image (next ∷ plan) more (op ∷ ops) (inr torn) = inr torn
 
 -- what was done goes before what is done later
 pub DoesPart-then : (first plan : List Operation) (old middle new : FlashState) → middle.start ≡ old.start → middle.ops ≡ old.ops ++ first
     → DoesPart plan middle new → DoesPart (first ++ plan) old new
-DoesPart-then first plan old middle new start ops h =
-    let now_is : now middle ≡ play (now old) first =
-    ap (λ (s : List ℕ). play s middle.ops) start ∙ ap (λ (o : List Operation). play old.start o) ops ∙ play-append old.start old.ops first in
-    record {
-      added = first ++ h.added;
-      is = h.is ∙ ap (λ (o : List Operation). o ++ h.added) ops ∙ append_assoc old.ops first h.added;
-      part = IsPart-after (now old) first plan h.added (subst (λ (image : List ℕ). IsPart image plan h.added) now_is h.part);
-    }
+DoesPart-then first plan old middle new start ops h = record {
+  added = first ++ h.added;
+  is = h.is ∙ ap (λ (o : List Operation). o ++ h.added) ops ∙ append_assoc old.ops first h.added;
+  part = IsPart-after (now old) first plan h.added (subst (λ (image : List ℕ). IsPart image plan h.added) (now-added old middle first start ops) h.part);
+}
 
 -- ---- how a call failed
 -- what was done before without a fault changes nothing of it
@@ -75,18 +67,12 @@ Follows-reads old new (Err f) h =
     record { ok = tt; on = tt; whole = tt; part = none_added old new reads; failed = FailsWorking-reading f old new h; still = λ e. reads.powered; worked = reads.worked }
 
 -- an erase or a program
-on_at_fault : (old new : FlashState) (before after : Bool) → old.powered ≡ before → new.powered ≡ after → Worked old new → ¬ (after ≡ false) → after ≡ before
-on_at_fault old new before true e f w n = elim before as (λ (b : Bool). old.powered ≡ b → true ≡ b) [
-  | true ↦ λ _. refl
-  | false ↦ λ off. absurd (n (sym f ∙ ap (λ (d : FlashState). d.powered) (w.off off) ∙ off))
-] e
-on_at_fault old new before false e f w n = absurd (n refl)
-
 fault_is_no_loss : (r : Result (Unit {0}) FlashFail) → r ≡ Err Fault → r ≡ Err Lost → ⊥
 fault_is_no_loss r e f = cc
 
 still_on : (op : Operation) (old new : FlashState) (f : FlashFail) → Does op old new (Err f) → f ≡ Fault → new.powered ≡ old.powered
-still_on op old new Fault h e = on_at_fault old new old.powered new.powered refl refl h.worked (λ off. fault_is_no_loss (Err Fault) refl (h.lost.1 off))
+still_on op old new Fault h e = cond_both (was_done old new old.cut_due) false old.powered (λ (on : Bool). new.powered ≡ on → new.powered ≡ old.powered)
+    (λ lost off. absurd (fault_is_no_loss (Err Fault) refl (h.lost.1 off))) (λ kept same. same) h.worked.powered
 still_on op old new Lost h e = absurd (fault_is_no_loss (Err Lost) (ap (λ (g : FlashFail). Err g) e) refl)
 
 pub Follows-does : (op : Operation) (old new : FlashState) (result : Result (Unit {0}) FlashFail) → Does op old new result → Follows (op ∷ []) old new result
@@ -158,13 +144,11 @@ Follows-gives plan a b x y h = record { ok = h.ok; on = h.on; whole = h.whole; p
 -- ---- the bytes
 -- at Ok they are those that the plan leaves
 pub Follows-now : {A : Type 0} (plan : List Operation) (old new : FlashState) (x : A) → Follows {A = A} plan old new (Ok x) → now new ≡ play (now old) plan
-Follows-now plan old new x h =
-    ap (λ (s : List ℕ). play s new.ops) h.worked.moved.start ∙ ap (λ (o : List Operation). play old.start o) h.ok ∙ play-append old.start old.ops plan
+Follows-now plan old new x h = now-added old new plan h.worked.moved.start h.ok
 
 -- and always those that a part of it leaves
 pub DoesPart-now : (plan : List Operation) (old new : FlashState) → new.start ≡ old.start → (h : DoesPart plan old new) → now new ≡ play (now old) h.added
-DoesPart-now plan old new start h =
-    ap (λ (s : List ℕ). play s new.ops) start ∙ ap (λ (o : List Operation). play old.start o) h.is ∙ play-append old.start old.ops h.added
+DoesPart-now plan old new start h = now-added old new h.added start h.is
 
 -- the bytes outside of the plan's range stay
 pub Follows-outside : {A : Type 0} (from len : ℕ) (plan : List Operation) (old new : FlashState) (result : Result A FlashFail) → AllWithin from len plan → Follows plan old new result

@@ -1,12 +1,12 @@
 -- That a device holds bytes: at each moment, and after each call.
-use Rattle.std.proofs.Common.{◌≡◌, ℕ, ◌+◌, Bool, true, false, cond, eqb, All, List, [], ◌∷◌, ◌++◌, take, sym, subst, Option, Some, None, Result}
-use Rattle.std.proofs.lemmas.List.Elements.{All-push, All-take}
+use Rattle.std.proofs.Common.{◌≡◌, ℕ, ◌+◌, eqb, All, List, [], ◌∷◌, ◌++◌, subst, Option, Some, None}
+use Rattle.std.proofs.lemmas.Bool.{cond_both}
+use Rattle.std.proofs.lemmas.List.Elements.{All-push}
+use Rattle.std.proofs.lemmas.List.Elements.{All-push}
 use Rattle.pfr_flash.specs.Bytes.{AreBytes, bytes_at}
 use Rattle.pfr_flash.specs.Operation.{Operation, torn_by}
-use Rattle.pfr_flash.specs.FlashState.{FlashState, Due, Ending, Off, Full, Cut, Broken, Done, now, upto, op_count_of, due_after, ending, after, after_ending}
-use Rattle.pfr_flash.specs.Flash.{Does}
+use Rattle.pfr_flash.specs.FlashState.{FlashState, Due, Ending, Off, Full, Cut, Broken, Done, now, op_count_of, due_after, ending, after_ending}
 use Rattle.pfr_flash.specs.Holding.{WritesBytes, tear_of, HoldsBytes}
-use Rattle.pfr_flash.specs.declared.flash.FlashFail.{FlashFail}
 use Rattle.pfr_flash.proofs.AreBytesLemmas.{AreBytes-nil, AreBytes-bytes_at, AreBytes-play, WritesBytes-torn_by}
 use Rattle.pfr_flash.proofs.EndingLemmas.{EndingOf, is_off, is_full, is_cut, is_broken, is_done, ending_of}
 
@@ -17,18 +17,11 @@ now_bytes d h = AreBytes-play d.start d.ops h.start h.ops
 pub bytes_at_now : (d : FlashState) (at count : ℕ) → HoldsBytes d → AreBytes (bytes_at (now d) at count)
 bytes_at_now d at count h = AreBytes-bytes_at (now d) at count (now_bytes d h)
 
-pub upto_bytes : (d : FlashState) (k : ℕ) → HoldsBytes d → AreBytes (upto d k)
-upto_bytes d k h = AreBytes-play d.start (take k d.ops) h.start (All-take WritesBytes k d.ops h.ops)
-
 -- ---- and stay so
 -- what stays armed was armed
 tear_of-after : (number : ℕ) (due : Option Due) → AreBytes (tear_of due) → AreBytes (tear_of (due_after number due))
 tear_of-after number None h = h
-tear_of-after number (Some due) h = by_case (eqb due.number number)
-  where
-    by_case : (same : Bool) → AreBytes (tear_of (cond same None (Some due)))
-    by_case true = AreBytes-nil
-    by_case false = h
+tear_of-after number (Some due) h = cond_both (eqb due.number number) None (Some due) (λ (o : Option Due). AreBytes (tear_of o)) (λ same. AreBytes-nil) (λ other. h)
 
 torn_op : (op : Operation) (d : FlashState) (tear : List ℕ) → AreBytes tear → WritesBytes op → HoldsBytes d → All WritesBytes (d.ops ++ torn_by tear (now d) op ∷ [])
 torn_op op d tear t w h = All-push WritesBytes d.ops (torn_by tear (now d) op) h.ops (WritesBytes-torn_by tear (now d) op t (now_bytes d h) w)
@@ -62,7 +55,3 @@ HoldsBytes-at op d Done (is_done on room c f) w h = record {
 -- a call that is given bytes leaves bytes
 pub HoldsBytes-after : (op : Operation) (d : FlashState) → WritesBytes op → HoldsBytes d → HoldsBytes (after_ending op d (ending d))
 HoldsBytes-after op d w h = HoldsBytes-at op d (ending d) (ending_of d) w h
-
-pub HoldsBytes-done : (op : Operation) (old new : FlashState) (result : Result (Unit {0}) FlashFail) → Does op old new result → WritesBytes op → HoldsBytes old → HoldsBytes new
-unfolding after
-HoldsBytes-done op old new result does w h = subst HoldsBytes (sym does.leaves) (HoldsBytes-after op old w h)

@@ -10,7 +10,6 @@ pub mod TearLemmas
 pub mod DoesLemmas
 pub mod MemLemmas
 pub mod MovedLemmas
-pub mod ReadingLemmas
 pub mod EndsLemmas
 pub mod AnswerLemmas
 pub mod RangeLemmas

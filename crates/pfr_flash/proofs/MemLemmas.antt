@@ -1,12 +1,10 @@
 -- A flash in memory does what its trait says.
-use Rattle.std.proofs.Common.{◌≡◌, ℕ, ◌+◌, ◌-◌, Bool, true, false, eqb, ltb, List, [], ◌∷◌, ◌++◌, length, refl, sym, ap, ◌∙◌, subst, arith, Option, Some, None, Result, Ok, Err, ◌⊎◌, inl, inr}
-use Rattle.std.proofs.lemmas.Bool.{cases_Bool}
+use Rattle.std.proofs.Common.{◌≡◌, ℕ, ◌+◌, Bool, true, false, cond, eqb, ltb, List, [], ◌∷◌, ◌++◌, length, refl, sym, ap, ◌∙◌, subst, Option, Some, None, Result}
 use Rattle.std.proofs.lemmas.List.{get_or_append_left, get_or_push}
-use Rattle.std.proofs.lemmas.Bool.Decides.{nat_tests}
 use Rattle.pfr_flash.specs.Operation.{Operation}
-use Rattle.pfr_flash.specs.FlashState.{FlashState, Due, due_after, ending, ending_with, after_ending, answer_at, raised_by}
+use Rattle.pfr_flash.specs.FlashState.{FlashState, Due, due_after, ending, ending_with, after_ending, answer_at}
 use Rattle.pfr_flash.specs.Moved.{IsWhole}
-use Rattle.pfr_flash.specs.Flash.{Does, Reads}
+use Rattle.pfr_flash.specs.Flash.{Does}
 use Rattle.pfr_flash.specs.Cells.{CellsState}
 use Rattle.pfr_flash.specs.Rig.{IsKnownArm, due_of, arm_after, ending_at, cells_after, rig_after, device_of}
 use Rattle.pfr_flash.specs.declared.rig.Arm.{Arm}
@@ -14,20 +12,19 @@ use Rattle.pfr_flash.specs.declared.rig.Rig.{Rig}
 use Rattle.pfr_flash.specs.declared.rig.Outcome.{Outcome}
 use Rattle.pfr_flash.specs.declared.rig.Outcome.TheVariants.{Off, Full, Cut, Broken, Done}
 use Rattle.pfr_flash.specs.declared.flash.FlashFail.{FlashFail}
-use Rattle.pfr_flash.specs.declared.flash.FlashFail.TheVariants.{Fault, Lost}
 use Rattle.pfr_flash.specs.Bytes.{AreBytes}
 use Rattle.pfr_flash.specs.Holding.{HoldsBytes, WritesBytes, tear_of}
 use Rattle.pfr_flash.proofs.TearLemmas.{FitsIn}
 use Rattle.pfr_flash.proofs.HoldingLemmas.{HoldsBytes-after}
-use Rattle.pfr_flash.proofs.DoesLemmas.{does, reads_ok, reads_lost, reads_fault}
+use Rattle.pfr_flash.proofs.DoesLemmas.{does}
 
 due_of-after : (tears : List (List ℕ)) (number : ℕ) (arm : Option Arm) → due_of tears (arm_after number arm) ≡ due_after number (due_of tears arm)
 due_of-after tears number None = refl
-due_of-after tears number (Some arm) = due_of-cases (cases_Bool (eqb arm.number number))
+due_of-after tears number (Some arm) = cases (eqb arm.number number)
   where
-    due_of-cases : ((eqb arm.number number ≡ true) ⊎ (eqb arm.number number ≡ false)) → due_of tears (arm_after number (Some arm)) ≡ due_after number (due_of tears (Some arm))
-    due_of-cases (inl same) = rw same refl
-    due_of-cases (inr other) = rw other refl
+    cases : (same : Bool) → due_of tears (cond same None (Some arm)) ≡ cond same None (due_of tears (Some arm))
+    cases true = refl
+    cases false = refl
 
 device_after : (op : Operation) (cells : CellsState) (rig : Rig) (taken read_fault : ℕ) (outcome : Outcome)
     → device_of (cells_after op cells outcome) (rig_after (length cells.ops + 1) rig outcome) taken read_fault
@@ -47,70 +44,33 @@ answer_any tears (Cut tear) = refl
 answer_any tears (Broken tear) = refl
 answer_any tears Done = refl
 
--- what an erase or a program leaves
-mem_leaves : (op : Operation) (cells cells' : CellsState) (rig rig' : Rig) (taken read_fault count room : ℕ) (outcome : Outcome)
-    → ending_at cells.tears outcome ≡ ending_with rig.powered count room (due_of cells.tears rig.cut) (due_of cells.tears rig.fault)
-    → count ≡ length cells.ops → room ≡ cells.room
-    → cells' ≡ cells_after op cells outcome → rig' ≡ rig_after (count + 1) rig outcome
-    → device_of cells' rig' taken read_fault ≡ after_ending op (device_of cells rig taken read_fault) (ending (device_of cells rig taken read_fault))
-unfolding ending
-mem_leaves op cells cells' rig rig' taken read_fault count room outcome seen n r after_cells after_rig =
-    let endinged : ending_at cells.tears outcome ≡ ending (device_of cells rig taken read_fault) = rw (← n, ← r) seen in
-    rw (after_cells, after_rig, n, ← endinged) (device_after op cells rig taken read_fault outcome)
+-- ---- an erase or a program
+module _ (op : Operation) (cells cells' : CellsState) (rig rig' : Rig) (taken read_fault count room : ℕ) (outcome : Outcome)
+    (seen : ending_at cells.tears outcome ≡ ending_with rig.powered count room (due_of cells.tears rig.cut) (due_of cells.tears rig.fault))
+    (counted : count ≡ length cells.ops) (roomy : room ≡ cells.room) (after_cells : cells' ≡ cells_after op cells outcome) (after_rig : rig' ≡ rig_after (count + 1) rig outcome) where
+  ends_so : ending_at cells.tears outcome ≡ ending (device_of cells rig taken read_fault)
+  unfolding ending
+  ends_so = rw (← counted, ← roomy) seen
 
-pub mem_does : (op : Operation) (device : FlashState) (cells cells' : CellsState) (rig rig' : Rig) (taken read_fault count room : ℕ) (outcome : Outcome)
-    (result : Result (Unit {0}) FlashFail) → IsWhole op → HoldsBytes device → FitsIn (length device.start) op
-    → device_of cells rig taken read_fault ≡ device
-    → ending_at cells.tears outcome ≡ ending_with rig.powered count room (due_of cells.tears rig.cut) (due_of cells.tears rig.fault)
-    → count ≡ length cells.ops → room ≡ cells.room
-    → cells' ≡ cells_after op cells outcome → rig' ≡ rig_after (count + 1) rig outcome → result ≡ answer_at (ending_at [] outcome)
-    → Does op device (device_of cells' rig' taken read_fault) result
-unfolding ending
-mem_does op device cells cells' rig rig' taken read_fault count room outcome result whole holds fits view seen n r after_cells after_rig answered =
-    let old = device_of cells rig taken read_fault in
-    let endinged : ending_at cells.tears outcome ≡ ending old = rw (← n, ← r) seen in
-    let left = mem_leaves op cells cells' rig rig' taken read_fault count room outcome seen n r after_cells after_rig in
-    let answer : result ≡ answer_at (ending old) = answered ∙ answer_any cells.tears outcome ∙ ap answer_at endinged in
-    subst (λ (d : FlashState). Does op d (device_of cells' rig' taken read_fault) result) view
-    (does op old (device_of cells' rig' taken read_fault) result whole (subst HoldsBytes (sym view) holds) (subst (λ (d : FlashState). FitsIn (length d.start) op) (sym view) fits) left answer)
+  -- what it leaves
+  mem_leaves : device_of cells' rig' taken read_fault ≡ after_ending op (device_of cells rig taken read_fault) (ending (device_of cells rig taken read_fault))
+  mem_leaves = rw (after_cells, after_rig, counted, ← ends_so) (device_after op cells rig taken read_fault outcome)
 
--- and bytes are left where bytes were given
-pub mem_holds : (op : Operation) (cells cells' : CellsState) (rig rig' : Rig) (taken read_fault count room : ℕ) (outcome : Outcome)
-    → WritesBytes op → HoldsBytes (device_of cells rig taken read_fault)
-    → ending_at cells.tears outcome ≡ ending_with rig.powered count room (due_of cells.tears rig.cut) (due_of cells.tears rig.fault)
-    → count ≡ length cells.ops → room ≡ cells.room
-    → cells' ≡ cells_after op cells outcome → rig' ≡ rig_after (count + 1) rig outcome
-    → HoldsBytes (device_of cells' rig' taken read_fault)
-mem_holds op cells cells' rig rig' taken read_fault count room outcome writes holds seen n r after_cells after_rig =
-    let old = device_of cells rig taken read_fault in
-    subst HoldsBytes (sym (mem_leaves op cells cells' rig rig' taken read_fault count room outcome seen n r after_cells after_rig))
-    (HoldsBytes-after op old writes holds)
+  pub mem_does : (device : FlashState) (result : Result (Unit {0}) FlashFail) → IsWhole op → HoldsBytes device → FitsIn (length device.start) op
+      → device_of cells rig taken read_fault ≡ device → result ≡ answer_at (ending_at [] outcome) → Does op device (device_of cells' rig' taken read_fault) result
+  mem_does device result whole holds fits view answered =
+      rw (← view) (does op (device_of cells rig taken read_fault) (device_of cells' rig' taken read_fault) result whole (rw view holds) (subst (λ (d : FlashState). FitsIn (length d.start) op) (sym view) fits) mem_leaves
+      (answered ∙ answer_any cells.tears outcome ∙ ap answer_at ends_so))
 
--- ---- a read
-pub mem_reads_lost : (device : FlashState) (cells : CellsState) (rig : Rig) (taken taken' read_fault count : ℕ) → device_of cells rig taken read_fault ≡ device
-    → rig.powered ≡ false → taken' ≡ raised_by taken count → Reads count device (device_of cells rig taken' read_fault) (Err Lost)
-mem_reads_lost device cells rig taken taken' read_fault count view off t =
-    rw t (subst (λ (d : FlashState). Reads count d (device_of cells rig (raised_by taken count) read_fault) (Err Lost)) view
-    (reads_lost (device_of cells rig taken read_fault) count off))
+  -- and bytes are left where bytes were given
+  pub mem_holds : WritesBytes op → HoldsBytes (device_of cells rig taken read_fault) → HoldsBytes (device_of cells' rig' taken read_fault)
+  mem_holds writes holds = subst HoldsBytes (sym mem_leaves) (HoldsBytes-after op (device_of cells rig taken read_fault) writes holds)
 
-pub mem_reads_ok : (device : FlashState) (cells : CellsState) (rig : Rig) (taken taken' read_fault read_fault' count : ℕ) → device_of cells rig taken read_fault ≡ device
-    → rig.powered ≡ true → taken' ≡ raised_by taken count → (read_fault ≡ 1 → ⊥) → read_fault' ≡ read_fault - 1
-    → Reads count device (device_of cells rig taken' read_fault') (Ok tt)
-mem_reads_ok device cells rig taken taken' read_fault read_fault' count view on t other f =
-    let same : ltb 0 read_fault' ≡ ltb 0 read_fault = grind (arith, nat_tests) in
-    rw t (subst (λ (b : Bool). Reads count device (record (device_of cells rig (raised_by taken count) read_fault) { read_due = b }) (Ok tt)) (sym same)
-    (subst (λ (d : FlashState). Reads count d (device_of cells rig (raised_by taken count) read_fault) (Ok tt)) view
-    (reads_ok (device_of cells rig taken read_fault) count on)))
-
-pub mem_reads_fault : (device : FlashState) (cells : CellsState) (rig : Rig) (taken taken' read_fault read_fault' faults count : ℕ) → device_of cells rig taken read_fault ≡ device
-    → rig.powered ≡ true → taken' ≡ raised_by taken count → read_fault ≡ 1 → read_fault' ≡ read_fault - 1 → faults ≡ raised_by rig.faults 1
-    → Reads count device (device_of cells (record rig { faults = faults }) taken' read_fault') (Err Fault)
-mem_reads_fault device cells rig taken taken' read_fault read_fault' faults count view on t now f counted =
-    let due : ltb 0 read_fault ≡ true = grind (arith, nat_tests) in
-    let gone : ltb 0 read_fault' ≡ false = grind (arith, nat_tests) in
-    rw (t, counted) (subst (λ (b : Bool). Reads count device (record (device_of cells (record rig { faults = raised_by rig.faults 1 }) (raised_by taken count) read_fault) { read_due = b }) (Err Fault)) (sym gone)
-    (subst (λ (d : FlashState). Reads count d (record (device_of cells (record rig { faults = raised_by rig.faults 1 }) (raised_by taken count) read_fault) { read_due = false }) (Err Fault)) view
-    (reads_fault (device_of cells rig taken read_fault) count on due)))
+-- what a read leaves
+pub mem_reads : {device : FlashState} (cells : CellsState) (rig : Rig) {taken taken' faults faults' more : ℕ} {due : Bool} (read_fault read_fault' : ℕ)
+    → device_of cells rig taken read_fault ≡ device → taken' ≡ more → faults ≡ faults' → ltb 0 read_fault' ≡ due
+    → device_of cells (record rig { faults = faults }) taken' read_fault' ≡ record device { taken = more; faults = faults'; read_due = due }
+mem_reads cells rig read_fault read_fault' view t f d = rw (← view, t, f, d) refl
 
 -- ---- arming
 -- a further tear changes no other arm

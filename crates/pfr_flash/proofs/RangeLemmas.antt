@@ -1,24 +1,19 @@
 -- Which bytes operations and calls leave alone, and which bits stay cleared.
-use Rattle.std.proofs.Common.{◌≡◌, ℕ, ◌+◌, ◌-◌, ◌*◌, ◌≤◌, ◌<◌, List, [], ◌∷◌, ◌++◌, length, get_or, refl, sym, ap, ◌∙◌, subst, arith, bit_and, Result, Ok, Err, ◌⊎◌, inl, inr}
+use Rattle.std.proofs.Common.{◌≡◌, ℕ, ◌+◌, ◌-◌, ◌*◌, ◌≤◌, ◌<◌, List, [], ◌∷◌, ◌++◌, length, get_or, refl, sym, ap, ◌∙◌, subst, arith, bit_and, ◌⊎◌, inl, inr}
 use Rattle.std.proofs.lemmas.List.{ext_get_or, get_or_past}
 use Rattle.std.proofs.lemmas.Bool.{cases_lt}
 use Rattle.std.proofs.lemmas.Nat.Bits.{bit_at_and, bit_at-zero}
 use Rattle.std.specs.Int.{bit_at}
 use Rattle.pfr_flash.specs.Bytes.{blank, bytes_at, written, each_byte, and_bytes}
 use Rattle.pfr_flash.specs.Operation.{Operation, Erase, Program, Torn, applied, play, IsTorn}
-use Rattle.pfr_flash.specs.FlashState.{FlashState, now, size_of, with_op}
-use Rattle.pfr_flash.specs.Flash.{Does, AddsTorn}
+use Rattle.pfr_flash.specs.FlashState.{FlashState, now, size_of}
 use Rattle.pfr_flash.specs.Range.{place_of, len_of, AllWithin, SameOutside, OnlyClears}
-use Rattle.pfr_flash.specs.declared.flash.FlashFail.{FlashFail}
 use Rattle.pfr_flash.proofs.BytesLemmas.{length-blank, length-written, get_or-written_below, get_or-written_above, get_or-written_inside, length-each_byte, length-bytes_at, get_or-each_byte, get_or-bytes_at}
-use Rattle.pfr_flash.proofs.PlayLemmas.{length-play, play_push}
+use Rattle.pfr_flash.proofs.PlayLemmas.{length-play}
 
 -- ---- the bytes of a device
 pub length-now : (d : FlashState) → length (now d) ≡ size_of d
 length-now d = length-play d.start d.ops
-
-pub now-with_op : (d : FlashState) (op : Operation) → now (with_op d op) ≡ applied (now d) op
-now-with_op d op = play_push d.start d.ops op
 
 -- ---- outside of an operation
 written_outside : (image : List ℕ) (at : ℕ) (bytes : List ℕ) (k : ℕ) → ((k < at) ⊎ (at + length bytes ≤ k)) → get_or (written image at bytes) k 0 ≡ get_or image k 0
@@ -137,35 +132,6 @@ OnlyClears-torn image at bytes done h =
     rw h.is torn
 
 -- ---- a call that is to do an operation
-now_same : (old new : FlashState) → new.start ≡ old.start → new.ops ≡ old.ops → now new ≡ now old
-now_same old new start ops = ap (λ (first : List ℕ). play first new.ops) start ∙ ap (λ (done : List Operation). play old.start done) ops
-
-now_added : (old new : FlashState) (done : Operation) → new.start ≡ old.start → new.ops ≡ old.ops ++ done ∷ [] → now new ≡ applied (now old) done
-now_added old new done start ops =
-    ap (λ (first : List ℕ). play first new.ops) start ∙ ap (λ (all : List Operation). play old.start all) ops ∙ play_push old.start old.ops done
-
--- what is so of each way in which the call may end is so of what it leaves
-by_outcome : (P : List ℕ → Type 0) (op : Operation) (old new : FlashState) (result : Result (Unit {0}) FlashFail) → Does op old new result
-    → P (now old) → P (applied (now old) op) → ((done : Operation) → IsTorn (now old) op done → P (applied (now old) done)) → P (now new)
-by_outcome P op old new (Ok u) h same whole torn = subst P (sym (ap now h.ok ∙ now-with_op old op)) whole
-by_outcome P op old new (Err e) h same whole torn = at_err h.err
-  where
-    at_err : ((new.ops ≡ old.ops) ⊎ AddsTorn op old new) → P (now new)
-    at_err (inl none) = subst P (sym (now_same old new h.worked.moved.start none)) same
-    at_err (inr some) = subst P (sym (now_added old new some.done h.worked.moved.start some.is)) (torn some.done some.torn)
-
--- the bytes outside of its range stay, however it ends
-pub Does-outside : (op : Operation) (old new : FlashState) (result : Result (Unit {0}) FlashFail) → Does op old new result
-    → SameOutside (place_of op) (len_of op) (now old) (now new)
-Does-outside op old new result h = by_outcome (λ (image : List ℕ). SameOutside (place_of op) (len_of op) (now old) image) op old new result h
-    (SameOutside-refl (place_of op) (len_of op) (now old)) (SameOutside-applied (now old) op) (λ done torn. SameOutside-torn (now old) op done torn)
-
--- a program only clears bits, however it ends
-pub Does-clears : (at : ℕ) (bytes : List ℕ) (old new : FlashState) (result : Result (Unit {0}) FlashFail) → Does (Program at bytes) old new result
-    → at + length bytes ≤ size_of old → OnlyClears (now old) (now new)
-Does-clears at bytes old new result h fits = by_outcome (λ (image : List ℕ). OnlyClears (now old) image) (Program at bytes) old new result h
-    (OnlyClears-refl (now old)) (OnlyClears-program (now old) at bytes (omega (arith, length-now old))) (λ done torn. OnlyClears-torn (now old) at bytes done torn)
-
 pub AllWithin-append : (from len : ℕ) (ops more : List Operation) → AllWithin from len ops → AllWithin from len more → AllWithin from len (ops ++ more)
 AllWithin-append from len [] more h k = k
 AllWithin-append from len (op ∷ ops) more h k = (h.0, AllWithin-append from len ops more h.1 k)

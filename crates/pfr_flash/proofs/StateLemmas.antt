@@ -1,60 +1,24 @@
 -- What follows for a device from what its calls do.
-use Rattle.std.proofs.Common.{◌≡◌, ◌≢◌, ℕ, zero, suc, ◌+◌, ◌≤◌, Bool, true, false, eqb, List, [], ◌∷◌, ◌++◌, length, take, refl, sym, ap, ◌∙◌, subst, arith, None, Ok, ◌⊎◌, inl, inr}
-use Rattle.std.proofs.lemmas.Bool.{cases_Bool, ne_eqb}
-use Rattle.std.proofs.lemmas.List.{take-append-le, append-nil}
-use Rattle.pfr_flash.specs.Bytes.{AreBytes}
-use Rattle.pfr_flash.specs.Holding.{HoldsBytes}
-use Rattle.pfr_flash.specs.Operation.{Operation, applied, play, IsTorn}
-use Rattle.pfr_flash.specs.FlashState.{FlashState, now, upto, op_count_of, due_at, ending, answer}
+use Rattle.std.proofs.Common.{◌≡◌, ℕ, zero, suc, ◌+◌, ◌-◌, ◌≤◌, Bool, true, false, List, [], ◌∷◌, ◌++◌, take, refl, sym, ap, ◌∙◌, arith, inl, inr}
+use Rattle.std.proofs.lemmas.Bool.{cond_both}
+use Rattle.std.proofs.Math.Seq.{take-nil, take-append-add}
+use Rattle.std.proofs.lemmas.List.{take-append-le}
+use Rattle.pfr_flash.specs.Operation.{Operation, applied, play}
+use Rattle.pfr_flash.specs.FlashState.{FlashState, now, upto, op_count_of}
 use Rattle.pfr_flash.specs.Moved.{Extends, was_done, Moved, Worked, none}
 use Rattle.pfr_flash.specs.Plan.{IsPart}
 use Rattle.pfr_flash.proofs.PlayLemmas.{play-append}
-use Rattle.pfr_flash.proofs.HoldingLemmas.{upto_bytes}
-use Rattle.pfr_flash.proofs.DoesLemmas.{passed_same}
+use Rattle.pfr_flash.proofs.DoesLemmas.{moved_still}
 use Rattle.pfr_flash.proofs.PlanLemmas.{IsPart-none}
 
 -- ---- power
 pub Moved-power : (d : FlashState) (on : Bool) → Moved d (record d { powered = on })
-Moved-power d on = record {
-  start = refl;
-  ops = record { more = []; is = sym (append-nil d.ops) };
-  full = λ _. refl;
-  arms = refl;
-  room = refl;
-  cut_due = rw passed_same refl;
-  cut_torn = λ cut is done. absurd (let e = passed_same (op_count_of d) d.cut_due in cc);
-  fault_due = rw passed_same refl;
-  fault_torn = λ fault is done. absurd (let e = passed_same (op_count_of d) d.fault_due in cc);
-  read_due = inl refl;
-  losses = rw passed_same refl;
-  faults = omega arith;
-  fault_counted = λ done. absurd (let e = passed_same (op_count_of d) d.fault_due in cc);
-  fault_cause = none refl;
-}
+Moved-power d on = moved_still d on d.faults d.taken d.read_due (omega arith) (inl refl) (none refl)
 
 -- a device that was on and is off now lost its power once
 pub Worked-lost : (old new : FlashState) → Worked old new → old.powered ≡ true → new.powered ≡ false → new.losses ≡ old.losses + 1
-Worked-lost old new h on off = by_case (cases_Bool (was_done old new old.cut_due))
-  where
-    by_case : ((was_done old new old.cut_due ≡ true) ⊎ (was_done old new old.cut_due ≡ false)) → new.losses ≡ old.losses + 1
-    by_case (inl done) = rw done at h.moved.losses
-    by_case (inr not_done) = let still : new.powered ≡ old.powered = rw not_done at h.powered in cc
-
--- one that is on and whose losses stay is on
-pub Worked-on : (old new : FlashState) → Worked old new → old.powered ≡ true → new.losses ≡ old.losses → new.powered ≡ true
-Worked-on old new h on same = by_case (cases_Bool (was_done old new old.cut_due))
-  where
-    by_case : ((was_done old new old.cut_due ≡ true) ⊎ (was_done old new old.cut_due ≡ false)) → new.powered ≡ true
-    by_case (inl done) = let rose : new.losses ≡ old.losses + 1 = rw done at h.moved.losses in absurd (omega arith)
-    by_case (inr not_done) = (rw not_done at h.powered) ∙ on
-
--- ---- an erase or a program that nothing hinders
-pub answer-ok : (d : FlashState) → d.powered ≡ true → op_count_of d ≢ d.room
-    → due_at (op_count_of d + 1) d.cut_due ≡ None → due_at (op_count_of d + 1) d.fault_due ≡ None → answer d ≡ Ok tt
-unfolding answer ending
-answer-ok d on room cut fault =
-    let some : eqb (op_count_of d) d.room ≡ false = ne_eqb (op_count_of d) d.room room in
-    rw (on, some, cut, fault) refl
+Worked-lost old new h on off = cond_both (was_done old new old.cut_due) (old.losses + 1) old.losses (λ (n : ℕ). new.losses ≡ n → new.losses ≡ old.losses + 1)
+    (λ done is. is) (λ not_done is. let still : new.powered ≡ old.powered = rw not_done at h.powered in cc) h.moved.losses
 
 -- ---- the bytes at each moment
 -- operations that are added leave what was before
@@ -63,37 +27,26 @@ upto-Extends old new k start more le =
     let front : take k new.ops ≡ take k old.ops = ap (λ (ops : List Operation). take k ops) more.is ∙ take-append-le k old.ops more.more le in
     ap (λ (s : List ℕ). play s (take k new.ops)) start ∙ ap (λ (ops : List Operation). play old.start ops) front
 
--- What a device holds once calls were done tells what it held before them, at each of its moments.
-pub moved_bytes : (old new : FlashState) (k : ℕ) → Moved old new → HoldsBytes new → k ≤ op_count_of old → AreBytes (upto old k)
-moved_bytes old new k moved h within = subst AreBytes (upto-Extends old new k moved.start moved.ops within) (upto_bytes new k h)
-
-take-past : (ops more : List Operation) (j : ℕ) → take (length ops + j) (ops ++ more) ≡ ops ++ take j more
-take-past [] more j = let e : 0 + j ≡ j = omega arith in rw e refl
-take-past (op ∷ ops) more j =
-    let e : suc (length ops) + j ≡ suc (length ops + j) = omega arith in
-    rw e (ap (λ (all : List Operation). op ∷ all) (take-past ops more j))
-
 -- in between, it is what the first ones of those that are added leave
 pub upto-added : (old new : FlashState) (added : List Operation) (j : ℕ) → new.start ≡ old.start → new.ops ≡ old.ops ++ added
     → upto new (op_count_of old + j) ≡ play (now old) (take j added)
 upto-added old new added j start ops =
     ap (λ (s : List ℕ). play s (take (op_count_of old + j) new.ops)) start
     ∙ ap (λ (all : List Operation). play old.start (take (op_count_of old + j) all)) ops
-    ∙ ap (λ (all : List Operation). play old.start all) (take-past old.ops added j)
+    ∙ ap (λ (all : List Operation). play old.start all) (take-append-add old.ops added j)
     ∙ play-append old.start old.ops (take j added)
 
-take-nil : (j : ℕ) → take {A = Operation} j [] ≡ []
-take-nil zero = refl
-take-nil (suc j) = refl
+-- the same at a count
+pub upto_from : (old new : FlashState) (added : List Operation) (n : ℕ) → new.start ≡ old.start → new.ops ≡ old.ops ++ added → op_count_of old ≤ n
+    → upto new n ≡ play (now old) (take (n - op_count_of old) added)
+upto_from old new added n start ops le =
+    let more : op_count_of old + (n - op_count_of old) ≡ n = omega arith in
+    ap (λ (k : ℕ). upto new k) (sym more) ∙ upto-added old new added (n - op_count_of old) start ops
 
 -- the first ones of a part are a part
 pub IsPart-take : (image : List ℕ) (plan added : List Operation) (j : ℕ) → IsPart image plan added → IsPart image plan (take j added)
 IsPart-take image plan added zero h = IsPart-none image plan
 IsPart-take image plan [] (suc j) h = IsPart-none image plan
 IsPart-take image [] (op ∷ ops) (suc j) h = absurd h
-IsPart-take image (next ∷ plan) (op ∷ ops) (suc j) h = by_case (λ q. IsPart-take (applied image next) plan ops j q) h
-  where
-    by_case : (IsPart (applied image next) plan ops → IsPart (applied image next) plan (take j ops)) → (((op ≡ next) × IsPart (applied image next) plan ops) ⊎ (IsTorn image next op × (ops ≡ [])))
-        → ((op ≡ next) × IsPart (applied image next) plan (take j ops)) ⊎ (IsTorn image next op × (take j ops ≡ []))
-    by_case later (inl whole) = inl (whole.0, later whole.1)
-    by_case later (inr torn) = inr (torn.0, rw torn.1 (take-nil j))
+IsPart-take image (next ∷ plan) (op ∷ ops) (suc j) (inl whole) = inl (whole.0, IsPart-take (applied image next) plan ops j whole.1)
+IsPart-take image (next ∷ plan) (op ∷ ops) (suc j) (inr torn) = inr (torn.0, rw torn.1 (take-nil j))
