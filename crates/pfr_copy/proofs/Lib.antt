@@ -1,0 +1,4 @@
+pub mod TakingLemmas
+pub mod ContentsLemmas
+pub mod PlanLemmas
+pub mod SourcesLaw
