@@ -151,12 +151,12 @@ strokes_leave image content (page ∷ pages) from len each inside =
 
 -- ---- the pages of a job
 -- a page of a taken region lies apart from an area that each region is clear of
-region_apart : (place len n : ℕ) (p : Region → Bool) (regions : List Region) → All (λ (r : Region). (IsClearOf r place len) × (r.start % 4096 ≡ 0) × (r.end % 4096 ≡ 0)) regions
+region_apart : (place len n : ℕ) (p : Region → Bool) (regions : List Region) → All (λ (r : Region). IsClearOf r place len × (r.end % 4096 ≡ 0)) regions
     → list_any (λ (region : Region). has_page region n) (filter p regions) ≡ true → (place + len ≤ 4096 * n) ⊎ (4096 * n + 4096 ≤ place)
 region_apart place len n p [] each some = absurd (false≢true some)
 region_apart place len n p (r ∷ others) each some =
-    by_taken (p r) some (All-head (λ (r : Region). (IsClearOf r place len) × (r.start % 4096 ≡ 0) × (r.end % 4096 ≡ 0)) r others each)
-    (region_apart place len n p others (All-tail (λ (r : Region). (IsClearOf r place len) × (r.start % 4096 ≡ 0) × (r.end % 4096 ≡ 0)) r others each))
+    by_taken (p r) some (All-head (λ (r : Region). IsClearOf r place len × (r.end % 4096 ≡ 0)) r others each)
+    (region_apart place len n p others (All-tail (λ (r : Region). IsClearOf r place len × (r.end % 4096 ≡ 0)) r others each))
   where
     in_one : has_page r n ≡ true → r.end % 4096 ≡ 0 → IsClearOf r place len → (place + len ≤ 4096 * n) ⊎ (4096 * n + 4096 ≤ place)
     in_one has aligned (inl before) =
@@ -166,12 +166,12 @@ region_apart place len n p (r ∷ others) each some =
         let low : r.start ≤ 4096 * n = grind (arith, nat_tests) in
         inl (omega (arith, low, behind))
 
-    by_has : (b : Bool) → has_page r n ≡ b → (b || list_any (λ (region : Region). has_page region n) (filter p others)) ≡ true → (IsClearOf r place len) × (r.start % 4096 ≡ 0) × (r.end % 4096 ≡ 0)
+    by_has : (b : Bool) → has_page r n ≡ b → (b || list_any (λ (region : Region). has_page region n) (filter p others)) ≡ true → IsClearOf r place len × (r.end % 4096 ≡ 0)
         → (list_any (λ (region : Region). has_page region n) (filter p others) ≡ true → (place + len ≤ 4096 * n) ⊎ (4096 * n + 4096 ≤ place)) → (place + len ≤ 4096 * n) ⊎ (4096 * n + 4096 ≤ place)
-    by_has true e some clear later = in_one e clear.1.1 clear.0
+    by_has true e some clear later = in_one e clear.1 clear.0
     by_has false e some clear later = later some
 
-    by_taken : (b : Bool) → list_any (λ (region : Region). has_page region n) (if b then r ∷ filter p others else filter p others) ≡ true → (IsClearOf r place len) × (r.start % 4096 ≡ 0) × (r.end % 4096 ≡ 0)
+    by_taken : (b : Bool) → list_any (λ (region : Region). has_page region n) (if b then r ∷ filter p others else filter p others) ≡ true → IsClearOf r place len × (r.end % 4096 ≡ 0)
         → (list_any (λ (region : Region). has_page region n) (filter p others) ≡ true → (place + len ≤ 4096 * n) ⊎ (4096 * n + 4096 ≤ place)) → (place + len ≤ 4096 * n) ⊎ (4096 * n + 4096 ≤ place)
     by_taken true some clear later = by_has (has_page r n) refl some clear later
     by_taken false some clear later = later some
@@ -205,7 +205,7 @@ module _ (kind : JobKind) (image : List ℕ) (capsule : CapsuleState) (layout : 
       (all_can (pages_below (is_active_page kind image capsule layout) (length image / 4096)) (λ m there. (pages_are (is_active_page kind image capsule layout) (length image / 4096)).only m there))
 
   -- each lies apart from an area that the manifest area and each region are clear of
-  module _ (place : ℕ) (manifest : AreApart layout.manifest_at layout.manifest_len place layout.area_len) (clear : All (λ (r : Region). (IsClearOf r place layout.area_len) × (r.start % 4096 ≡ 0) × (r.end % 4096 ≡ 0)) capsule.manifest.regions) where
+  module _ (place : ℕ) (manifest : AreApart layout.manifest_at layout.manifest_len place layout.area_len) (clear : All (λ (r : Region). IsClearOf r place layout.area_len × (r.end % 4096 ≡ 0)) capsule.manifest.regions) where
     in_manifest : (n : ℕ) → holds_text layout.manifest_at layout.manifest_len n ≡ true → (place + layout.area_len ≤ 4096 * n) ⊎ (4096 * n + 4096 ≤ place)
     in_manifest n holds = by_side manifest
       where
@@ -253,9 +253,9 @@ module _ (kind : JobKind) (image : List ℕ) (capsule : CapsuleState) (layout : 
 
       by_area : LiesInArea image layout capsule → SameSources image (play image (strokes_of (active_page image capsule layout) (pages_below (is_active_page kind image capsule layout) k))) capsule
       by_area (inl lies) = sources_same image _ capsule layout.recovery_at layout.area_len lies size
-          (area_stays layout.recovery_at can.valid.apart.manifest_recovery (λ i d below. let r = can.regions i d below in (r.clear_of_recovery, r.start_aligned, r.end_aligned)) k few can.valid.inside.recovery)
+          (area_stays layout.recovery_at can.valid.apart.manifest_recovery (λ i d below. let r = can.regions i d below in (r.clear_of_recovery, r.end_aligned)) k few can.valid.inside.recovery)
       by_area (inr lies) = sources_same image _ capsule layout.staging_at layout.area_len lies size
-          (area_stays layout.staging_at can.valid.apart.manifest_staging (λ i d below. let r = can.regions i d below in (r.clear_of_staging, r.start_aligned, r.end_aligned)) k few can.valid.inside.staging)
+          (area_stays layout.staging_at can.valid.apart.manifest_staging (λ i d below. let r = can.regions i d below in (r.clear_of_staging, r.end_aligned)) k few can.valid.inside.staging)
 
 -- ---- the same of a device
 module _ (kind : JobKind) (capsule : CapsuleState) (layout : Layout) (a : FlashState) (can : CanApply (now a) layout capsule) (holds : HoldsBytes a) where

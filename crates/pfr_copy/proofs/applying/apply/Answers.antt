@@ -7,4 +7,4 @@ use Rattle.pfr_copy.proofs.applying.apply.Goals as goal
 pub returns-clause-rebuilt : goal.returns-clause-rebuilt
 returns-clause-rebuilt g c =
     let d = g.F.Flash.device c.args.held.now.flash in
-    follows_now _ d _ _ c.replace_pages.result c.replace_pages.ensures (applied_is c.args.kind (now d) c.args.capsule.now c.args.layout.now c.requires.can (now_bytes d (g.met.F.Flash.holds_bytes c.args.held.now.flash)))
+    follows_now _ d _ _ c.replace_pages.result (rw c.flash.ensures.value at c.replace_pages.ensures) (applied_is c.args.kind (now d) c.args.capsule.now c.args.layout.now c.requires.can (now_bytes d (g.met.F.Flash.holds_bytes c.args.held.now.flash)))
