@@ -1,7 +1,7 @@
 -- What is read of a text is a page of it, and what is read of a page is what the capsule gives.
-use Rattle.std.proofs.Common.{◌≡◌, ◌∙◌, refl, sym, ap, subst, ℕ, ◌+◌, ◌-◌, ◌≤◌, ◌<◌, Bool, true, false, not, if◌then◌else◌, filter, Result, Ok, Err, IfOk, min, List, [], ◌++◌, take, drop, length, Option, Some, None, arith, ◌⊎◌, inl, inr}
+use Rattle.std.proofs.Common.{◌≡◌, ◌∙◌, refl, sym, ap, ℕ, ◌+◌, ◌-◌, ◌≤◌, ◌<◌, Bool, true, false, not, if◌then◌else◌, filter, Result, Ok, Err, IfOk, min, List, [], ◌++◌, take, drop, length, Option, Some, None, arith, ◌⊎◌, inl, inr}
 use Rattle.std.proofs.lemmas.Bool.{cases_lt}
-use Rattle.std.proofs.lemmas.List.{drop-drop, drop-take, take-take, take_all, drop_all, length-take}
+use Rattle.std.proofs.lemmas.List.{drop-drop, drop-take, take_all, drop_all, length-take}
 use Rattle.pfr_flash.specs.Bytes.{blank, bytes_at, continued}
 use Rattle.pfr_flash.proofs.BytesLemmas.{continued_is, length-bytes_at}
 use Rattle.pfr_flash.proofs.PartsLemmas.{part_of}

@@ -2,3 +2,4 @@ pub mod TakingLemmas
 pub mod ContentsLemmas
 pub mod PlanLemmas
 pub mod SourcesLaw
+pub mod JudgedLaw

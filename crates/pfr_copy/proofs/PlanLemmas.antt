@@ -1,5 +1,5 @@
 -- How the strokes of the pages that pass a test are followed, page by page.
-use Rattle.std.proofs.Common.{◌≡◌, ◌∙◌, ℕ, zero, suc, ◌+◌, ◌-◌, ◌/◌, ◌<◌, Bool, true, false, if◌then◌else◌, refl, sym, ap, subst, arith, List, [], ◌∷◌, ◌++◌, append_assoc, length, Option, Some, None, Result, Ok, Err, OnOk}
+use Rattle.std.proofs.Common.{◌≡◌, ◌∙◌, ℕ, zero, suc, ◌+◌, ◌-◌, ◌<◌, Bool, true, false, if◌then◌else◌, refl, sym, ap, subst, arith, List, [], ◌∷◌, ◌++◌, append_assoc, Option, Some, None, Result, Ok, Err, OnOk}
 use Rattle.std.proofs.lemmas.List.{append-nil}
 use Rattle.pfr_flash.specs.FlashState.{FlashState, now}
 use Rattle.pfr_flash.specs.Operation.{Operation, play}
@@ -59,8 +59,7 @@ module _ (content : ℕ → List ℕ) (test : ℕ → Bool) where
   below_rest n zero = ([], (let e : n + zero ≡ n = omega arith in ap (λ (k : ℕ). strokes_of content (pages_below test k)) e ∙ sym (append-nil (strokes_of content (pages_below test n)))))
   below_rest n (suc more) =
       let before = below_rest n more in
-      let e : n + suc more ≡ suc (n + more) = omega arith in
-      (
+      let e : n + suc more ≡ suc (n + more) = omega arith in (
         before.0 ++ page_plan content test (n + more),
         ap (λ (k : ℕ). strokes_of content (pages_below test k)) e ∙ below_more (n + more) ∙ ap (λ (ops : List Operation). ops ++ page_plan content test (n + more)) before.1
             ∙ append_assoc (strokes_of content (pages_below test n)) before.0 (page_plan content test (n + more)),

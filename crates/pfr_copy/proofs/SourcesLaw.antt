@@ -1,10 +1,10 @@
 -- The pages of a job lie apart from the capsule that is applied, so what is read of it later is what was there at first.
-use Rattle.std.proofs.Common.{◌≡◌, ◌∙◌, ℕ, suc, ◌+◌, ◌-◌, ◌*◌, ◌/◌, ◌≤◌, ◌<◌, ◌%◌, ◌&&◌, ◌||◌, not, Bool, true, false, if◌then◌else◌, refl, sym, ap, subst, arith, List, [], ◌∷◌, ◌++◌, length, Ok, All, filter, ◌⊎◌, inl, inr}
+use Rattle.std.proofs.Common.{◌≡◌, ◌∙◌, ℕ, ◌+◌, ◌-◌, ◌*◌, ◌/◌, ◌≤◌, ◌<◌, ◌%◌, ◌&&◌, ◌||◌, not, Bool, true, false, if◌then◌else◌, refl, sym, ap, subst, arith, List, [], ◌∷◌, length, Ok, All, filter, ◌⊎◌, inl, inr}
 use Rattle.std.specs.List.{list_any}
 use Rattle.std.proofs.lemmas.Bool.{false≢true}
 use Rattle.std.proofs.lemmas.Bool.Decides.{nat_tests}
 use Rattle.std.proofs.lemmas.List.Elements.{All-head, All-tail}
-use Rattle.pfr_flash.specs.Bytes.{AreBytes, blank, bytes_at}
+use Rattle.pfr_flash.specs.Bytes.{AreBytes, bytes_at}
 use Rattle.pfr_flash.specs.FlashState.{FlashState, now}
 use Rattle.pfr_flash.specs.Holding.{HoldsBytes}
 use Rattle.pfr_flash.specs.Plan.{Follows}
@@ -52,7 +52,7 @@ same_inside image later from len at count same low high =
     let off : from + (at - from) ≡ at = omega arith in
     subst (λ (n : ℕ). bytes_at later n count ≡ bytes_at image n count) off (same_part later image from from len (at - from) count same (omega arith))
 
-sources_same : (image later : List ℕ) (capsule : CapsuleState) (place len : ℕ) → LiesAt image place len capsule → length later ≡ length image → bytes_at later place len ≡ bytes_at image place len
+pub sources_same : (image later : List ℕ) (capsule : CapsuleState) (place len : ℕ) → LiesAt image place len capsule → length later ≡ length image → bytes_at later place len ≡ bytes_at image place len
     → SameSources image later capsule
 sources_same image later capsule place len lies size same = record {
   size = size;
