@@ -79,7 +79,7 @@ module _ (image : List ℕ) (bytes : AreBytes image) where
   gives true false at inside h = blank_fills
   gives false copied at inside h = absurd (false≢true (sym h))
 
-  page_gives : (capsule : CapsuleState) (n : ℕ) → HasIndex image capsule.pages → n < capsule.pages.bits → is_kept (page_of image capsule.pages n) ≡ false → IsPage (page_bytes image (page_of image capsule.pages n))
+  pub page_gives : (capsule : CapsuleState) (n : ℕ) → HasIndex image capsule.pages → n < capsule.pages.bits → is_kept (page_of image capsule.pages n) ≡ false → IsPage (page_bytes image (page_of image capsule.pages n))
   unfolding page_in
   page_gives capsule n index below h =
       let pages = capsule.pages in

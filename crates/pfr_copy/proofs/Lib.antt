@@ -1,0 +1,5 @@
+pub mod TakingLemmas
+pub mod ContentsLemmas
+pub mod PlanLemmas
+pub mod SourcesLaw
+pub mod JudgedLaw
