@@ -47,10 +47,7 @@ one_page content n true = append-nil (strokes n (content n))
 one_page content n false = refl
 
 module _ (content : ℕ → List ℕ) (test : ℕ → Bool) where
-  -- the strokes of the pages below a number
-  abbrev pub below : ℕ → List Operation
-  below n = strokes_of content (pages_below test n)
-
+  -- the strokes of the pages below a number, with those of the next one
   below_more : (n : ℕ) → strokes_of content (pages_below test (suc n)) ≡ strokes_of content (pages_below test n) ++ page_plan content test n
   unfolding pages_below
   below_more n = strokes_of-append content (pages_below test n) (if test n then n ∷ [] else []) ∙ ap (λ (ops : List Operation). strokes_of content (pages_below test n) ++ ops) (one_page content n (test n))

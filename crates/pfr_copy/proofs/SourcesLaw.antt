@@ -9,7 +9,7 @@ use Rattle.pfr_flash.specs.FlashState.{FlashState, now}
 use Rattle.pfr_flash.specs.Holding.{HoldsBytes}
 use Rattle.pfr_flash.specs.Plan.{Follows}
 use Rattle.pfr_flash.specs.Layout.{AreApart, IsValidLayout}
-use Rattle.pfr_flash.specs.Operation.{Operation, play}
+use Rattle.pfr_flash.specs.Operation.{play}
 use Rattle.pfr_flash.specs.declared.layout.Layout.{Layout}
 use Rattle.pfr_flash.proofs.AreBytesLemmas.{AreBytes-bytes_at}
 use Rattle.pfr_flash.proofs.FollowsLemmas.{Follows-now}
@@ -141,7 +141,6 @@ strokes_leave : (image : List ℕ) (content : ℕ → List ℕ) (pages : List �
 unfolding strokes_of
 strokes_leave image content [] from len each inside = refl
 strokes_leave image content (page ∷ pages) from len each inside =
-    let ops : List Operation = strokes page (content page) in
     let here = each page (inl refl) in
     let size : length (play image (strokes page (content page))) ≡ length image = length-play image (strokes page (content page)) in
     ap (λ (xs : List ℕ). bytes_at xs from len) (play-append image (strokes page (content page)) (strokes_of content pages))
@@ -245,9 +244,6 @@ module _ (kind : JobKind) (image : List ℕ) (capsule : CapsuleState) (layout : 
       → SameSources image (play image (strokes_of (active_page image capsule layout) (pages_below (is_active_page kind image capsule layout) k))) capsule
   sources_stay k few = by_area can.lies
     where
-      ops : List Operation
-      ops = strokes_of (active_page image capsule layout) (pages_below (is_active_page kind image capsule layout) k)
-
       size : length (play image (strokes_of (active_page image capsule layout) (pages_below (is_active_page kind image capsule layout) k))) ≡ length image
       size = length-play image (strokes_of (active_page image capsule layout) (pages_below (is_active_page kind image capsule layout) k))
 
