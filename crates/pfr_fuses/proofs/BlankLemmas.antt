@@ -8,9 +8,9 @@ use Rattle.pfr_flash.specs.Layout.{judge_layout}
 use Rattle.pfr_flash.specs.declared.layout.LayoutRule.{LayoutRule}
 use Rattle.pfr_flash.specs.declared.names.Bank.TheVariants.{Bmc, Pch}
 use Rattle.pfr_flash.proofs.LayoutLemmas.{judged_valid, valid_judged}
-use Rattle.pfr_flash.specs.Judging.{known, ◌>>=◌}
+use Rattle.pfr_flash.specs.Judging.{known, told_as, ◌>>=◌}
 use Rattle.pfr_fuses.specs.Slots.{IsSet, IsBlank, IsProvisionedBy, IsUnset, HasBlank, slot_at, slots_from, is_set, is_blank}
-use Rattle.pfr_fuses.specs.Provisioning.{IsFirstBlank, IsProvisionable, IsBarred, blank_from, found_first, judge_slots, judge_places, judge_provision, layout_judged}
+use Rattle.pfr_fuses.specs.Provisioning.{IsFirstBlank, IsProvisionable, IsBarred, blank_from, found_first, judge_slots, judge_places, judge_provision}
 use Rattle.pfr_fuses.specs.declared.root_slot.RootSlot.{RootSlot}
 use Rattle.pfr_fuses.specs.declared.fuse_fail.FuseFail.{FuseFail}
 use Rattle.pfr_fuses.specs.declared.fuse_fail.FuseFail.TheVariants.{NotProvisioned, SlotsSpent, AlreadyProvisioned, LayoutBad, Flash}
@@ -144,7 +144,7 @@ slots_judged P nv some none = by_test (list_any is_set (slots_from nv 0 8)) (any
     by_test false h = none (record { gates = λ k below. h.gates k (omega arith) (omega arith) }) (found_blank nv 0 8)
 
 abbrev choose : Result (Unit {0}) LayoutRule → Result (Unit {0}) LayoutRule → Option ℕ → Result ℕ FuseFail
-choose bmc pch blank = layout_judged Bmc bmc >>= λ _. (layout_judged Pch pch >>= λ _. known SlotsSpent blank)
+choose bmc pch blank = told_as (LayoutBad Bmc) bmc >>= λ _. (told_as (LayoutBad Pch) pch >>= λ _. known SlotsSpent blank)
 
 -- what a judgement says
 abbrev pub JudgedSo : List ℕ → RootSlot → ℕ → ℕ → Result ℕ FuseFail → Type 0

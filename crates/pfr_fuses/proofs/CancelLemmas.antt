@@ -28,7 +28,7 @@ use Rattle.pfr_fuses.specs.Changes.{Cancels, CancelsAtMost, SameProvision, Stays
 use Rattle.pfr_fuses.specs.Growth.{NeverGoesBack, KeepsProvision, Adds}
 use Rattle.pfr_fuses.specs.declared.profile.Profile.TheVariants.{Two}
 use Rattle.pfr_fuses.proofs.AnswerLemmas.{done_now, on_either, on_ok_with}
-use Rattle.pfr_fuses.proofs.ClearingLemmas.{row_bit-two, row_bit-stays}
+use Rattle.pfr_fuses.proofs.ClearingLemmas.{Leaves, leaves, row_bit-two, row_bit-stays}
 use Rattle.pfr_fuses.proofs.ExactLemmas.{ChangedAt, fuses_of-but_row, row_kept, row-cleared}
 use Rattle.pfr_fuses.proofs.GrowthLemmas.{profile-outside, NeverGoesBack-programs, KeepsProvision-plan, Adds-within, slots-outside}
 use Rattle.pfr_fuses.proofs.StaysLemmas.{rows_apart, row_behind_floors, row_in_sector, floor_bits-outside, row_bits-outside, FloorStands-same, RowStands-same}
@@ -101,52 +101,30 @@ row_again fuses BmcCapsule row other s = refl
 row_again fuses type row other s = absurd s
 
 -- ---- one store and the next
-record Changed (type : ContentType) (old new : List ℕ) : Type 0 where
-  size : length old ≡ 32768
-  same_size : length new ≡ length old
-  two : profile_of old ≡ Two
-  signing : IsSigning type
-  outside : SameOutside (row_at Two type) 32 old new
-
-new_profile : (type : ContentType) (old new : List ℕ) → Changed type old new → profile_of new ≡ profile_of old
-new_profile type old new h = profile-outside (row_at Two type) 32 old new (inl (omega (arith, (row_in_sector type h.signing).0))) h.outside
-
-new_two : (type : ContentType) (old new : List ℕ) → Changed type old new → profile_of new ≡ Two
-new_two type old new h = new_profile type old new h ∙ h.two
-
-same_provision : (type : ContentType) (old new : List ℕ) → Changed type old new → SameProvision old new
-same_provision type old new h = record {
-  slots = slots-outside (row_at Two type) 32 old new (omega (arith, (row_in_sector type h.signing).0)) h.size h.same_size h.outside;
-  profile = new_profile type old new h;
-}
-
-changed_at : (type : ContentType) (old new : List ℕ) → Changed type old new → ChangedAt (row_at Two type) 32 old new
-changed_at type old new h = record { size = h.size; same_size = h.same_size; two = h.two; outside = h.outside; store = same_provision type old new h }
-
-stays_but : (type : ContentType) (old new : List ℕ) (fuses after : FusesState) → Changed type old new → SameElse fuses type after → StaysButRow type old fuses new after
-stays_but type old new fuses after h same = record {
+stays_but : (type : ContentType) (old new : List ℕ) (fuses after : FusesState) → IsSigning type → ChangedAt (row_at Two type) 32 old new → SameElse fuses type after → StaysButRow type old fuses new after
+stays_but type old new fuses after signed h same = record {
   floors = λ bank stands. FloorStands-same old new fuses after bank (same.floors bank)
-      (floor_bits-outside (row_at Two type) 32 old new bank h.size h.same_size (new_profile type old new h) (rw h.two (inl (row_behind_floors bank type h.signing))) h.outside) stands;
+      (floor_bits-outside (row_at Two type) 32 old new bank h.size h.same_size h.store.profile (rw h.two (inl (row_behind_floors bank type signed))) h.outside) stands;
   rows = λ other ne stands. RowStands-same old new fuses after other (same.rows other ne)
-      (row_bits-outside (row_at Two type) 32 old new other h.size h.same_size (new_profile type old new h) (λ signing. rw h.two (rows_apart type other h.signing signing ne)) h.outside) stands;
-  store = same_provision type old new h;
+      (row_bits-outside (row_at Two type) 32 old new other h.size h.same_size h.store.profile (λ signing. rw h.two (rows_apart type other signed signing ne)) h.outside) stands;
+  store = h.store;
   provision = same.provision;
   profile = same.profile;
 }
 
 -- ---- the row
-row_stands_cancelled : (type : ContentType) (id : ℕ) (old new : List ℕ) (fuses after : FusesState) → Changed type old new → MayClear (row_at Two type) 32 id old new
+row_stands_cancelled : (type : ContentType) (id : ℕ) (old new : List ℕ) (fuses after : FusesState) → IsSigning type → ChangedAt (row_at Two type) 32 old new → MayClear (row_at Two type) 32 id old new
     → IsCleared (bytes_at new (row_at Two type) 32) id → Cancels fuses type id after → RowStands old fuses type → RowStands new after type
-row_stands_cancelled type id old new fuses after h may cleared cancels stands = record { fuses_same = λ k below. by_fuse k below (cases_eq k id) }
+row_stands_cancelled type id old new fuses after signed h may cleared cancels stands = record { fuses_same = λ k below. by_fuse k below (cases_eq k id) }
   where
     by_fuse : (k : ℕ) → k < 256 → ((k ≡ id) ⊎ (k ≢ id)) → (IsCleared (row_of after type) k ↔ IsCancelBit new type k)
     by_fuse k below (inl same) =
         let kept : IsCleared (row_of after type) k = (cancels.fuses k below).1 (inr same) in
         let bit : IsBit new (row_at Two type) 32 k = record { within = below; cleared = rw same cleared } in
-        let stored : IsCancelBit new type k = record { signing = h.signing; bit = (row_bit-two new type k (new_two type old new h)).1 bit } in
+        let stored : IsCancelBit new type k = record { signing = signed; bit = (row_bit-two new type k (h.store.profile ∙ h.two)).1 bit } in
         (λ z. stored, λ b. kept)
     by_fuse k below (inr other) =
-        let bits = row_bit-stays old new type id k h.two (new_two type old new h) may other in
+        let bits = row_bit-stays old new type id k h.two (h.store.profile ∙ h.two) may other in
         (λ z. bits.1 ((stands.fuses_same k below).0 (forget k other ((cancels.fuses k below).0 z))), λ b. (cancels.fuses k below).1 (inl ((stands.fuses_same k below).1 (bits.0 b))))
       where
         forget : (k : ℕ) → k ≢ id → (IsCleared (row_of fuses type) k ⊎ (k ≡ id)) → IsCleared (row_of fuses type) k
@@ -154,13 +132,13 @@ row_stands_cancelled type id old new fuses after h may cleared cancels stands = 
         forget k ne (inr e) = absurd (ne e)
 
 -- in the store too no other key is cancelled
-cancels_at_most : (type : ContentType) (id : ℕ) (old new : List ℕ) → Changed type old new → MayClear (row_at Two type) 32 id old new → id < 256 → CancelsAtMost old type id new
+cancels_at_most : (type : ContentType) (id : ℕ) (old new : List ℕ) → ChangedAt (row_at Two type) 32 old new → MayClear (row_at Two type) 32 id old new → id < 256 → CancelsAtMost old type id new
 cancels_at_most type id old new h may most = record {
-  others = λ k other. row_bit-stays old new type id k h.two (new_two type old new h) may other;
+  others = λ k other. row_bit-stays old new type id k h.two (h.store.profile ∙ h.two) may other;
   keeps = λ b.
       let was : IsBit old (row_at Two type) 32 id = (row_bit-two old type id h.two).0 b.bit in
       let is : IsBit new (row_at Two type) 32 id = record { within = was.within; cleared = may.keeps was.cleared } in
-      record { signing = b.signing; bit = (row_bit-two new type id (new_two type old new h)).1 is };
+      record { signing = b.signing; bit = (row_bit-two new type id (h.store.profile ∙ h.two)).1 is };
 }
 
 -- the store says what is kept, but for the row
@@ -173,14 +151,12 @@ module _ (type : ContentType) (id : ℕ) (old new : FlashState) (fuses after : F
   within : AllWithin (row_at Two type) 32 (cancellation type id)
   within = clearing-within (row_at Two type) 32 id (omega arith)
 
-  changed : Changed type (now old) (now new)
-  changed = record {
-    size = length-now old ∙ size;
-    same_size = length-now new ∙ ap length follows.worked.moved.start ∙ sym (length-now old);
-    two = two;
-    signing = signing;
-    outside = Follows-outside (row_at Two type) 32 (cancellation type id) old new result within follows;
-  }
+  pub cancel-leaves : Leaves (row_at Two type) 32 old new
+  cancel-leaves = leaves (row_at Two type) 32 (cancellation type id) old new result size (omega (arith, (row_in_sector type signing).0)) within
+      (clearing-programs 32768 (row_at Two type) 32 id (omega arith) (omega (arith, (row_in_sector type signing).1))) follows
+
+  pub cancel-changed : ChangedAt (row_at Two type) 32 (now old) (now new)
+  cancel-changed = cancel-leaves.changed two
 
   fits : row_at Two type + 32 ≤ length (now old)
   fits = omega (arith, length-now old, (row_in_sector type signing).1)
@@ -190,33 +166,16 @@ module _ (type : ContentType) (id : ℕ) (old new : FlashState) (fuses after : F
       (sym (DoesPart-now (cancellation type id) old new follows.worked.moved.start follows.part))
       (clearing-part (now old) (row_at Two type) 32 id follows.part.added (omega arith) fits follows.part.part)
 
-  pub cancel-outside : SameOutside (row_at Two type) 32 (now old) (now new)
-  cancel-outside = changed.outside
-
-  pub cancel-adds : Adds (λ op. IsWithin (row_at Two type) 32 op) old new
-  cancel-adds = Adds-within (row_at Two type) 32 (cancellation type id) old new within follows.part
-
-  pub cancel-grows : NeverGoesBack old new
-  cancel-grows = NeverGoesBack-programs (row_at Two type) 32 (cancellation type id) old new size follows.worked.moved.start follows.part
-      (clearing-programs 32768 (row_at Two type) 32 id (omega arith) (omega (arith, (row_in_sector type signing).1))) within (inl (omega (arith, (row_in_sector type signing).0)))
-
-  pub cancel-provision : KeepsProvision old new
-  cancel-provision = KeepsProvision-plan (row_at Two type) 32 (cancellation type id) old new size follows.worked.moved.start follows.part (omega (arith, (row_in_sector type signing).0)) within
-
-  pub cancel-loses : OnlyLoses 0 32768 old new
-  cancel-loses = OnlyLoses-plan 32768 0 32768 (omega arith) (cancellation type id) old new size follows.worked.moved.start follows.part
-      (AllLose-programs 32768 0 32768 (cancellation type id) (clearing-programs 32768 (row_at Two type) 32 id (omega arith) (omega (arith, (row_in_sector type signing).1))))
-
   pub cancel-count : AddsAtMost 1 old new
   cancel-count = AddsAtMost-plan 1 (cancellation type id) old new follows.part (omega arith)
 
   pub cancel-store : CancelsAtMost (now old) type id (now new)
-  cancel-store = cancels_at_most type id (now old) (now new) changed may most
+  cancel-store = cancels_at_most type id (now old) (now new) cancel-changed may most
 
   pub cancel-stays : OnOk result (after ≡ with_cancelled fuses type id) → OnErr result (after ≡ fuses) → StaysButRow type (now old) fuses (now new) after
   cancel-stays ok err = on_either result ok err
-      (λ is. stays_but type (now old) (now new) fuses after changed (subst (λ (kept : FusesState). SameElse fuses type kept) (sym is) (same_with_row fuses type (with_cleared (row_of fuses type) id) signing)))
-      (λ is. stays_but type (now old) (now new) fuses after changed (subst (λ (kept : FusesState). SameElse fuses type kept) (sym is) (same_fuses fuses type)))
+      (λ is. stays_but type (now old) (now new) fuses after signing cancel-changed (subst (λ (kept : FusesState). SameElse fuses type kept) (sym is) (same_with_row fuses type (with_cleared (row_of fuses type) id) signing)))
+      (λ is. stays_but type (now old) (now new) fuses after signing cancel-changed (subst (λ (kept : FusesState). SameElse fuses type kept) (sym is) (same_fuses fuses type)))
 
   done : OnOk result (now new ≡ play (now old) (cancellation type id))
   done = done_now (cancellation type id) old new result follows
@@ -225,16 +184,16 @@ module _ (type : ContentType) (id : ℕ) (old new : FlashState) (fuses after : F
   cleared is = subst (λ (image : List ℕ). IsCleared (bytes_at image (row_at Two type) 32) id) (sym is) (IsCleared-program (now old) (row_at Two type) 32 id (omega arith) fits)
 
   pub cancel-ok : RowStands (now old) fuses type → OnOk result (Cancels fuses type id after) → OnOk result (RowStands (now new) after type)
-  cancel-ok stands cancels = on_ok_with result done cancels (λ is c. row_stands_cancelled type id (now old) (now new) fuses after changed may (cleared is) c stands)
+  cancel-ok stands cancels = on_ok_with result done cancels (λ is c. row_stands_cancelled type id (now old) (now new) fuses after signing cancel-changed may (cleared is) c stands)
 
   pub cancel-done : OnOk result (IsCancelled (now new) type id)
   cancel-done = on_ok_weaker result (λ is.
       let bit : IsBit (now new) (row_at Two type) 32 id = record { within = omega arith; cleared = cleared is } in
-      record { signing = signing; bit = (row_bit-two (now new) type id (new_two type (now old) (now new) changed)).1 bit }) done
+      record { signing = signing; bit = (row_bit-two (now new) type id (cancel-changed.store.profile ∙ two)).1 bit }) done
 
   -- ---- what the store says
   says_kept : fuses_of (now old) ≡ Ok fuses → SaysBut type (now new) fuses
-  says_kept was = fuses_of-but_row type (now old) (now new) fuses signing (changed_at type (now old) (now new) changed) was
+  says_kept was = fuses_of-but_row type (now old) (now new) fuses signing cancel-changed was
 
   pub cancel-rest : OnOk result (after ≡ with_cancelled fuses type id) → OnErr result (after ≡ fuses) → fuses_of (now old) ≡ Ok fuses → fuses_of (now new) ≡ Ok (with_row after type (row_fuses (now new) type))
   cancel-rest ok err was = on_either result ok err
@@ -245,6 +204,6 @@ module _ (type : ContentType) (id : ℕ) (old new : FlashState) (fuses after : F
   pub cancel-exact : OnOk result (after ≡ with_cancelled fuses type id) → OnOk result (fuses_of (now old) ≡ Ok fuses → fuses_of (now new) ≡ Ok after)
   cancel-exact ok = on_ok_with result done ok (λ is kept was.
       let row : row_fuses (now new) type ≡ with_cleared (row_of fuses type) id =
-      row-cleared type (now old) (now new) id (changed_at type (now old) (now new) changed) most is (omega (arith, (row_in_sector type signing).1))
+      row-cleared type (now old) (now new) id cancel-changed most is (omega (arith, (row_in_sector type signing).1))
       ∙ ap (λ (r : List ℕ). with_cleared r id) (sym (row_kept (now old) fuses type signing was)) in
       says_kept was ∙ ap (λ (a : FusesState). Ok a) (ap (λ (r : List ℕ). with_row fuses type r) row ∙ sym kept))

@@ -1,13 +1,27 @@
--- The fuses of a store of profile 2, where one may be cleared.
-use Rattle.std.proofs.Common.{◌≡◌, ℕ, List, sym, subst}
+-- A store of profile 2, where one fuse of a row may be cleared.
+use Rattle.std.proofs.Common.{◌≡◌, ℕ, ◌≤◌, List, length, Result, sym, ap, ◌∙◌, subst, arith, inl}
 use Rattle.std.specs.Prelude.{◌↔◌, ◌≢◌}
-use Rattle.pfr_flash.proofs.FuseLemmas.{MayClear}
+use Rattle.pfr_flash.specs.FlashState.{FlashState, now, size_of}
+use Rattle.pfr_flash.specs.Losing.{OnlyLoses}
+use Rattle.pfr_flash.specs.Operation.{Operation}
+use Rattle.pfr_flash.specs.Plan.{Follows}
+use Rattle.pfr_flash.specs.Range.{AllWithin, IsWithin}
+use Rattle.pfr_flash.specs.declared.flash.FlashFail.{FlashFail}
 use Rattle.pfr_flash.specs.declared.names.Bank.{Bank}
 use Rattle.pfr_flash.specs.declared.names.ContentType.{ContentType}
+use Rattle.pfr_flash.proofs.CutLemmas.{AllPrograms}
+use Rattle.pfr_flash.proofs.FollowsLemmas.{Follows-outside}
+use Rattle.pfr_flash.proofs.FuseLemmas.{MayClear}
+use Rattle.pfr_flash.proofs.LosingLemmas.{AllLose-programs, OnlyLoses-plan}
+use Rattle.pfr_flash.proofs.RangeLemmas.{length-now}
 use Rattle.pfr_fuses.specs.FuseMap.{IsBit, IsFloorBit, IsCancelBit, profile_of, floor_at, floor_width, row_at, row_width}
+use Rattle.pfr_fuses.specs.Growth.{NeverGoesBack, KeepsProvision, Adds}
 use Rattle.pfr_fuses.specs.declared.profile.Profile.{Profile}
 use Rattle.pfr_fuses.specs.declared.profile.Profile.TheVariants.{Two}
+use Rattle.pfr_fuses.proofs.ExactLemmas.{ChangedAt}
+use Rattle.pfr_fuses.proofs.GrowthLemmas.{profile-outside, NeverGoesBack-programs, KeepsProvision-plan, Adds-within, slots-outside}
 
+-- ---- the bits
 pub floor_bit-two : (nv : List ℕ) (bank : Bank) (k : ℕ) → profile_of nv ≡ Two → (IsFloorBit nv bank k ↔ IsBit nv (floor_at Two bank) 16 k)
 floor_bit-two nv bank k two = subst (λ (p : Profile). (IsBit nv (floor_at p bank) (floor_width p) k ↔ IsBit nv (floor_at Two bank) 16 k)) (sym two) (λ b. b, λ b. b)
 
@@ -35,3 +49,35 @@ row_bit-stays old new type bit k o n h other =
     let b = row_bit-two new type k n in
     let m = may_bit old new (row_at Two type) 32 bit k h other in
     (λ (x : IsCancelBit new type k). record { signing = x.signing; bit = a.1 (m.0 (b.0 x.bit)) }, λ (x : IsCancelBit old type k). record { signing = x.signing; bit = b.1 (m.1 (a.0 x.bit)) })
+
+-- ---- a call that programs in the row alone
+pub record Leaves (at width : ℕ) (old new : FlashState) : Type 0 where
+  pub adds : Adds (λ op. IsWithin at width op) old new
+  pub grows : NeverGoesBack old new
+  pub provision : KeepsProvision old new
+  pub loses : OnlyLoses 0 32768 old new
+  pub changed : profile_of (now old) ≡ Two → ChangedAt at width (now old) (now new)
+
+pub leaves : (at width : ℕ) (plan : List Operation) (old new : FlashState) (result : Result (Unit {0}) FlashFail) → size_of old ≡ 32768 → 0x7000 ≤ at → AllWithin at width plan → AllPrograms 32768 plan → Follows plan old new result
+    → Leaves at width old new
+leaves at width plan old new result size low within programs h =
+    let start : new.start ≡ old.start = h.worked.moved.start in
+    let old_size : length (now old) ≡ 32768 = length-now old ∙ size in
+    let same_size : length (now new) ≡ length (now old) = length-now new ∙ ap length start ∙ sym (length-now old) in
+    let outside = Follows-outside at width plan old new result within h in
+    record {
+      adds = Adds-within at width plan old new within h.part;
+      grows = NeverGoesBack-programs at width plan old new size start h.part programs within (inl (omega arith));
+      provision = KeepsProvision-plan at width plan old new size start h.part (omega arith) within;
+      loses = OnlyLoses-plan 32768 0 32768 (omega arith) plan old new size start h.part (AllLose-programs 32768 0 32768 plan programs);
+      changed = λ two. record {
+        size = old_size;
+        same_size = same_size;
+        two = two;
+        outside = outside;
+        store = record {
+          slots = slots-outside at width (now old) (now new) (omega arith) old_size same_size outside;
+          profile = profile-outside at width (now old) (now new) (inl (omega arith)) outside;
+        };
+      };
+    }

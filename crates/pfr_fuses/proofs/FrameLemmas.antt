@@ -1,6 +1,5 @@
 -- The fuses stay where only bytes between sector 0 and sector 7 change.
 use Rattle.std.proofs.Common.{◌≡◌, ℕ, zero, suc, ◌+◌, ◌*◌, ◌≤◌, List, length, refl, ap, ◌∙◌, arith, ◌⊎◌, inl, inr, ◌∷◌}
-use Rattle.pfr_flash.specs.Bytes.{bytes_at, continued}
 use Rattle.pfr_flash.specs.Range.{SameOutside}
 use Rattle.pfr_flash.specs.declared.names.Bank.{Bank}
 use Rattle.pfr_flash.specs.declared.names.Bank.TheVariants.{Bmc, Pch}
@@ -10,7 +9,8 @@ use Rattle.pfr_flash.proofs.RangeLemmas.{bytes_at-outside}
 use Rattle.pfr_fuses.specs.Slots.{slot_at, slots_from, choose_slot, provisioned_slot}
 use Rattle.pfr_fuses.specs.FuseMap.{profile_of, floor_at, floor_width, row_at, row_width}
 use Rattle.pfr_fuses.specs.FusesOf.{fuses_of, floor_fuses, row_fuses}
-use Rattle.pfr_fuses.proofs.StandsLemmas.{floor_fits, row_fits}
+use Rattle.pfr_fuses.proofs.GrowthLemmas.{profile-outside}
+use Rattle.pfr_fuses.proofs.StaysLemmas.{floor_fuses-outside, row_fuses-outside}
 use Rattle.pfr_fuses.specs.declared.profile.Profile.{Profile}
 use Rattle.pfr_fuses.specs.declared.profile.Profile.TheVariants.{One, Two}
 
@@ -27,13 +27,12 @@ slots_same old new number (suc count) h fits =
     let rest : slots_from new (number + 1) count ≡ slots_from old (number + 1) count = slots_same old new (number + 1) count h (omega arith) in
     ap (λ (slot : List ℕ). slot ∷ slots_from new (number + 1) count) head ∙ ap (λ (slots : List (List ℕ)). slot_at old number ∷ slots) rest
 
-pub provisioned_slot-same : (old new : List ℕ) → SameFuses old new → provisioned_slot new ≡ provisioned_slot old
+provisioned_slot-same : (old new : List ℕ) → SameFuses old new → provisioned_slot new ≡ provisioned_slot old
 unfolding provisioned_slot
 provisioned_slot-same old new h = ap choose_slot (slots_same old new 0 8 h (omega arith))
 
-pub profile_of-same : (old new : List ℕ) → SameFuses old new → profile_of new ≡ profile_of old
-unfolding profile_of
-profile_of-same old new h = rw (h.outside.stays 0xA00 (inl (omega arith))) refl
+profile_of-same : (old new : List ℕ) → SameFuses old new → profile_of new ≡ profile_of old
+profile_of-same old new h = profile-outside 4096 24576 old new (inl (omega arith)) h.outside
 
 floor_apart : (profile : Profile) (bank : Bank) → (floor_at profile bank + floor_width profile ≤ 4096) ⊎ (4096 + 24576 ≤ floor_at profile bank)
 floor_apart One Bmc = inl (omega arith)
@@ -53,17 +52,11 @@ row_apart Two BmcCapsule = inr (omega arith)
 row_apart One type = inl (omega arith)
 row_apart Two type = inl (omega arith)
 
-pub floor_fuses-same : (old new : List ℕ) (bank : Bank) → SameFuses old new → floor_fuses new bank ≡ floor_fuses old bank
-unfolding floor_fuses
-floor_fuses-same old new bank h =
-    ap (λ (p : Profile). continued (bytes_at new (floor_at p bank) (floor_width p)) 16) (profile_of-same old new h)
-    ∙ ap (λ (row : List ℕ). continued row 16) (bytes_at-outside 4096 24576 old new (floor_at (profile_of old) bank) (floor_width (profile_of old)) h.outside h.size (floor_apart (profile_of old) bank) (omega (arith, h.whole, floor_fits (profile_of old) bank)))
+floor_fuses-same : (old new : List ℕ) (bank : Bank) → SameFuses old new → floor_fuses new bank ≡ floor_fuses old bank
+floor_fuses-same old new bank h = floor_fuses-outside 4096 24576 old new bank h.whole h.size (profile_of-same old new h) (floor_apart (profile_of old) bank) h.outside
 
-pub row_fuses-same : (old new : List ℕ) (type : ContentType) → SameFuses old new → row_fuses new type ≡ row_fuses old type
-unfolding row_fuses
-row_fuses-same old new type h =
-    ap (λ (p : Profile). continued (bytes_at new (row_at p type) (row_width p)) 32) (profile_of-same old new h)
-    ∙ ap (λ (row : List ℕ). continued row 32) (bytes_at-outside 4096 24576 old new (row_at (profile_of old) type) (row_width (profile_of old)) h.outside h.size (row_apart (profile_of old) type) (omega (arith, h.whole, row_fits (profile_of old) type)))
+row_fuses-same : (old new : List ℕ) (type : ContentType) → SameFuses old new → row_fuses new type ≡ row_fuses old type
+row_fuses-same old new type h = row_fuses-outside 4096 24576 old new type h.whole h.size (profile_of-same old new h) (row_apart (profile_of old) type) h.outside
 
 -- what the store says stays
 pub fuses_of-same : (old new : List ℕ) → SameFuses old new → fuses_of new ≡ fuses_of old

@@ -6,6 +6,7 @@ pub mod FrameLemmas
 pub mod KeptLemmas
 pub mod GrowthLemmas
 pub mod StaysLemmas
+pub mod ExactLemmas
 pub mod ClearingLemmas
 pub mod RaiseLemmas
 pub mod CancelLemmas
@@ -14,4 +15,3 @@ pub mod MigrationLemmas
 pub mod RootSlotLemmas
 pub mod BlankLemmas
 pub mod ProvisionLemmas
-pub mod ExactLemmas

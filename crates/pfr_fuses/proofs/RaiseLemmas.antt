@@ -28,7 +28,7 @@ use Rattle.pfr_fuses.specs.Changes.{Raises, SameProvision, StaysButFloor, raise_
 use Rattle.pfr_fuses.specs.Growth.{NeverGoesBack, KeepsProvision, Adds}
 use Rattle.pfr_fuses.specs.declared.profile.Profile.TheVariants.{Two}
 use Rattle.pfr_fuses.proofs.AnswerLemmas.{done_now, on_either, on_err, on_ok_with}
-use Rattle.pfr_fuses.proofs.ClearingLemmas.{floor_bit-two, floor_bit-stays}
+use Rattle.pfr_fuses.proofs.ClearingLemmas.{Leaves, leaves, floor_bit-two, floor_bit-stays}
 use Rattle.pfr_fuses.proofs.ExactLemmas.{ChangedAt, fuses_of-but_floor, floor_kept, floor-cleared}
 use Rattle.pfr_fuses.proofs.FloorLemmas.{floor_in-above, floor_in-highest}
 use Rattle.pfr_fuses.proofs.GrowthLemmas.{profile-outside, NeverGoesBack-programs, KeepsProvision-plan, Adds-within, slots-outside}
@@ -119,50 +119,29 @@ raised_again fuses bank to other =
     raised_cases (λ after. with_floor after bank other ≡ with_floor fuses bank other) fuses bank to (λ le. refl) (λ lt. floor_again fuses bank (with_cleared (floor_row fuses bank) (to - 1)) other)
 
 -- ---- one store and the next
-record Changed (bank : Bank) (old new : List ℕ) : Type 0 where
-  size : length old ≡ 32768
-  same_size : length new ≡ length old
-  two : profile_of old ≡ Two
-  outside : SameOutside (floor_at Two bank) 16 old new
-
-new_profile : (bank : Bank) (old new : List ℕ) → Changed bank old new → profile_of new ≡ profile_of old
-new_profile bank old new h = profile-outside (floor_at Two bank) 16 old new (inl (omega (arith, (floor_in_sector bank).0))) h.outside
-
-new_two : (bank : Bank) (old new : List ℕ) → Changed bank old new → profile_of new ≡ Two
-new_two bank old new h = new_profile bank old new h ∙ h.two
-
-same_provision : (bank : Bank) (old new : List ℕ) → Changed bank old new → SameProvision old new
-same_provision bank old new h = record {
-  slots = slots-outside (floor_at Two bank) 16 old new (omega (arith, (floor_in_sector bank).0)) h.size h.same_size h.outside;
-  profile = new_profile bank old new h;
-}
-
-changed_at : (bank : Bank) (old new : List ℕ) → Changed bank old new → ChangedAt (floor_at Two bank) 16 old new
-changed_at bank old new h = record { size = h.size; same_size = h.same_size; two = h.two; outside = h.outside; store = same_provision bank old new h }
-
-stays_but : (bank : Bank) (old new : List ℕ) (fuses after : FusesState) → Changed bank old new → SameElse fuses bank after → StaysButFloor bank old fuses new after
+stays_but : (bank : Bank) (old new : List ℕ) (fuses after : FusesState) → ChangedAt (floor_at Two bank) 16 old new → SameElse fuses bank after → StaysButFloor bank old fuses new after
 stays_but bank old new fuses after h same = record {
   floors = λ other ne stands. FloorStands-same old new fuses after other (same.floors other ne)
-      (floor_bits-outside (floor_at Two bank) 16 old new other h.size h.same_size (new_profile bank old new h) (rw h.two (floors_apart bank other ne)) h.outside) stands;
+      (floor_bits-outside (floor_at Two bank) 16 old new other h.size h.same_size h.store.profile (rw h.two (floors_apart bank other ne)) h.outside) stands;
   rows = λ type stands. RowStands-same old new fuses after type (same.rows type)
-      (row_bits-outside (floor_at Two bank) 16 old new type h.size h.same_size (new_profile bank old new h) (λ signing. rw h.two (inr (row_behind_floors bank type signing))) h.outside) stands;
-  store = same_provision bank old new h;
+      (row_bits-outside (floor_at Two bank) 16 old new type h.size h.same_size h.store.profile (λ signing. rw h.two (inr (row_behind_floors bank type signing))) h.outside) stands;
+  store = h.store;
   provision = same.provision;
   profile = same.profile;
 }
 
 -- ---- the floor
-floor_stands_raised : (bank : Bank) (to : ℕ) (old new : List ℕ) (fuses after : FusesState) → Changed bank old new → MayClear (floor_at Two bank) 16 (to - 1) old new
+floor_stands_raised : (bank : Bank) (to : ℕ) (old new : List ℕ) (fuses after : FusesState) → ChangedAt (floor_at Two bank) 16 old new → MayClear (floor_at Two bank) 16 (to - 1) old new
     → IsCleared (bytes_at new (floor_at Two bank) 16) (to - 1) → to ≤ 127 → floor_of fuses bank < to → Raises fuses bank to after → FloorStands old fuses bank → FloorStands new after bank
 floor_stands_raised bank to old new fuses after h may cleared most above raises stands = record { fuses_same = λ k below. by_fuse k below (cases_eq k (to - 1)) }
   where
     by_fuse : (k : ℕ) → k < 128 → ((k ≡ to - 1) ⊎ (k ≢ to - 1)) → (IsCleared (floor_row after bank) k ↔ IsFloorBit new bank k)
     by_fuse k below (inl same) =
         let kept : IsCleared (floor_row after bank) k = (raises.fuses above k below).1 (inr (omega arith)) in
-        let stored : IsFloorBit new bank k = (floor_bit-two new bank k (new_two bank old new h)).1 (record { within = below; cleared = rw same cleared }) in
+        let stored : IsFloorBit new bank k = (floor_bit-two new bank k (h.store.profile ∙ h.two)).1 (record { within = below; cleared = rw same cleared }) in
         (λ z. stored, λ b. kept)
     by_fuse k below (inr other) =
-        let bits = floor_bit-stays old new bank (to - 1) k h.two (new_two bank old new h) may other in
+        let bits = floor_bit-stays old new bank (to - 1) k h.two (h.store.profile ∙ h.two) may other in
         let not_it : k + 1 ≢ to = λ (e : k + 1 ≡ to). other (omega arith) in
         (λ z. bits.1 ((stands.fuses_same k below).0 (forget k not_it ((raises.fuses above k below).0 z))), λ b. (raises.fuses above k below).1 (inl ((stands.fuses_same k below).1 (bits.0 b))))
       where
@@ -170,7 +149,7 @@ floor_stands_raised bank to old new fuses after h may cleared most above raises 
         forget k ne (inl z) = z
         forget k ne (inr e) = absurd (ne e)
 
-floor_left : (bank : Bank) (to : ℕ) (old new : List ℕ) (floor : ℕ) → Changed bank old new → MayClear (floor_at Two bank) 16 (to - 1) old new → to ≤ 127 → floor < to
+floor_left : (bank : Bank) (to : ℕ) (old new : List ℕ) (floor : ℕ) → ChangedAt (floor_at Two bank) 16 old new → MayClear (floor_at Two bank) 16 (to - 1) old new → to ≤ 127 → floor < to
     → IsFloor old bank floor → IsFloor new bank floor ⊎ IsFloor new bank to
 floor_left bank to old new floor h may most above was = by_fuse (cases_eq (fuse_at (bytes_at new (floor_at Two bank) 16) (to - 1)) 0)
   where
@@ -178,10 +157,10 @@ floor_left bank to old new floor h may most above was = by_fuse (cases_eq (fuse_
     two_old k = floor_bit-two old bank k h.two
 
     two_new : (k : ℕ) → (IsFloorBit new bank k ↔ IsBit new (floor_at Two bank) 16 k)
-    two_new k = floor_bit-two new bank k (new_two bank old new h)
+    two_new k = floor_bit-two new bank k (h.store.profile ∙ h.two)
 
     others : (k : ℕ) → k ≢ to - 1 → (IsFloorBit new bank k ↔ IsFloorBit old bank k)
-    others k ne = floor_bit-stays old new bank (to - 1) k h.two (new_two bank old new h) may ne
+    others k ne = floor_bit-stays old new bank (to - 1) k h.two (h.store.profile ∙ h.two) may ne
 
     below_to : (k : ℕ) → IsFloorBit new bank k → ((k ≡ to - 1) ⊎ (k ≢ to - 1)) → k < to
     below_to k b (inl same) = omega arith
@@ -225,46 +204,27 @@ SaysBut bank nv kept = fuses_of nv ≡ Ok (with_floor kept bank (floor_fuses nv 
 -- ---- the call
 module _ (bank : Bank) (to : ℕ) (old new : FlashState) (fuses after : FusesState) (result : Result (Unit {0}) FlashFail) (size : size_of old ≡ 32768) (two : profile_of (now old) ≡ Two) (most : to ≤ 127)
     (follows : Follows (raise_plan (floor_of fuses bank) bank to) old new result) where
-  changed : Changed bank (now old) (now new)
-  changed = record {
-    size = length-now old ∙ size;
-    same_size = length-now new ∙ ap length follows.worked.moved.start ∙ sym (length-now old);
-    two = two;
-    outside = Follows-outside (floor_at Two bank) 16 (raise_plan (floor_of fuses bank) bank to) old new result (raise-within (floor_of fuses bank) bank to most) follows;
-  }
+  pub raise-leaves : Leaves (floor_at Two bank) 16 old new
+  raise-leaves = leaves (floor_at Two bank) 16 (raise_plan (floor_of fuses bank) bank to) old new result size (floor_in_sector bank).0
+      (raise-within (floor_of fuses bank) bank to most) (raise-programs (floor_of fuses bank) bank to most) follows
+
+  pub raise-changed : ChangedAt (floor_at Two bank) 16 (now old) (now new)
+  raise-changed = raise-leaves.changed two
 
   may : MayClear (floor_at Two bank) 16 (to - 1) (now old) (now new)
   may = subst (λ (image : List ℕ). MayClear (floor_at Two bank) 16 (to - 1) (now old) image)
       (sym (DoesPart-now (raise_plan (floor_of fuses bank) bank to) old new follows.worked.moved.start follows.part))
       (raise-part (now old) (floor_of fuses bank) bank to follows.part.added (length-now old ∙ size) most follows.part.part)
 
-  pub raise-outside : SameOutside (floor_at Two bank) 16 (now old) (now new)
-  raise-outside = changed.outside
-
-  pub raise-adds : Adds (λ op. IsWithin (floor_at Two bank) 16 op) old new
-  raise-adds = Adds-within (floor_at Two bank) 16 (raise_plan (floor_of fuses bank) bank to) old new (raise-within (floor_of fuses bank) bank to most) follows.part
-
-  pub raise-grows : NeverGoesBack old new
-  raise-grows = NeverGoesBack-programs (floor_at Two bank) 16 (raise_plan (floor_of fuses bank) bank to) old new size follows.worked.moved.start follows.part
-      (raise-programs (floor_of fuses bank) bank to most) (raise-within (floor_of fuses bank) bank to most) (inl (omega (arith, (floor_in_sector bank).0)))
-
-  pub raise-provision : KeepsProvision old new
-  raise-provision = KeepsProvision-plan (floor_at Two bank) 16 (raise_plan (floor_of fuses bank) bank to) old new size follows.worked.moved.start follows.part
-      (omega (arith, (floor_in_sector bank).0)) (raise-within (floor_of fuses bank) bank to most)
-
-  pub raise-loses : OnlyLoses 0 32768 old new
-  raise-loses = OnlyLoses-plan 32768 0 32768 (omega arith) (raise_plan (floor_of fuses bank) bank to) old new size follows.worked.moved.start follows.part
-      (AllLose-programs 32768 0 32768 (raise_plan (floor_of fuses bank) bank to) (raise-programs (floor_of fuses bank) bank to most))
-
   pub raise-count : AddsAtMost 1 old new
   raise-count = AddsAtMost-plan 1 (raise_plan (floor_of fuses bank) bank to) old new follows.part
       (raise_cases (λ plan. length plan ≤ 1) (floor_of fuses bank) bank to (λ le. omega arith) (λ lt. omega arith))
 
   stays_kept : after ≡ fuses → StaysButFloor bank (now old) fuses (now new) after
-  stays_kept e = stays_but bank (now old) (now new) fuses after changed (subst (λ (kept : FusesState). SameElse fuses bank kept) (sym e) (same_fuses fuses bank))
+  stays_kept e = stays_but bank (now old) (now new) fuses after raise-changed (subst (λ (kept : FusesState). SameElse fuses bank kept) (sym e) (same_fuses fuses bank))
 
   stays_raised : after ≡ raised fuses bank to → StaysButFloor bank (now old) fuses (now new) after
-  stays_raised e = stays_but bank (now old) (now new) fuses after changed (subst (λ (kept : FusesState). SameElse fuses bank kept) (sym e) (same_raised fuses bank to))
+  stays_raised e = stays_but bank (now old) (now new) fuses after raise-changed (subst (λ (kept : FusesState). SameElse fuses bank kept) (sym e) (same_raised fuses bank to))
 
   pub raise-stays : OnOk result (after ≡ raised fuses bank to) → OnErr result (after ≡ fuses) → StaysButFloor bank (now old) fuses (now new) after
   raise-stays ok err = on_either result ok err stays_raised stays_kept
@@ -281,7 +241,7 @@ module _ (bank : Bank) (to : ℕ) (old new : FlashState) (fuses after : FusesSta
   stands_done : FloorStands (now old) fuses bank → now new ≡ play (now old) (raise_plan (floor_of fuses bank) bank to) → after ≡ raised fuses bank to → Raises fuses bank to after
       → ((floor_of fuses bank < to) ⊎ (to ≤ floor_of fuses bank)) → FloorStands (now new) after bank
   stands_done stands is kept raises (inl above) =
-      floor_stands_raised bank to (now old) (now new) fuses after changed may
+      floor_stands_raised bank to (now old) (now new) fuses after raise-changed may
       (subst (λ (image : List ℕ). IsCleared (bytes_at image (floor_at Two bank) 16) (to - 1)) (sym is) (raise-whole (now old) (floor_of fuses bank) bank to (length-now old ∙ size) most above))
       most above raises stands
   stands_done stands is kept raises (inr low) =
@@ -299,7 +259,7 @@ module _ (bank : Bank) (to : ℕ) (old new : FlashState) (fuses after : FusesSta
   raise-floor ok raises = on_ok_with result ok raises (λ kept h. floor_done kept h (cases_lt (floor_of fuses bank) to))
 
   floor_after : IsFloor (now old) bank (floor_of fuses bank) → ((floor_of fuses bank < to) ⊎ (to ≤ floor_of fuses bank)) → IsFloor (now new) bank (floor_of fuses bank) ⊎ IsFloor (now new) bank to
-  floor_after was (inl above) = floor_left bank to (now old) (now new) (floor_of fuses bank) changed may most above was
+  floor_after was (inl above) = floor_left bank to (now old) (now new) (floor_of fuses bank) raise-changed may most above was
   floor_after was (inr low) =
       inl (subst (λ (image : List ℕ). IsFloor image bank (floor_of fuses bank)) (sym (DoesPart-now (raise_plan (floor_of fuses bank) bank to) old new follows.worked.moved.start follows.part))
       (part_end (λ (image : List ℕ). IsFloor image bank (floor_of fuses bank)) (now old) follows.part.added
@@ -310,7 +270,7 @@ module _ (bank : Bank) (to : ℕ) (old new : FlashState) (fuses after : FusesSta
 
   -- ---- what the store says
   says_kept : fuses_of (now old) ≡ Ok fuses → SaysBut bank (now new) fuses
-  says_kept was = fuses_of-but_floor bank (now old) (now new) fuses (changed_at bank (now old) (now new) changed) was
+  says_kept was = fuses_of-but_floor bank (now old) (now new) fuses raise-changed was
 
   pub raise-rest : OnOk result (after ≡ raised fuses bank to) → OnErr result (after ≡ fuses) → fuses_of (now old) ≡ Ok fuses → fuses_of (now new) ≡ Ok (with_floor after bank (floor_fuses (now new) bank))
   raise-rest ok err was = on_either result ok err
@@ -323,7 +283,7 @@ module _ (bank : Bank) (to : ℕ) (old new : FlashState) (fuses after : FusesSta
   raised_row above is was =
       let plan : raise_plan (floor_of fuses bank) bank to ≡ clearing (floor_at Two bank) (to - 1) =
       raise_cases (λ plan. plan ≡ clearing (floor_at Two bank) (to - 1)) (floor_of fuses bank) bank to (λ low. absurd (omega (arith, low, above))) (λ high. refl) in
-      floor-cleared bank (now old) (now new) (to - 1) (changed_at bank (now old) (now new) changed) (omega arith) (is ∙ ap (λ (ops : List Operation). play (now old) ops) plan) (omega (arith, (floor_in_sector bank).1))
+      floor-cleared bank (now old) (now new) (to - 1) raise-changed (omega arith) (is ∙ ap (λ (ops : List Operation). play (now old) ops) plan) (omega (arith, (floor_in_sector bank).1))
       ∙ ap (λ (row : List ℕ). with_cleared row (to - 1)) (sym (floor_kept (now old) fuses bank was))
 
   says_raised : now new ≡ play (now old) (raise_plan (floor_of fuses bank) bank to) → after ≡ raised fuses bank to → fuses_of (now old) ≡ Ok fuses
