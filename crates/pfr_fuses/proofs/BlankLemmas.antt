@@ -1,8 +1,6 @@
 -- The search for the first blank slot, and what is judged of a provision.
 use Rattle.std.proofs.Common.{◌≡◌, ℕ, zero, suc, ◌+◌, ◌-◌, ◌*◌, ◌≤◌, ◌<◌, Bool, true, false, if◌then◌else◌, List, ◌∷◌, Option, Some, None, Result, Ok, Err, refl, sym, ap, ◌∙◌, subst, arith, ◌⊎◌, inl, inr}
 use Rattle.std.specs.List.{list_any}
-use Rattle.std.proofs.lemmas.Bool.{cases_Bool, cases_lt}
-use Rattle.std.proofs.lemmas.Bool.Decides.{not_from_Decides}
 use Rattle.pfr_flash.specs.Bytes.{bytes_at}
 use Rattle.pfr_flash.specs.Layout.{judge_layout}
 use Rattle.pfr_flash.specs.declared.layout.LayoutRule.{LayoutRule}
@@ -14,7 +12,7 @@ use Rattle.pfr_fuses.specs.Provisioning.{IsFirstBlank, IsProvisionable, IsBarred
 use Rattle.pfr_fuses.specs.declared.root_slot.RootSlot.{RootSlot}
 use Rattle.pfr_fuses.specs.declared.fuse_fail.FuseFail.{FuseFail}
 use Rattle.pfr_fuses.specs.declared.fuse_fail.FuseFail.TheVariants.{NotProvisioned, SlotsSpent, AlreadyProvisioned, LayoutBad, Flash}
-use Rattle.pfr_fuses.proofs.SlotLemmas.{Decides-is_set, Decides-is_blank, provisioned_or_unset}
+use Rattle.pfr_fuses.proofs.SlotLemmas.{FoundBlank, number_from, any_set, none_set, found_blank, provisioned_or_unset}
 
 -- ---- a slot at a time
 -- what is judged of the slots that are left, when this slot was found or none
@@ -56,92 +54,20 @@ judge_goes_on store image slot number found next below same read unset is h =
     ∙ sym (after_unset found store number (8 - (number + 1)) gate)
     ∙ sym (ap (λ (count : ℕ). judge_after found store number count) (left number below)) ∙ h
 
--- ---- what the search means
-blank_step : (nv : List ℕ) (from : ℕ) (P : ℕ → Type 0) → P from → ((j : ℕ) → from + 1 ≤ j → P j) → (j : ℕ) → from ≤ j → P j
-blank_step nv from P here rest j low = by_place (cases_lt from j)
-  where
-    by_place : ((from < j) ⊎ (j ≤ from)) → P j
-    by_place (inl above) = rest j (omega arith)
-    by_place (inr same) = let e : from ≡ j = omega arith in subst P e here
-
--- the first blank slot from one on
-record IsFirst (nv : List ℕ) (from count k : ℕ) : Type 0 where
-  low : from ≤ k
-  high : k < from + count
-  blank : IsBlank (slot_at nv k)
-  first : (j : ℕ) → from ≤ j → j < k → ¬ IsBlank (slot_at nv j)
-
-record AreUsed (nv : List ℕ) (from count : ℕ) : Type 0 where
-  used : (j : ℕ) → from ≤ j → j < from + count → ¬ IsBlank (slot_at nv j)
-
-abbrev FoundBlank : List ℕ → ℕ → ℕ → Option ℕ → Type 0
-FoundBlank nv from count (Some k) = IsFirst nv from count k
-FoundBlank nv from count None = AreUsed nv from count
-
-found_more : (nv : List ℕ) (from count : ℕ) (rest : Option ℕ) → ¬ IsBlank (slot_at nv from) → FoundBlank nv (from + 1) count rest → FoundBlank nv from (suc count) rest
-found_more nv from count (Some k) used h = record {
-  low = omega (arith, h.low);
-  high = omega (arith, h.high);
-  blank = h.blank;
-  first = λ j low below. blank_step nv from (λ i. i < k → ¬ IsBlank (slot_at nv i)) (λ q. used) (λ i next q. h.first i next q) j low below;
-}
-found_more nv from count None used h = record { used = λ j low below. blank_step nv from (λ i. i < from + suc count → ¬ IsBlank (slot_at nv i)) (λ q. used) (λ i next q. h.used i next (omega (arith, q))) j low below }
-
-found_blank : (nv : List ℕ) (from count : ℕ) → FoundBlank nv from count (blank_from nv from count)
-found_blank nv from zero = record { used = λ j low below. absurd (omega arith) }
-found_blank nv from (suc count) = by_test (is_blank (slot_at nv from)) refl (found_blank nv (from + 1) count)
-  where
-    by_test : (b : Bool) → is_blank (slot_at nv from) ≡ b → FoundBlank nv (from + 1) count (blank_from nv (from + 1) count) → FoundBlank nv from (suc count) (if b then Some from else blank_from nv (from + 1) count)
-    by_test true e rest = record { low = omega arith; high = omega arith; blank = (Decides-is_blank (slot_at nv from)).0 e; first = λ j low below. absurd (omega arith) }
-    by_test false e rest = found_more nv from count (blank_from nv (from + 1) count) (not_from_Decides (is_blank (slot_at nv from)) (Decides-is_blank (slot_at nv from)) e) rest
-
--- some slot is set, or none
-abbrev SomeSet : List ℕ → ℕ → ℕ → Type 0
-SomeSet nv from count = (k : ℕ) × (from ≤ k) × (k < from + count) × IsSet (slot_at nv k)
-
-record NoneSet (nv : List ℕ) (from count : ℕ) : Type 0 where
-  gates : (k : ℕ) → from ≤ k → k < from + count → ¬ IsSet (slot_at nv k)
-
--- what the test says
-abbrev SaysSet : List ℕ → ℕ → ℕ → Bool → Type 0
-SaysSet nv from count true = SomeSet nv from count
-SaysSet nv from count false = NoneSet nv from count
-
-none_more : (nv : List ℕ) (from count : ℕ) → ¬ IsSet (slot_at nv from) → NoneSet nv (from + 1) count → NoneSet nv from (suc count)
-none_more nv from count here h = record { gates = λ k low below. blank_step nv from (λ i. i < from + suc count → ¬ IsSet (slot_at nv i)) (λ q. here) (λ i next q. h.gates i next (omega (arith, q))) k low below }
-
-says_more : (nv : List ℕ) (from count : ℕ) (b : Bool) → ¬ IsSet (slot_at nv from) → SaysSet nv (from + 1) count b → SaysSet nv from (suc count) b
-says_more nv from count true here found = (found.0, omega (arith, found.1), omega (arith, found.2), found.3)
-says_more nv from count false here none = none_more nv from count here none
-
-any_set : (nv : List ℕ) (from count : ℕ) → SaysSet nv from count (list_any is_set (slots_from nv from count))
-any_set nv from zero = record { gates = λ k low below. absurd (omega arith) }
-any_set nv from (suc count) = by_test (cases_Bool (is_set (slot_at nv from))) (any_set nv (from + 1) count)
-  where
-    by_test : ((is_set (slot_at nv from) ≡ true) ⊎ (is_set (slot_at nv from) ≡ false)) → SaysSet nv (from + 1) count (list_any is_set (slots_from nv (from + 1) count))
-        → SaysSet nv from (suc count) (list_any is_set (slot_at nv from ∷ slots_from nv (from + 1) count))
-    by_test (inl e) rest = rw e (from, omega arith, omega arith, (Decides-is_set (slot_at nv from)).0 e)
-    by_test (inr e) rest =
-        let here : ¬ IsSet (slot_at nv from) = not_from_Decides (is_set (slot_at nv from)) (Decides-is_set (slot_at nv from)) e in
-        rw e (says_more nv from count (list_any is_set (slots_from nv (from + 1) count)) here rest)
-
 -- ---- what is judged
-some_slot : (nv : List ℕ) → SomeSet nv 0 8 → (number : ℕ) × IsProvisionedBy nv number
-some_slot nv found = by_search (provisioned_or_unset nv)
-  where
-    by_search : (((k : ℕ) × IsProvisionedBy nv k) ⊎ IsUnset nv) → (number : ℕ) × IsProvisionedBy nv number
-    by_search (inl some) = some
-    by_search (inr unset) = absurd (unset.gates found.0 (omega (arith, found.2)) found.3)
+blank_number : (nv : List ℕ) (from count : ℕ) → blank_from nv from count ≡ number_from is_blank nv from count
+blank_number nv from zero = refl
+blank_number nv from (suc count) = ap (λ (rest : Option ℕ). if is_blank (slot_at nv from) then Some from else rest) (blank_number nv (from + 1) count)
 
 -- where some slot is set, or none is and the first blank one was found
-slots_judged : (P : Result (Option ℕ) FuseFail → Type 0) (nv : List ℕ) → ((number : ℕ) → IsProvisionedBy nv number → P (Err AlreadyProvisioned)) → (IsUnset nv → FoundBlank nv 0 8 (blank_from nv 0 8) → P (Ok (blank_from nv 0 8)))
+slots_judged : (P : Result (Option ℕ) FuseFail → Type 0) (nv : List ℕ) → ((number : ℕ) → IsProvisionedBy nv number → P (Err AlreadyProvisioned)) → (IsUnset nv → FoundBlank nv (blank_from nv 0 8) → P (Ok (blank_from nv 0 8)))
     → P (judge_slots nv)
 unfolding judge_slots
-slots_judged P nv some none = by_test (list_any is_set (slots_from nv 0 8)) (any_set nv 0 8)
+slots_judged P nv some none = by_search (provisioned_or_unset nv)
   where
-    by_test : (b : Bool) → SaysSet nv 0 8 b → P (if b then Err AlreadyProvisioned else Ok (blank_from nv 0 8))
-    by_test true found = let slot = some_slot nv found in some slot.0 slot.1
-    by_test false h = none (record { gates = λ k below. h.gates k (omega arith) (omega arith) }) (found_blank nv 0 8)
+    by_search : (((k : ℕ) × IsProvisionedBy nv k) ⊎ IsUnset nv) → P (if list_any is_set (slots_from nv 0 8) then Err AlreadyProvisioned else Ok (blank_from nv 0 8))
+    by_search (inl found) = rw (any_set nv found.0 found.1) (some found.0 found.1)
+    by_search (inr unset) = rw (none_set nv unset) (none unset (subst (FoundBlank nv) (sym (blank_number nv 0 8)) (found_blank nv)))
 
 abbrev choose : Result (Unit {0}) LayoutRule → Result (Unit {0}) LayoutRule → Option ℕ → Result ℕ FuseFail
 choose bmc pch blank = told_as (LayoutBad Bmc) bmc >>= λ _. (told_as (LayoutBad Pch) pch >>= λ _. known SlotsSpent blank)
@@ -152,16 +78,16 @@ JudgedSo nv what bmc_size pch_size (Ok number) = IsProvisionable nv what bmc_siz
 JudgedSo nv what bmc_size pch_size (Err cause) = IsBarred nv what bmc_size pch_size cause
 
 chosen : (nv : List ℕ) (what : RootSlot) (bmc_size pch_size : ℕ) → IsUnset nv → (bmc pch : Result (Unit {0}) LayoutRule) → judge_layout what.bmc bmc_size ≡ bmc → judge_layout what.pch pch_size ≡ pch
-    → (blank : Option ℕ) → FoundBlank nv 0 8 blank → JudgedSo nv what bmc_size pch_size (choose bmc pch blank)
+    → (blank : Option ℕ) → FoundBlank nv blank → JudgedSo nv what bmc_size pch_size (choose bmc pch blank)
 chosen nv what bmc_size pch_size unset (Err rule) pch b p blank found = (unset, b)
 chosen nv what bmc_size pch_size unset (Ok u) (Err rule) b p blank found = (unset, judged_valid what.bmc bmc_size b, p)
 chosen nv what bmc_size pch_size unset (Ok u) (Ok v) b p None found =
-    (unset, judged_valid what.bmc bmc_size b, judged_valid what.pch pch_size p, λ (some : HasBlank nv). found.used some.number (omega arith) (omega (arith, some.within)) some.blank)
+    (unset, judged_valid what.bmc bmc_size b, judged_valid what.pch pch_size p, found)
 chosen nv what bmc_size pch_size unset (Ok u) (Ok v) b p (Some number) found = record {
   unset = unset;
   bmc = judged_valid what.bmc bmc_size b;
   pch = judged_valid what.pch pch_size p;
-  slot = record { within = omega (arith, found.high); blank = found.blank; first = λ k below. found.first k (omega arith) below };
+  slot = found;
 }
 
 -- a provision is judged so: it may be done in that slot, or this bars it

@@ -1,13 +1,14 @@
 -- The search for the slot that provisions the platform.
-use Rattle.std.proofs.Common.{◌≡◌, ℕ, zero, suc, ◌+◌, ◌-◌, ◌*◌, ◌≤◌, ◌<◌, Bool, true, false, ◌||◌, if◌then◌else◌, List, ◌∷◌, Some, None, Result, Ok, Err, refl, sym, ap, ◌∙◌, subst, arith, ◌⊎◌, inl, inr, slice_index}
+use Rattle.std.proofs.Common.{◌≡◌, ℕ, zero, suc, ◌+◌, ◌-◌, ◌*◌, ◌≤◌, ◌<◌, Bool, true, false, ◌||◌, if◌then◌else◌, List, ◌∷◌, Option, Some, None, Result, Ok, Err, refl, sym, ap, ◌∙◌, subst, arith, ◌⊎◌, inl, inr, slice_index}
 use Rattle.std.specs.Prelude.{◌≢◌, ◌==◌}
 use Rattle.std.specs.Bool.{Decides}
 use Rattle.std.specs.List.{find, list_any}
-use Rattle.std.proofs.lemmas.Bool.{cases_Bool, cases_lt, false≢true}
+use Rattle.std.proofs.lemmas.Bool.{cases_eq, false≢true}
 use Rattle.std.proofs.lemmas.Bool.Decides.{Decides-eqb, Decides-not, Decides-by_and, not_from_Decides}
 use Rattle.pfr_flash.specs.Bytes.{bytes_at}
 use Rattle.pfr_flash.specs.Judging.{known}
 use Rattle.pfr_fuses.specs.Slots.{IsSet, IsBlank, IsProvisionedBy, IsUnset, HasBlank, slot_at, is_set, is_blank, slots_from, choose_slot, provisioned_slot}
+use Rattle.pfr_fuses.specs.Provisioning.{IsFirstBlank}
 use Rattle.pfr_fuses.specs.declared.fuse_fail.FuseFail.{FuseFail}
 use Rattle.pfr_fuses.specs.declared.fuse_fail.FuseFail.TheVariants.{NotProvisioned, SlotsSpent}
 
@@ -54,158 +55,160 @@ search_goes_on store image slot number seen blank below same read unset test h =
     ∙ sym (ap (choose_after seen) (slots_left store number below)) ∙ h
 
 -- ---- the law
--- of so many slots from one on, the first whose gate is set
-record IsFirst (nv : List ℕ) (from count k : ℕ) : Type 0 where
+-- of so many slots from one on, the number of the first that a test finds
+abbrev pub number_from : (List ℕ → Bool) → List ℕ → ℕ → ℕ → Option ℕ
+number_from test nv from zero = None
+number_from test nv from (suc count) = if test (slot_at nv from) then Some from else number_from test nv (from + 1) count
+
+record IsFound (test : List ℕ → Bool) (nv : List ℕ) (from count k : ℕ) : Type 0 where
   low : from ≤ k
   high : k < from + count
-  gate : IsSet (slot_at nv k)
-  first : (j : ℕ) → from ≤ j → j < k → ¬ IsSet (slot_at nv j)
+  here : test (slot_at nv k) ≡ true
+  before : (j : ℕ) → from ≤ j → j < k → test (slot_at nv j) ≡ false
 
--- none has its gate set
-record AreUnset (nv : List ℕ) (from count : ℕ) : Type 0 where
-  gates : (j : ℕ) → from ≤ j → j < from + count → ¬ IsSet (slot_at nv j)
+abbrev Finds : (List ℕ → Bool) → List ℕ → ℕ → ℕ → Option ℕ → Type 0
+Finds test nv from count (Some k) = IsFound test nv from count k
+Finds test nv from count None = (j : ℕ) → from ≤ j → j < from + count → test (slot_at nv j) ≡ false
 
-unset_at : (nv : List ℕ) (k : ℕ) → is_set (slot_at nv k) ≡ false → ¬ IsSet (slot_at nv k)
-unset_at nv k h = not_from_Decides (is_set (slot_at nv k)) (Decides-is_set (slot_at nv k)) h
-
-unset_test : (nv : List ℕ) (k : ℕ) → ¬ IsSet (slot_at nv k) → is_set (slot_at nv k) ≡ false
-unset_test nv k h = by_test (cases_Bool (is_set (slot_at nv k)))
+finds : (test : List ℕ → Bool) (nv : List ℕ) (from count : ℕ) → Finds test nv from count (number_from test nv from count)
+finds test nv from zero = λ j low below. absurd (omega arith)
+finds test nv from (suc count) = by_test (test (slot_at nv from)) refl (number_from test nv (from + 1) count) (finds test nv (from + 1) count)
   where
-    by_test : ((is_set (slot_at nv k) ≡ true) ⊎ (is_set (slot_at nv k) ≡ false)) → is_set (slot_at nv k) ≡ false
-    by_test (inl set) = absurd (h ((Decides-is_set (slot_at nv k)).0 set))
-    by_test (inr unset) = unset
+    next : (k : ℕ) → test (slot_at nv from) ≡ false → ((j : ℕ) → from + 1 ≤ j → j < k → test (slot_at nv j) ≡ false) → (j : ℕ) → from ≤ j → j < k → test (slot_at nv j) ≡ false
+    next k here rest j low below = by_place (cases_eq j from)
+      where
+        by_place : ((j ≡ from) ⊎ (j ≢ from)) → test (slot_at nv j) ≡ false
+        by_place (inl same) = rw same here
+        by_place (inr other) = rest j (omega (arith, other)) below
 
--- a slot from one on is that one, or one from the next on
-unset_from : (nv : List ℕ) (from j : ℕ) → from ≤ j → ¬ IsSet (slot_at nv from) → (from + 1 ≤ j → ¬ IsSet (slot_at nv j)) → ¬ IsSet (slot_at nv j)
-unset_from nv from j low head rest = by_place (cases_lt from j)
+    by_test : (b : Bool) → test (slot_at nv from) ≡ b → (r : Option ℕ) → Finds test nv (from + 1) count r → Finds test nv from (suc count) (if b then Some from else r)
+    by_test true here r h = record { low = omega arith; high = omega arith; here = here; before = λ j low below. absurd (omega arith) }
+    by_test false here (Some k) h = record { low = omega (arith, h.low); high = omega (arith, h.high); here = h.here; before = next k here h.before }
+    by_test false here None h = next (from + suc count) here (λ j low below. h j low (omega arith))
+
+-- which number it is, where one is the first or none is found
+number-first : (test : List ℕ → Bool) (nv : List ℕ) (k : ℕ) → k < 8 → test (slot_at nv k) ≡ true → ((j : ℕ) → j < k → test (slot_at nv j) ≡ false) → number_from test nv 0 8 ≡ Some k
+number-first test nv k below here before = by_found (number_from test nv 0 8) (finds test nv 0 8)
   where
-    by_place : ((from < j) ⊎ (j ≤ from)) → ¬ IsSet (slot_at nv j)
-    by_place (inl above) = rest (omega arith)
-    by_place (inr same) = let e : from ≡ j = omega arith in subst (λ (i : ℕ). ¬ IsSet (slot_at nv i)) e head
+    by_found : (r : Option ℕ) → Finds test nv 0 8 r → r ≡ Some k
+    by_found None h = absurd (false≢true (sym (h k (omega arith) (omega arith)) ∙ here))
+    by_found (Some j) h =
+        let not_below : ¬ (j < k) = λ (q : j < k). false≢true (sym (before j q) ∙ h.here) in
+        let not_above : ¬ (k < j) = λ (q : k < j). false≢true (sym (h.before k (omega arith) q) ∙ here) in
+        let same : j ≡ k = omega (arith, not_below, not_above) in
+        ap (λ (n : ℕ). Some n) same
 
-found_later : (nv : List ℕ) (from count k : ℕ) → ¬ IsSet (slot_at nv from) → IsFirst nv (from + 1) count k → IsFirst nv from (suc count) k
-found_later nv from count k head h = record {
-  low = omega (arith, h.low);
-  high = omega (arith, h.high);
-  gate = h.gate;
-  first = λ j low below. unset_from nv from j low head (λ next. h.first j next below);
-}
-
-unset_more : (nv : List ℕ) (from count : ℕ) → ¬ IsSet (slot_at nv from) → AreUnset nv (from + 1) count → AreUnset nv from (suc count)
-unset_more nv from count head h = record { gates = λ j low below. unset_from nv from j low head (λ next. h.gates j next (omega arith)) }
-
--- some slot is the first, or none has its gate set
-first_or_none : (nv : List ℕ) (from count : ℕ) → ((k : ℕ) × IsFirst nv from count k) ⊎ AreUnset nv from count
-first_or_none nv from zero = inr (record { gates = λ j low below. absurd (omega arith) })
-first_or_none nv from (suc count) = by_test (cases_Bool (is_set (slot_at nv from))) (first_or_none nv (from + 1) count)
+number-none : (test : List ℕ → Bool) (nv : List ℕ) → ((j : ℕ) → j < 8 → test (slot_at nv j) ≡ false) → number_from test nv 0 8 ≡ None
+number-none test nv none = by_found (number_from test nv 0 8) (finds test nv 0 8)
   where
-    by_test : ((is_set (slot_at nv from) ≡ true) ⊎ (is_set (slot_at nv from) ≡ false)) → (((k : ℕ) × IsFirst nv (from + 1) count k) ⊎ AreUnset nv (from + 1) count)
-        → ((k : ℕ) × IsFirst nv from (suc count) k) ⊎ AreUnset nv from (suc count)
-    by_test (inl set) rest = inl (from, record { low = omega arith; high = omega arith; gate = (Decides-is_set (slot_at nv from)).0 set; first = λ j low below. absurd (omega arith) })
-    by_test (inr unset) (inl found) = inl (found.0, found_later nv from count found.0 (unset_at nv from unset) found.1)
-    by_test (inr unset) (inr none) = inr (unset_more nv from count (unset_at nv from unset) none)
+    by_found : (r : Option ℕ) → Finds test nv 0 8 r → r ≡ None
+    by_found None h = refl
+    by_found (Some j) h = absurd (false≢true (sym (none j (omega (arith, h.high))) ∙ h.here))
 
-first_step : (nv : List ℕ) (from count k : ℕ) → IsFirst nv from (suc count) k → (IsFirst nv (from + 1) count k → find is_set (slots_from nv (from + 1) count) ≡ Some (slot_at nv k))
-    → ((is_set (slot_at nv from) ≡ true) ⊎ (is_set (slot_at nv from) ≡ false)) → find is_set (slot_at nv from ∷ slots_from nv (from + 1) count) ≡ Some (slot_at nv k)
-first_step nv from count k h rest (inl set) =
-    let not_above : ¬ (from < k) = λ (q : from < k). h.first from (omega arith) q ((Decides-is_set (slot_at nv from)).0 set) in
-    let same : from ≡ k = omega (arith, h.low, not_above) in
-    rw set (ap (λ (j : ℕ). Some (slot_at nv j)) same)
-first_step nv from count k h rest (inr unset) =
-    let other : from ≢ k = λ (same : from ≡ k). subst (λ (j : ℕ). ¬ IsSet (slot_at nv j)) same (unset_at nv from unset) h.gate in
-    let later : IsFirst nv (from + 1) count k = record { low = omega (arith, h.low, other); high = omega (arith, h.high); gate = h.gate; first = λ j low below. h.first j (omega arith) below } in
-    rw unset (rest later)
+-- what other searches find
+abbrev slot_numbered : List ℕ → Option ℕ → Option (List ℕ)
+slot_numbered nv (Some k) = Some (slot_at nv k)
+slot_numbered nv None = None
 
-find_first : (nv : List ℕ) (from count k : ℕ) → IsFirst nv from count k → find is_set (slots_from nv from count) ≡ Some (slot_at nv k)
-find_first nv from zero k h = absurd (omega (arith, h.low, h.high))
-find_first nv from (suc count) k h = first_step nv from count k h (λ later. find_first nv (from + 1) count k later) (cases_Bool (is_set (slot_at nv from)))
-
-find_none : (nv : List ℕ) (from count : ℕ) → AreUnset nv from count → find is_set (slots_from nv from count) ≡ None
-find_none nv from zero h = refl
-find_none nv from (suc count) h =
-    let head : is_set (slot_at nv from) ≡ false = unset_test nv from (h.gates from (omega arith) (omega arith)) in
-    let rest : AreUnset nv (from + 1) count = record { gates = λ j low below. h.gates j (omega arith) (omega arith) } in
-    rw head (find_none nv (from + 1) count rest)
-
-or_true : (b c : Bool) → c ≡ true → (b || c) ≡ true
-or_true true c h = refl
-or_true false c h = h
-
-any_blank : (nv : List ℕ) (from count k : ℕ) → from ≤ k → k < from + count → IsBlank (slot_at nv k) → list_any is_blank (slots_from nv from count) ≡ true
-any_blank nv from zero k low high h = absurd (omega arith)
-any_blank nv from (suc count) k low high h = blank_step (cases_lt from k) (λ above. any_blank nv (from + 1) count k (omega arith) (omega arith) h)
+find_number : (test : List ℕ → Bool) (nv : List ℕ) (from count : ℕ) → find test (slots_from nv from count) ≡ slot_numbered nv (number_from test nv from count)
+find_number test nv from zero = refl
+find_number test nv from (suc count) = by_test (test (slot_at nv from)) (find_number test nv (from + 1) count)
   where
-    blank_step : ((from < k) ⊎ (k ≤ from)) → (from < k → list_any is_blank (slots_from nv (from + 1) count) ≡ true) → (is_blank (slot_at nv from) || list_any is_blank (slots_from nv (from + 1) count)) ≡ true
-    blank_step (inl above) rest = or_true (is_blank (slot_at nv from)) (list_any is_blank (slots_from nv (from + 1) count)) (rest above)
-    blank_step (inr same) rest =
-        let e : k ≡ from = omega arith in
-        let head : is_blank (slot_at nv from) ≡ true = subst (λ (j : ℕ). is_blank (slot_at nv j) ≡ true) e ((Decides-is_blank (slot_at nv k)).1 h) in
-        rw head refl
+    by_test : (b : Bool) → find test (slots_from nv (from + 1) count) ≡ slot_numbered nv (number_from test nv (from + 1) count)
+        → (if b then Some (slot_at nv from) else find test (slots_from nv (from + 1) count)) ≡ slot_numbered nv (if b then Some from else number_from test nv (from + 1) count)
+    by_test true rest = refl
+    by_test false rest = rest
 
-some_blank : (nv : List ℕ) (from count : ℕ) → list_any is_blank (slots_from nv from count) ≡ true → (k : ℕ) × (from ≤ k) × (k < from + count) × IsBlank (slot_at nv k)
-some_blank nv from zero h = absurd (false≢true h)
-some_blank nv from (suc count) h = by_test (cases_Bool (is_blank (slot_at nv from))) (λ rest. some_blank nv (from + 1) count rest)
+abbrev is_numbered : Option ℕ → Bool
+is_numbered (Some k) = true
+is_numbered None = false
+
+any_number : (test : List ℕ → Bool) (nv : List ℕ) (from count : ℕ) → list_any test (slots_from nv from count) ≡ is_numbered (number_from test nv from count)
+any_number test nv from zero = refl
+any_number test nv from (suc count) = by_test (test (slot_at nv from)) (any_number test nv (from + 1) count)
   where
-    by_test : ((is_blank (slot_at nv from) ≡ true) ⊎ (is_blank (slot_at nv from) ≡ false))
-        → (list_any is_blank (slots_from nv (from + 1) count) ≡ true → (k : ℕ) × (from + 1 ≤ k) × (k < from + 1 + count) × IsBlank (slot_at nv k))
-        → (k : ℕ) × (from ≤ k) × (k < from + suc count) × IsBlank (slot_at nv k)
-    by_test (inl blank) rest = (from, omega arith, omega arith, (Decides-is_blank (slot_at nv from)).0 blank)
-    by_test (inr used) rest =
-        let found : (k : ℕ) × (from + 1 ≤ k) × (k < from + 1 + count) × IsBlank (slot_at nv k) = rest (rw used at h) in
-        (found.0, omega (arith, found.1), omega (arith, found.2), found.3)
+    by_test : (b : Bool) → list_any test (slots_from nv (from + 1) count) ≡ is_numbered (number_from test nv (from + 1) count)
+        → (b || list_any test (slots_from nv (from + 1) count)) ≡ is_numbered (if b then Some from else number_from test nv (from + 1) count)
+    by_test true rest = refl
+    by_test false rest = rest
 
-all_unset : (nv : List ℕ) → IsUnset nv → AreUnset nv 0 8
-all_unset nv h = record { gates = λ j low below. h.gates j (omega arith) }
-
-is_unset : (nv : List ℕ) → AreUnset nv 0 8 → IsUnset nv
-is_unset nv h = record { gates = λ k below. h.gates k (omega arith) (omega arith) }
-
-provisioned_by : (nv : List ℕ) (k : ℕ) → IsFirst nv 0 8 k → IsProvisionedBy nv k
-provisioned_by nv k h = record { within = omega (arith, h.high); gate = h.gate; first = λ j below. h.first j (omega arith) below }
-
-has_blank : (nv : List ℕ) → list_any is_blank (slots_from nv 0 8) ≡ true → HasBlank nv
-has_blank nv h = let found : (k : ℕ) × (0 ≤ k) × (k < 0 + 8) × IsBlank (slot_at nv k) = some_blank nv 0 8 h in record { number = found.0; within = omega (arith, found.2); blank = found.3 }
-
-no_blank : (nv : List ℕ) → ¬ HasBlank nv → list_any is_blank (slots_from nv 0 8) ≡ false
-no_blank nv h = by_test (cases_Bool (list_any is_blank (slots_from nv 0 8)))
+any_some : (test : List ℕ → Bool) (nv : List ℕ) (k : ℕ) → k < 8 → test (slot_at nv k) ≡ true → list_any test (slots_from nv 0 8) ≡ true
+any_some test nv k below here = any_number test nv 0 8 ∙ by_found (number_from test nv 0 8) (finds test nv 0 8)
   where
-    by_test : ((list_any is_blank (slots_from nv 0 8) ≡ true) ⊎ (list_any is_blank (slots_from nv 0 8) ≡ false)) → list_any is_blank (slots_from nv 0 8) ≡ false
-    by_test (inl some) = absurd (h (has_blank nv some))
-    by_test (inr none) = none
+    by_found : (r : Option ℕ) → Finds test nv 0 8 r → is_numbered r ≡ true
+    by_found None h = absurd (false≢true (sym (h k (omega arith) (omega arith)) ∙ here))
+    by_found (Some j) h = refl
 
--- what is chosen of a list of slots, by what was found in it
-choose_found : (slots : List (List ℕ)) (slot : List ℕ) → find is_set slots ≡ Some slot → choose_slot slots ≡ Ok slot
-choose_found slots slot h = rw h refl
+any_none : (test : List ℕ → Bool) (nv : List ℕ) → ((j : ℕ) → j < 8 → test (slot_at nv j) ≡ false) → list_any test (slots_from nv 0 8) ≡ false
+any_none test nv none = any_number test nv 0 8 ∙ ap is_numbered (number-none test nv none)
 
+-- ---- what it says of gates and of blank slots
+test_false : (b : Bool) (P : Type 0) → Decides b P → ¬ P → b ≡ false
+test_false true P d none = absurd (none (d.0 refl))
+test_false false P d none = refl
+
+tests_unset : (nv : List ℕ) → IsUnset nv → (k : ℕ) → k < 8 → is_set (slot_at nv k) ≡ false
+tests_unset nv h k below = test_false (is_set (slot_at nv k)) (IsSet (slot_at nv k)) (Decides-is_set (slot_at nv k)) (h.gates k below)
+
+pub any_set : (nv : List ℕ) (k : ℕ) → IsProvisionedBy nv k → list_any is_set (slots_from nv 0 8) ≡ true
+any_set nv k h = any_some is_set nv k h.within ((Decides-is_set (slot_at nv k)).1 h.gate)
+
+pub none_set : (nv : List ℕ) → IsUnset nv → list_any is_set (slots_from nv 0 8) ≡ false
+none_set nv h = any_none is_set nv (tests_unset nv h)
+
+-- a store is provisioned by a slot, or none has its gate set
+pub provisioned_or_unset : (nv : List ℕ) → ((k : ℕ) × IsProvisionedBy nv k) ⊎ IsUnset nv
+provisioned_or_unset nv = by_found (number_from is_set nv 0 8) (finds is_set nv 0 8)
+  where
+    not_set : (k : ℕ) → is_set (slot_at nv k) ≡ false → ¬ IsSet (slot_at nv k)
+    not_set k h = not_from_Decides (is_set (slot_at nv k)) (Decides-is_set (slot_at nv k)) h
+
+    by_found : (r : Option ℕ) → Finds is_set nv 0 8 r → ((k : ℕ) × IsProvisionedBy nv k) ⊎ IsUnset nv
+    by_found (Some k) h = inl (k, record { within = omega (arith, h.high); gate = (Decides-is_set (slot_at nv k)).0 h.here; first = λ j below. not_set j (h.before j (omega arith) below) })
+    by_found None h = inr (record { gates = λ k below. not_set k (h k (omega arith) (omega arith)) })
+
+-- the first blank slot, or there is none
+abbrev pub FoundBlank : List ℕ → Option ℕ → Type 0
+FoundBlank nv (Some number) = IsFirstBlank nv number
+FoundBlank nv None = ¬ HasBlank nv
+
+pub found_blank : (nv : List ℕ) → FoundBlank nv (number_from is_blank nv 0 8)
+found_blank nv = by_found (number_from is_blank nv 0 8) (finds is_blank nv 0 8)
+  where
+    not_blank : (k : ℕ) → is_blank (slot_at nv k) ≡ false → ¬ IsBlank (slot_at nv k)
+    not_blank k h = not_from_Decides (is_blank (slot_at nv k)) (Decides-is_blank (slot_at nv k)) h
+
+    by_found : (r : Option ℕ) → Finds is_blank nv 0 8 r → FoundBlank nv r
+    by_found (Some k) h = record { within = omega (arith, h.high); blank = (Decides-is_blank (slot_at nv k)).0 h.here; first = λ j below. not_blank j (h.before j (omega arith) below) }
+    by_found None h = λ (b : HasBlank nv). not_blank b.number (h b.number (omega arith) (omega (arith, b.within))) b.blank
+
+-- some slot is blank, or none
+pub blank_or_spent : (nv : List ℕ) → HasBlank nv ⊎ (¬ HasBlank nv)
+blank_or_spent nv = by_found (number_from is_blank nv 0 8) (found_blank nv)
+  where
+    by_found : (r : Option ℕ) → FoundBlank nv r → HasBlank nv ⊎ (¬ HasBlank nv)
+    by_found (Some k) h = inl (record { number = k; within = h.within; blank = h.blank })
+    by_found None h = inr h
+
+-- ---- what is chosen
 choose_none : (slots : List (List ℕ)) (b : Bool) → find is_set slots ≡ None → list_any is_blank slots ≡ b → choose_slot slots ≡ Err (if b then NotProvisioned else SlotsSpent)
 choose_none slots b h e = rw (h, e) refl
+
+find_none : (nv : List ℕ) → IsUnset nv → find is_set (slots_from nv 0 8) ≡ None
+find_none nv h = find_number is_set nv 0 8 ∙ ap (slot_numbered nv) (number-none is_set nv (tests_unset nv h))
 
 pub provisioned_slot-found : (nv : List ℕ) (k : ℕ) → IsProvisionedBy nv k → provisioned_slot nv ≡ Ok (slot_at nv k)
 unfolding provisioned_slot
 provisioned_slot-found nv k h =
-    let first : IsFirst nv 0 8 k = record { low = omega arith; high = omega (arith, h.within); gate = h.gate; first = λ j low below. h.first j below } in
-    choose_found (slots_from nv 0 8) (slot_at nv k) (find_first nv 0 8 k first)
+    let number : number_from is_set nv 0 8 ≡ Some k = number-first is_set nv k h.within ((Decides-is_set (slot_at nv k)).1 h.gate)
+    (λ j below. test_false (is_set (slot_at nv j)) (IsSet (slot_at nv j)) (Decides-is_set (slot_at nv j)) (h.first j below)) in
+    ap (known (if list_any is_blank (slots_from nv 0 8) then NotProvisioned else SlotsSpent)) (find_number is_set nv 0 8 ∙ ap (slot_numbered nv) number)
 
 pub provisioned_slot-blank : (nv : List ℕ) → IsUnset nv → HasBlank nv → provisioned_slot nv ≡ Err NotProvisioned
 unfolding provisioned_slot
-provisioned_slot-blank nv h blank = choose_none (slots_from nv 0 8) true (find_none nv 0 8 (all_unset nv h)) (any_blank nv 0 8 blank.number (omega arith) (omega (arith, blank.within)) blank.blank)
+provisioned_slot-blank nv h b = choose_none (slots_from nv 0 8) true (find_none nv h) (any_some is_blank nv b.number b.within ((Decides-is_blank (slot_at nv b.number)).1 b.blank))
 
 pub provisioned_slot-spent : (nv : List ℕ) → IsUnset nv → ¬ HasBlank nv → provisioned_slot nv ≡ Err SlotsSpent
 unfolding provisioned_slot
-provisioned_slot-spent nv h spent = choose_none (slots_from nv 0 8) false (find_none nv 0 8 (all_unset nv h)) (no_blank nv spent)
-
--- a store is provisioned by a slot, or none has its gate set
-pub provisioned_or_unset : (nv : List ℕ) → ((k : ℕ) × IsProvisionedBy nv k) ⊎ IsUnset nv
-provisioned_or_unset nv = by_search (first_or_none nv 0 8)
-  where
-    by_search : (((k : ℕ) × IsFirst nv 0 8 k) ⊎ AreUnset nv 0 8) → ((k : ℕ) × IsProvisionedBy nv k) ⊎ IsUnset nv
-    by_search (inl found) = inl (found.0, provisioned_by nv found.0 found.1)
-    by_search (inr none) = inr (is_unset nv none)
-
--- some slot is blank, or none
-pub blank_or_spent : (nv : List ℕ) → HasBlank nv ⊎ (¬ HasBlank nv)
-blank_or_spent nv = by_test (cases_Bool (list_any is_blank (slots_from nv 0 8)))
-  where
-    by_test : ((list_any is_blank (slots_from nv 0 8) ≡ true) ⊎ (list_any is_blank (slots_from nv 0 8) ≡ false)) → HasBlank nv ⊎ (¬ HasBlank nv)
-    by_test (inl some) = inl (has_blank nv some)
-    by_test (inr none) = inr (λ (h : HasBlank nv). false≢true (sym none ∙ any_blank nv 0 8 h.number (omega arith) (omega (arith, h.within)) h.blank))
+provisioned_slot-spent nv h spent = choose_none (slots_from nv 0 8) false (find_none nv h) (any_none is_blank nv (λ k below.
+    test_false (is_blank (slot_at nv k)) (IsBlank (slot_at nv k)) (Decides-is_blank (slot_at nv k)) (λ (b : IsBlank (slot_at nv k)). spent (record { number = k; within = below; blank = b }))))
