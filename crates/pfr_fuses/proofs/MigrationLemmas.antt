@@ -18,6 +18,7 @@ use Rattle.pfr_flash.proofs.CutLemmas.{part_step, part_end, at_each, AddsAtMost-
 use Rattle.pfr_flash.proofs.FollowsLemmas.{DoesPart-now}
 use Rattle.pfr_flash.proofs.FuseLemmas.{applied-byte}
 use Rattle.pfr_flash.proofs.LosingLemmas.{OnlyLoses-plan}
+use Rattle.pfr_flash.proofs.PartsLemmas.{part_of}
 use Rattle.pfr_flash.proofs.PlayLemmas.{length-applied}
 use Rattle.pfr_flash.proofs.RangeLemmas.{SameOutside-applied, SameOutside-torn, SameOutside-wider, then_outside, bytes_at-outside, length-now, IsTorn-within}
 use Rattle.pfr_fuses.specs.RootSlot.{provision_in}
@@ -30,27 +31,13 @@ use Rattle.pfr_fuses.specs.Growth.{Grows, NeverGoesBack, KeepsProvision, AllAre,
 use Rattle.pfr_fuses.specs.declared.profile.Profile.{Profile}
 use Rattle.pfr_fuses.specs.declared.profile.Profile.TheVariants.{One, Two}
 use Rattle.pfr_fuses.proofs.AnswerLemmas.{done_now, on_either, on_err, on_ok_with}
+use Rattle.pfr_fuses.proofs.FillingLemmas.{program_ones, program_zero}
 use Rattle.pfr_fuses.proofs.GrowthLemmas.{profile-outside, slots-outside, IsProvisionedBy-same, KeepsProvision-plan}
+use Rattle.pfr_fuses.proofs.RootSlotLemmas.{part_middle}
 use Rattle.pfr_fuses.proofs.StandsLemmas.{floor_narrow, row_narrow, floor_stands, row_stands, fuses_of-found, fuses_of-ok}
 use Rattle.pfr_fuses.proofs.StaysLemmas.{floor_bits-outside, row_bits-outside, floor_fuses-outside, row_fuses-outside, FloorStands-same, RowStands-same}
 
 -- ---- parts of what is written
-bytes_at-part : (image : List ℕ) (at count off n : ℕ) → at + count ≤ length image → off + n ≤ count → bytes_at image (at + off) n ≡ bytes_at (bytes_at image at count) off n
-bytes_at-part image at count off n fits within =
-    let whole : length (bytes_at image at count) ≡ count = length-bytes_at image at count fits in
-    let short : length (bytes_at image (at + off) n) ≡ n = length-bytes_at image (at + off) n (omega arith) in
-    let part : length (bytes_at (bytes_at image at count) off n) ≡ n = length-bytes_at (bytes_at image at count) off n (omega arith) in
-    ext_get_or 0 (bytes_at image (at + off) n) (bytes_at (bytes_at image at count) off n) (short ∙ sym part) (λ i below.
-    let inside : i < n = omega arith in
-    let there : at + off + i ≡ at + (off + i) = omega arith in
-    get_or-bytes_at image (at + off) n i 0 inside
-    ∙ ap (λ (place : ℕ). get_or image place 0) there
-    ∙ sym (get_or-bytes_at (bytes_at image at count) off n i 0 inside ∙ get_or-bytes_at image at count (off + i) 0 (omega arith)))
-
-middle : (all front part rest : List ℕ) (at n : ℕ) → all ≡ front ++ (part ++ rest) → length front ≡ at → length part ≡ n → bytes_at all at n ≡ part
-middle all front part rest at n e hf hp =
-    ap (λ (xs : List ℕ). bytes_at xs at n) e ∙ ap (λ (xs : List ℕ). take n xs) (drop_at front (part ++ rest) at hf) ∙ take_at part rest n hp
-
 record Parts (fuses : FusesState) (all : List ℕ) : Type 0 where
   bmc_floor : bytes_at all 0 16 ≡ fuses.bmc_floor
   pch_floor : bytes_at all 16 16 ≡ fuses.pch_floor
@@ -58,9 +45,6 @@ record Parts (fuses : FusesState) (all : List ℕ) : Type 0 where
   pch_capsule : bytes_at all 64 32 ≡ fuses.pch_capsule
   bmc_manifest : bytes_at all 96 32 ≡ fuses.bmc_manifest
   bmc_capsule : bytes_at all 128 32 ≡ fuses.bmc_capsule
-
-six : (a b c d e f : List ℕ) → a ++ (b ++ (c ++ (d ++ (e ++ f)))) ≡ ((((a ++ b) ++ c) ++ d) ++ e) ++ (f ++ [])
-six a b c d e f = simp (append_assoc, append-nil)
 
 parts_of : (fuses : FusesState) → AreRows fuses → Parts fuses (migrated fuses)
 parts_of fuses h =
@@ -76,12 +60,12 @@ parts_of fuses h =
     let hd : length d ≡ 32 = h.pch_capsule in
     let he : length e ≡ 32 = h.bmc_manifest in
     record {
-      bmc_floor = middle (migrated fuses) [] a (b ++ (c ++ (d ++ (e ++ f)))) 0 16 refl refl h.bmc_floor;
-      pch_floor = middle (migrated fuses) a b (c ++ (d ++ (e ++ f))) 16 16 refl ha h.pch_floor;
-      pch_manifest = middle (migrated fuses) (a ++ b) c (d ++ (e ++ f)) 32 32 (simp append_assoc) (simp length-append (omega arith)) h.pch_manifest;
-      pch_capsule = middle (migrated fuses) ((a ++ b) ++ c) d (e ++ f) 64 32 (simp append_assoc) (simp length-append (omega arith)) h.pch_capsule;
-      bmc_manifest = middle (migrated fuses) (((a ++ b) ++ c) ++ d) e f 96 32 (simp append_assoc) (simp length-append (omega arith)) h.bmc_manifest;
-      bmc_capsule = middle (migrated fuses) ((((a ++ b) ++ c) ++ d) ++ e) f [] 128 32 (six a b c d e f) (simp length-append (omega arith)) h.bmc_capsule;
+      bmc_floor = part_middle (migrated fuses) [] a (b ++ (c ++ (d ++ (e ++ f)))) 0 16 refl refl h.bmc_floor;
+      pch_floor = part_middle (migrated fuses) a b (c ++ (d ++ (e ++ f))) 16 16 refl ha h.pch_floor;
+      pch_manifest = part_middle (migrated fuses) (a ++ b) c (d ++ (e ++ f)) 32 32 (simp append_assoc) (simp length-append (omega arith)) h.pch_manifest;
+      pch_capsule = part_middle (migrated fuses) ((a ++ b) ++ c) d (e ++ f) 64 32 (simp append_assoc) (simp length-append (omega arith)) h.pch_capsule;
+      bmc_manifest = part_middle (migrated fuses) (((a ++ b) ++ c) ++ d) e f 96 32 (simp append_assoc) (simp length-append (omega arith)) h.bmc_manifest;
+      bmc_capsule = part_middle (migrated fuses) ((((a ++ b) ++ c) ++ d) ++ e) f [] 128 32 (simp (append_assoc, append-nil)) (simp length-append (omega arith)) h.bmc_capsule;
     }
 
 length-migrated : (fuses : FusesState) → AreRows fuses → length (migrated fuses) ≡ 160
@@ -105,7 +89,7 @@ pub record IsWritten (fuses : FusesState) (nv : List ℕ) : Type 0 where
 
 part_at : (fuses : FusesState) (nv row : List ℕ) (off n : ℕ) → IsWritten fuses nv → off + n ≤ 160 → length row ≡ n → bytes_at (migrated fuses) off n ≡ row → continued (bytes_at nv (0x7000 + off) n) n ≡ row
 part_at fuses nv row off n h within len is =
-    let there : bytes_at nv (0x7000 + off) n ≡ row = bytes_at-part nv 0x7000 160 off n (omega (arith, h.size)) within ∙ ap (λ (xs : List ℕ). bytes_at xs off n) h.bytes ∙ is in
+    let there : bytes_at nv (0x7000 + off) n ≡ row = sym (part_of nv 0x7000 160 off n within) ∙ ap (λ (xs : List ℕ). bytes_at xs off n) h.bytes ∙ is in
     ap (λ (xs : List ℕ). continued xs n) there ∙ continued-whole row n len
 
 written_floor : (fuses : FusesState) (nv : List ℕ) (bank : Bank) → IsWritten fuses nv → profile_of nv ≡ Two → floor_fuses nv bank ≡ floor_row fuses bank
@@ -248,16 +232,8 @@ sector_bytes fuses nv size rows fit =
     let len : length (migrated fuses) ≡ 160 = length-migrated fuses rows in
     let clean = applied nv (Erase 7) in
     let clean_size : length clean ≡ 32768 = length-applied nv (Erase 7) ∙ size in
-    let fits : 0x7000 + length (migrated fuses) ≤ length clean = omega arith in
-    let old = bytes_at clean 0x7000 (length (migrated fuses)) in
-    let old_len : length old ≡ length (migrated fuses) = length-bytes_at clean 0x7000 (length (migrated fuses)) fits in
-    let ones : (i : ℕ) → i < length old → get_or old i 0 ≡ 255 = λ i below.
-    let inside : i < 160 = omega arith in
-    get_or-bytes_at clean 0x7000 (length (migrated fuses)) i 0 (omega arith)
-    ∙ get_or-written_inside nv 0x7000 blank i 0 (omega arith) (omega (arith, length-blank)) ∙ get_or-blank i (omega arith) in
-    let same : and_bytes old (migrated fuses) ≡ migrated fuses = and_bytes-ones old (migrated fuses) old_len ones (λ i below. fit i (omega arith)) in
-    let is : applied clean (Program 0x7000 (migrated fuses)) ≡ written clean 0x7000 (migrated fuses) = ap (λ (after : List ℕ). written clean 0x7000 after) same in
-    ap (λ (image : List ℕ). bytes_at image 0x7000 160) is ∙ subst (λ (n : ℕ). bytes_at (written clean 0x7000 (migrated fuses)) 0x7000 n ≡ migrated fuses) len (bytes_at-written clean 0x7000 (migrated fuses) fits)
+    program_ones clean (migrated fuses) 0x7000 160 len (omega arith)
+    (λ i below. get_or-written_inside nv 0x7000 blank i 0 (omega arith) (omega (arith, length-blank)) ∙ get_or-blank i (omega arith)) fit
 
 module _ (nv : List ℕ) (fuses : FusesState) (size : length nv ≡ 32768) (one : profile_of nv ≡ One) (rows : AreRows fuses) (fit : (i : ℕ) → i < 160 → get_or (migrated fuses) i 0 < 256) (start : Holds nv fuses nv) where
   -- only sector 7 changed
@@ -311,14 +287,7 @@ module _ (nv : List ℕ) (fuses : FusesState) (size : length nv ≡ 32768) (one 
 
   -- once all is done
   pub whole_two : profile_of (play nv (migration fuses)) ≡ Two
-  whole_two = gate_two (applied (applied nv (Erase 7)) (Program 0x7000 (migrated fuses))) (omega (arith, program_size, size))
-    where
-      zero_and : (x : ℕ) → bit_and x 0 ≡ 0
-      zero_and x = and_zero_r x
-
-      gate_two : (image : List ℕ) → 0xA00 < length image → profile_of (applied image (Program 0xA00 (0 ∷ []))) ≡ Two
-      gate_two image within = profile-gate-set (applied image (Program 0xA00 (0 ∷ [])))
-          (ap (λ (after : List ℕ). get_or after 0xA00 0) (applied-byte image 0xA00 0 within) ∙ get_or-written_inside image 0xA00 (bit_and (get_or image 0xA00 0) 0 ∷ []) 0 0 (omega arith) (omega arith) ∙ zero_and (get_or image 0xA00 0))
+  whole_two = profile-gate-set (play nv (migration fuses)) (program_zero (applied (applied nv (Erase 7)) (Program 0x7000 (migrated fuses))) 0xA00 (omega (arith, program_size, size)))
 
   pub whole_written : IsWritten fuses (play nv (migration fuses))
   whole_written = record {
