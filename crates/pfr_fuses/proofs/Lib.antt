@@ -1,4 +1,3 @@
-pub mod AnswerLemmas
 pub mod FloorLemmas
 pub mod SlotLemmas
 pub mod StandsLemmas
@@ -8,8 +7,6 @@ pub mod GrowthLemmas
 pub mod StaysLemmas
 pub mod ExactLemmas
 pub mod ClearingLemmas
-pub mod RaiseLemmas
-pub mod CancelLemmas
 pub mod FillingLemmas
 pub mod MigrationLemmas
 pub mod RootSlotLemmas

@@ -30,9 +30,8 @@ use Rattle.pfr_fuses.specs.Changes.{AreRows, IsMigrating, migrated, migration}
 use Rattle.pfr_fuses.specs.Growth.{Grows, NeverGoesBack, KeepsProvision, AllAre, Adds}
 use Rattle.pfr_fuses.specs.declared.profile.Profile.{Profile}
 use Rattle.pfr_fuses.specs.declared.profile.Profile.TheVariants.{One, Two}
-use Rattle.pfr_fuses.proofs.AnswerLemmas.{done_now, on_either, on_err, on_ok_with}
 use Rattle.pfr_fuses.proofs.FillingLemmas.{program_ones, program_zero}
-use Rattle.pfr_fuses.proofs.GrowthLemmas.{profile-outside, slots-outside, IsProvisionedBy-same, KeepsProvision-plan}
+use Rattle.pfr_fuses.proofs.GrowthLemmas.{done_now, on_either, on_err, on_ok_with, profile-outside, slots-outside, IsProvisionedBy-same, KeepsProvision-plan}
 use Rattle.pfr_fuses.proofs.RootSlotLemmas.{part_middle}
 use Rattle.pfr_fuses.proofs.StandsLemmas.{floor_narrow, row_narrow, floor_stands, row_stands, fuses_of-found, fuses_of-ok}
 use Rattle.pfr_fuses.proofs.StaysLemmas.{floor_bits-outside, row_bits-outside, floor_fuses-outside, row_fuses-outside, FloorStands-same, RowStands-same}

@@ -1,5 +1,5 @@
 use Rattle.std.proofs.Common.{arith}
-use Rattle.pfr_fuses.proofs.CancelLemmas.{cancel-ok, cancel-done, cancel-store, cancel-exact, cancel-rest, cancel-stays, cancel-leaves, cancel-changed, cancel-count}
+use Rattle.pfr_fuses.proofs.ClearingLemmas.{cancel-ok, cancel-done, cancel-store, cancel-exact, cancel-rest, cancel-stays, cancel-leaves, cancel-changed, cancel-count}
 use Rattle.pfr_fuses.proofs.fuses.Fuses.cancel.Goals as goal
 
 pub returns-clause-ok : goal.returns-clause-ok

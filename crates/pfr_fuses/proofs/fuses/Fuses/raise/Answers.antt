@@ -1,4 +1,4 @@
-use Rattle.pfr_fuses.proofs.RaiseLemmas.{raise-floor, raise-ok, raise-err, raise-exact, raise-rest, raise-stays, raise-leaves, raise-changed, raise-count}
+use Rattle.pfr_fuses.proofs.ClearingLemmas.{raise-floor, raise-ok, raise-err, raise-exact, raise-rest, raise-stays, raise-leaves, raise-changed, raise-count}
 use Rattle.pfr_fuses.proofs.fuses.Fuses.raise.Goals as goal
 
 pub returns-clause-floor : goal.returns-clause-floor
