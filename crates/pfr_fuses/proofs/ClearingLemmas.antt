@@ -29,10 +29,13 @@ use Rattle.pfr_fuses.specs.declared.profile.Profile.TheVariants.{Two}
 use Rattle.pfr_fuses.specs.FusesState.{FusesState, floor_row, row_of, floor_of}
 use Rattle.pfr_fuses.specs.FusesOf.{FloorStands, floor_fuses, fuses_of, RowStands, row_fuses}
 use Rattle.pfr_fuses.specs.Changes.{Raises, SameProvision, StaysButFloor, raise_plan, raised, with_floor, Cancels, CancelsAtMost, StaysButRow, cancellation, with_cancelled, with_row}
+use Rattle.pfr_fuses.specs.FuseRows.{keys_of_rows, with_keys}
+use Rattle.pfr_fuses.specs.declared.root_slot.RootSlot.{RootSlot}
+use Rattle.pfr_fuses.specs.declared.fuse_rows.Floors.{Floors}
+use Rattle.pfr_fuses.specs.declared.fuse_rows.CancelRows.{CancelRows}
 use Rattle.pfr_fuses.proofs.ExactLemmas.{ChangedAt, fuses_of-but_floor, floor_kept, floor-cleared, fuses_of-but_row, row_kept, row-cleared}
 use Rattle.pfr_fuses.proofs.GrowthLemmas.{done_now, on_either, on_err, on_ok_with, profile-outside, NeverGoesBack-programs, KeepsProvision-plan, Adds-within, slots-outside}
 use Rattle.pfr_fuses.proofs.FloorLemmas.{floor_in-above, floor_in-highest}
-use Rattle.pfr_fuses.proofs.KeptLemmas.{raise_plan-none}
 use Rattle.pfr_fuses.proofs.StandsLemmas.{kept_floor}
 use Rattle.pfr_fuses.proofs.StaysLemmas.{floors_apart, row_behind_floors, floor_in_sector, floor_bits-outside, row_bits-outside, FloorStands-same, RowStands-same, rows_apart, row_in_sector}
 
@@ -98,6 +101,9 @@ leaves at width plan old new result size low within programs h =
     }
 
 -- ---- the plan of a floor
+pub raise_plan-none : (floor : ℕ) (bank : Bank) (to : ℕ) → to ≤ floor → raise_plan floor bank to ≡ []
+raise_plan-none floor bank to h = let test : nat_le to floor ≡ true = grind (arith, nat_tests) in rw test refl
+
 -- a floor is raised or left
 pub raise_cases : (P : List Operation → Type 0) (floor : ℕ) (bank : Bank) (to : ℕ) → (to ≤ floor → P []) → (floor < to → P (clearing (floor_at Two bank) (to - 1))) → P (raise_plan floor bank to)
 raise_cases P floor bank to none some = by_test (cases_Bool (nat_le to floor))
@@ -391,39 +397,30 @@ other_row fuses BmcCapsule BmcCapsule row s ne = absurd (ne refl)
 other_row fuses BmcCapsule other row s ne = refl
 other_row fuses type other row s ne = absurd s
 
-same_floor : (fuses : FusesState) (type : ContentType) (row : List ℕ) (bank : Bank) → IsSigning type → floor_row (with_row fuses type row) bank ≡ floor_row fuses bank
-same_floor fuses PchManifest row Bmc s = refl
-same_floor fuses PchManifest row Pch s = refl
-same_floor fuses PchCapsule row Bmc s = refl
-same_floor fuses PchCapsule row Pch s = refl
-same_floor fuses BmcManifest row Bmc s = refl
-same_floor fuses BmcManifest row Pch s = refl
-same_floor fuses BmcCapsule row Bmc s = refl
-same_floor fuses BmcCapsule row Pch s = refl
-same_floor fuses type row bank s = absurd s
+by_bank : (old new : FusesState) → new.bmc_floor ≡ old.bmc_floor → new.pch_floor ≡ old.pch_floor → (bank : Bank) → floor_row new bank ≡ floor_row old bank
+by_bank old new bmc pch Bmc = bmc
+by_bank old new bmc pch Pch = pch
 
-same_rest : (fuses : FusesState) (type : ContentType) (row : List ℕ) → IsSigning type → ((with_row fuses type row).provision ≡ fuses.provision) × ((with_row fuses type row).profile ≡ fuses.profile)
-same_rest fuses PchManifest row s = (refl, refl)
-same_rest fuses PchCapsule row s = (refl, refl)
-same_rest fuses BmcManifest row s = (refl, refl)
-same_rest fuses BmcCapsule row s = (refl, refl)
+record SameRest (fuses : FusesState) (type : ContentType) (row : List ℕ) : Type 0 where
+  floors : (bank : Bank) → floor_row (with_row fuses type row) bank ≡ floor_row fuses bank
+  provision : (with_row fuses type row).provision ≡ fuses.provision
+  profile : (with_row fuses type row).profile ≡ fuses.profile
+  again : (other : List ℕ) → with_row (with_row fuses type row) type other ≡ with_row fuses type other
+
+same_rest : (fuses : FusesState) (type : ContentType) (row : List ℕ) → IsSigning type → SameRest fuses type row
+same_rest fuses PchManifest row s = record { floors = by_bank fuses (with_row fuses PchManifest row) refl refl; provision = refl; profile = refl; again = λ other. refl }
+same_rest fuses PchCapsule row s = record { floors = by_bank fuses (with_row fuses PchCapsule row) refl refl; provision = refl; profile = refl; again = λ other. refl }
+same_rest fuses BmcManifest row s = record { floors = by_bank fuses (with_row fuses BmcManifest row) refl refl; provision = refl; profile = refl; again = λ other. refl }
+same_rest fuses BmcCapsule row s = record { floors = by_bank fuses (with_row fuses BmcCapsule row) refl refl; provision = refl; profile = refl; again = λ other. refl }
 same_rest fuses type row s = absurd s
 
 same_with_row : (fuses : FusesState) (type : ContentType) (row : List ℕ) → IsSigning type → SameButRow fuses type (with_row fuses type row)
 same_with_row fuses type row s = record {
-  floors = λ bank. same_floor fuses type row bank s;
+  floors = (same_rest fuses type row s).floors;
   rows = λ other ne. other_row fuses type other row s ne;
-  provision = (same_rest fuses type row s).0;
-  profile = (same_rest fuses type row s).1;
+  provision = (same_rest fuses type row s).provision;
+  profile = (same_rest fuses type row s).profile;
 }
-
--- another row in its place
-row_again : (fuses : FusesState) (type : ContentType) (row other : List ℕ) → IsSigning type → with_row (with_row fuses type row) type other ≡ with_row fuses type other
-row_again fuses PchManifest row other s = refl
-row_again fuses PchCapsule row other s = refl
-row_again fuses BmcManifest row other s = refl
-row_again fuses BmcCapsule row other s = refl
-row_again fuses type row other s = absurd s
 
 -- ---- one store and the next
 stays_but_row : (type : ContentType) (old new : List ℕ) (fuses after : FusesState) → IsSigning type → ChangedAt (row_at Two type) 32 old new → SameButRow fuses type after → StaysButRow type old fuses new after
@@ -523,7 +520,7 @@ module _ (type : ContentType) (id : ℕ) (old new : FlashState) (fuses after : F
   pub cancel-rest : OnOk result (after ≡ with_cancelled fuses type id) → OnErr result (after ≡ fuses) → fuses_of (now old) ≡ Ok fuses → fuses_of (now new) ≡ Ok (with_row after type (row_fuses (now new) type))
   cancel-rest ok err was = on_either result ok err
       (λ is. row_says was ∙ ap (λ (kept : FusesState). Ok kept)
-      (sym (ap (λ (kept : FusesState). with_row kept type (row_fuses (now new) type)) is ∙ row_again fuses type (with_cleared (row_of fuses type) id) (row_fuses (now new) type) signing)))
+      (sym (ap (λ (kept : FusesState). with_row kept type (row_fuses (now new) type)) is ∙ (same_rest fuses type (with_cleared (row_of fuses type) id) signing).again (row_fuses (now new) type))))
       (λ is. subst (SaysButRow type (now new)) (sym is) (row_says was))
 
   pub cancel-exact : OnOk result (after ≡ with_cancelled fuses type id) → OnOk result (fuses_of (now old) ≡ Ok fuses → fuses_of (now new) ≡ Ok after)
@@ -532,3 +529,35 @@ module _ (type : ContentType) (id : ℕ) (old new : FlashState) (fuses after : F
       row-cleared type (now old) (now new) id cancel-changed most is (omega (arith, (row_in_sector type signing).1))
       ∙ ap (λ (r : List ℕ). with_cleared r id) (sym (row_kept (now old) fuses type signing was)) in
       row_says was ∙ ap (λ (a : FusesState). Ok a) (ap (λ (r : List ℕ). with_row fuses type r) row ∙ sym kept))
+
+-- ---- the kept fuses, by the rows that they are of
+abbrev pub kept_of : RootSlot → Profile → Floors → CancelRows → FusesState
+kept_of provision profile floors rows = record {
+  provision = provision;
+  profile = profile;
+  bmc_floor = floors.bmc;
+  pch_floor = floors.pch;
+  pch_manifest = rows.pch_manifest;
+  pch_capsule = rows.pch_capsule;
+  bmc_manifest = rows.bmc_manifest;
+  bmc_capsule = rows.bmc_capsule;
+}
+
+pub cancelled_view : (provision : RootSlot) (profile : Profile) (floors : Floors) (rows : CancelRows) (type : ContentType) (id : ℕ)
+    → kept_of provision profile floors (with_keys rows type (with_cleared (keys_of_rows rows type) id)) ≡ with_cancelled (kept_of provision profile floors rows) type id
+cancelled_view provision profile floors rows PchManifest id = refl
+cancelled_view provision profile floors rows PchCapsule id = refl
+cancelled_view provision profile floors rows BmcManifest id = refl
+cancelled_view provision profile floors rows BmcCapsule id = refl
+cancelled_view provision profile floors rows type id = refl
+
+abbrev ClearsOne : CancelRows → ContentType → ℕ → CancelRows → Type 0
+ClearsOne rows type id new = (k : ℕ) → k < 256 → (IsCleared (keys_of_rows new type) k ↔ (IsCleared (keys_of_rows rows type) k ⊎ (k ≡ id)))
+
+pub cancels_view : (provision : RootSlot) (profile : Profile) (floors : Floors) (rows : CancelRows) (type : ContentType) (id : ℕ) (new : CancelRows)
+    → ClearsOne rows type id new → Cancels (kept_of provision profile floors rows) type id (kept_of provision profile floors new)
+cancels_view provision profile floors rows PchManifest id new h = record { fuses = h }
+cancels_view provision profile floors rows PchCapsule id new h = record { fuses = h }
+cancels_view provision profile floors rows BmcManifest id new h = record { fuses = h }
+cancels_view provision profile floors rows BmcCapsule id new h = record { fuses = h }
+cancels_view provision profile floors rows type id new h = record { fuses = h }

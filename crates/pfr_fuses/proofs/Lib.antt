@@ -1,8 +1,7 @@
 pub mod FloorLemmas
-pub mod SlotLemmas
+pub mod BlankLemmas
 pub mod StandsLemmas
 pub mod FrameLemmas
-pub mod KeptLemmas
 pub mod GrowthLemmas
 pub mod StaysLemmas
 pub mod ExactLemmas
@@ -10,5 +9,4 @@ pub mod ClearingLemmas
 pub mod FillingLemmas
 pub mod MigrationLemmas
 pub mod RootSlotLemmas
-pub mod BlankLemmas
 pub mod ProvisionLemmas

@@ -33,7 +33,7 @@ use Rattle.pfr_fuses.specs.declared.profile.Profile.TheVariants.{One, Two}
 use Rattle.pfr_fuses.proofs.FillingLemmas.{program_ones, program_zero}
 use Rattle.pfr_fuses.proofs.GrowthLemmas.{done_now, on_either, on_err, on_ok_with, profile-outside, slots-outside, IsProvisionedBy-same, KeepsProvision-plan}
 use Rattle.pfr_fuses.proofs.RootSlotLemmas.{part_middle}
-use Rattle.pfr_fuses.proofs.StandsLemmas.{floor_narrow, row_narrow, floor_stands, row_stands, fuses_of-found, fuses_of-ok}
+use Rattle.pfr_fuses.proofs.StandsLemmas.{floor_narrow, row_narrow, floor_stands, row_stands, no_row_stands, fuses_of-found, fuses_of-ok}
 use Rattle.pfr_fuses.proofs.StaysLemmas.{floor_bits-outside, row_bits-outside, floor_fuses-outside, row_fuses-outside, FloorStands-same, RowStands-same}
 
 -- ---- parts of what is written
@@ -101,15 +101,6 @@ written_row fuses nv PchCapsule s h two = row_fuses-two nv PchCapsule two ∙ pa
 written_row fuses nv BmcManifest s h two = row_fuses-two nv BmcManifest two ∙ part_at fuses nv fuses.bmc_manifest 96 32 h (omega arith) h.rows.bmc_manifest (parts_of fuses h.rows).bmc_manifest
 written_row fuses nv BmcCapsule s h two = row_fuses-two nv BmcCapsule two ∙ part_at fuses nv fuses.bmc_capsule 128 32 h (omega arith) h.rows.bmc_capsule (parts_of fuses h.rows).bmc_capsule
 written_row fuses nv type s h two = absurd s
-
--- a type without cancellations
-row_of_other : (nv : List ℕ) (fuses : FusesState) (type : ContentType) → ¬ IsSigning type → RowStands nv fuses type → (other : List ℕ) → RowStands other fuses type
-row_of_other nv fuses type none h other = record {
-  fuses_same = λ k below. (
-    λ z. absurd (none ((h.fuses_same k below).0 z).signing),
-    λ (b : IsCancelBit other type k). absurd (none b.signing),
-  );
-}
 
 -- ---- what the store says
 -- what is kept of a store, whose profile is this one
@@ -185,24 +176,23 @@ holds_one first fuses from len old new size same_size one still low outside h =
     }
 
 -- in profile 2 sector 7 is read
-signing_or_not : (type : ContentType) → IsSigning type ⊎ (¬ IsSigning type)
-signing_or_not PchManifest = inl tt
-signing_or_not PchCapsule = inl tt
-signing_or_not BmcManifest = inl tt
-signing_or_not BmcCapsule = inl tt
-signing_or_not type = inr (λ h. h)
-
 holds_two : (first : List ℕ) (fuses : FusesState) (old new : List ℕ) → IsWritten fuses new → profile_of new ≡ Two → ((k : ℕ) → k < 8 → slot_at new k ≡ slot_at old k) → Holds first fuses old → Holds first fuses new
 holds_two first fuses old new written two slots h = record {
   slots = λ k below. slots k below ∙ h.slots k below;
   floors = λ bank. floor_stands new fuses bank written.size (sym (written_floor fuses new bank written two));
-  rows = λ type. by_type type (signing_or_not type);
+  rows = by_type;
   says = λ was. says_two old new fuses written two slots (h.says was);
 }
   where
-    by_type : (type : ContentType) → (IsSigning type ⊎ (¬ IsSigning type)) → RowStands new fuses type
-    by_type type (inl signing) = row_stands new fuses type written.size signing (sym (written_row fuses new type signing written two))
-    by_type type (inr none) = row_of_other old fuses type none (h.rows type) new
+    signing : (type : ContentType) → IsSigning type → RowStands new fuses type
+    signing type s = row_stands new fuses type written.size s (sym (written_row fuses new type s written two))
+
+    by_type : (type : ContentType) → RowStands new fuses type
+    by_type PchManifest = signing PchManifest tt
+    by_type PchCapsule = signing PchCapsule tt
+    by_type BmcManifest = signing BmcManifest tt
+    by_type BmcCapsule = signing BmcCapsule tt
+    by_type type = no_row_stands new fuses type (λ h. h) refl
 
 -- the gate, whole or torn
 holds_gated : (first : List ℕ) (fuses : FusesState) (old new : List ℕ) → IsWritten fuses old → profile_of old ≡ One → length new ≡ length old → SameOutside 0xA00 1 old new → Holds first fuses old → Holds first fuses new

@@ -41,11 +41,10 @@ use Rattle.pfr_fuses.specs.declared.fuse_fail.FuseFail.{FuseFail}
 use Rattle.pfr_fuses.specs.declared.fuse_fail.FuseFail.TheVariants.{Flash}
 use Rattle.pfr_fuses.specs.declared.profile.Profile.{Profile}
 use Rattle.pfr_fuses.specs.declared.profile.Profile.TheVariants.{One, Two}
-use Rattle.pfr_fuses.proofs.BlankLemmas.{judged-ok, judged-err, provisionable-judged}
+use Rattle.pfr_fuses.proofs.BlankLemmas.{judged-ok, judged-err, provisionable-judged, Decides-is_blank}
 use Rattle.pfr_fuses.proofs.FillingLemmas.{program_ones, program_zero}
 use Rattle.pfr_fuses.proofs.GrowthLemmas.{profile-outside, NeverGoesBack-programs, KeepsProvision-none, KeepsProvision-last, Adds-within}
 use Rattle.pfr_fuses.proofs.RootSlotLemmas.{length-slot, slot_of-bytes}
-use Rattle.pfr_fuses.proofs.SlotLemmas.{Decides-is_blank}
 use Rattle.pfr_fuses.proofs.StaysLemmas.{AreOutside, floor_bits-outside, row_bits-outside}
 
 -- ---- the answer, by its parts

@@ -105,18 +105,6 @@ floors_apart Bmc Pch h = inr (omega arith)
 floors_apart Pch Bmc h = inl (omega arith)
 floors_apart Pch Pch h = absurd (h refl)
 
-pub row_behind_floors : (bank : Bank) (type : ContentType) → IsSigning type → floor_at Two bank + 16 ≤ row_at Two type
-row_behind_floors Bmc PchManifest h = omega arith
-row_behind_floors Bmc PchCapsule h = omega arith
-row_behind_floors Bmc BmcManifest h = omega arith
-row_behind_floors Bmc BmcCapsule h = omega arith
-row_behind_floors Bmc type h = absurd h
-row_behind_floors Pch PchManifest h = omega arith
-row_behind_floors Pch PchCapsule h = omega arith
-row_behind_floors Pch BmcManifest h = omega arith
-row_behind_floors Pch BmcCapsule h = omega arith
-row_behind_floors Pch type h = absurd h
-
 pub rows_apart : (type other : ContentType) → IsSigning type → IsSigning other → other ≢ type → AreOutside (row_at Two type) 32 (row_at Two other) 32
 rows_apart PchManifest PchManifest s t h = absurd (h refl)
 rows_apart PchManifest PchCapsule s t h = inr (omega arith)
@@ -150,3 +138,6 @@ row_in_sector type h = absurd h
 pub floor_in_sector : (bank : Bank) → (0x7000 ≤ floor_at Two bank) × (floor_at Two bank + 16 ≤ 0x7020)
 floor_in_sector Bmc = (omega arith, omega arith)
 floor_in_sector Pch = (omega arith, omega arith)
+
+pub row_behind_floors : (bank : Bank) (type : ContentType) → IsSigning type → floor_at Two bank + 16 ≤ row_at Two type
+row_behind_floors bank type h = omega (arith, (floor_in_sector bank).1, (row_in_sector type h).0)
