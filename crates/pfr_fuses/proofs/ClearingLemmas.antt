@@ -37,7 +37,7 @@ use Rattle.pfr_fuses.proofs.ExactLemmas.{ChangedAt, fuses_of-but_floor, floor_ke
 use Rattle.pfr_fuses.proofs.GrowthLemmas.{done_now, on_either, on_err, on_ok_with, profile-outside, NeverGoesBack-programs, KeepsProvision-plan, Adds-within, slots-outside}
 use Rattle.pfr_fuses.proofs.FloorLemmas.{floor_in-above, floor_in-highest}
 use Rattle.pfr_fuses.proofs.StandsLemmas.{kept_floor}
-use Rattle.pfr_fuses.proofs.StaysLemmas.{floors_apart, row_behind_floors, floor_in_sector, floor_bits-outside, row_bits-outside, FloorStands-same, RowStands-same, rows_apart, row_in_sector}
+use Rattle.pfr_fuses.proofs.StaysLemmas.{floors_by, rows_by, floors_apart, row_behind_floors, floor_in_sector, floor_bits-outside, row_bits-outside, FloorStands-same, RowStands-same, rows_apart, row_in_sector}
 
 -- ---- the bits
 pub floor_bit-two : (nv : List ℕ) (bank : Bank) (k : ℕ) → profile_of nv ≡ Two → (IsFloorBit nv bank k ↔ IsBit nv (floor_at Two bank) 16 k)
@@ -157,21 +157,9 @@ other_floor fuses Bmc Pch row ne = refl
 other_floor fuses Pch Bmc row ne = refl
 other_floor fuses Pch Pch row ne = absurd (ne refl)
 
-same_row : (fuses : FusesState) (bank : Bank) (row : List ℕ) (type : ContentType) → row_of (with_floor fuses bank row) type ≡ row_of fuses type
-same_row fuses Bmc row PchManifest = refl
-same_row fuses Bmc row PchCapsule = refl
-same_row fuses Bmc row BmcManifest = refl
-same_row fuses Bmc row BmcCapsule = refl
-same_row fuses Bmc row type = refl
-same_row fuses Pch row PchManifest = refl
-same_row fuses Pch row PchCapsule = refl
-same_row fuses Pch row BmcManifest = refl
-same_row fuses Pch row BmcCapsule = refl
-same_row fuses Pch row type = refl
-
 same_with_floor : (fuses : FusesState) (bank : Bank) (row : List ℕ) → SameElse fuses bank (with_floor fuses bank row)
-same_with_floor fuses Bmc row = record { floors = λ other ne. other_floor fuses Bmc other row ne; rows = λ type. same_row fuses Bmc row type; provision = refl; profile = refl }
-same_with_floor fuses Pch row = record { floors = λ other ne. other_floor fuses Pch other row ne; rows = λ type. same_row fuses Pch row type; provision = refl; profile = refl }
+same_with_floor fuses Bmc row = record { floors = λ other ne. other_floor fuses Bmc other row ne; rows = rows_by fuses (with_floor fuses Bmc row) refl refl refl refl; provision = refl; profile = refl }
+same_with_floor fuses Pch row = record { floors = λ other ne. other_floor fuses Pch other row ne; rows = rows_by fuses (with_floor fuses Pch row) refl refl refl refl; provision = refl; profile = refl }
 
 same_raised : (fuses : FusesState) (bank : Bank) (to : ℕ) → SameElse fuses bank (raised fuses bank to)
 same_raised fuses bank to = raised_cases (λ after. SameElse fuses bank after) fuses bank to (λ le. same_fuses fuses bank) (λ lt. same_with_floor fuses bank (with_cleared (floor_row fuses bank) (to - 1)))
@@ -397,10 +385,6 @@ other_row fuses BmcCapsule BmcCapsule row s ne = absurd (ne refl)
 other_row fuses BmcCapsule other row s ne = refl
 other_row fuses type other row s ne = absurd s
 
-by_bank : (old new : FusesState) → new.bmc_floor ≡ old.bmc_floor → new.pch_floor ≡ old.pch_floor → (bank : Bank) → floor_row new bank ≡ floor_row old bank
-by_bank old new bmc pch Bmc = bmc
-by_bank old new bmc pch Pch = pch
-
 record SameRest (fuses : FusesState) (type : ContentType) (row : List ℕ) : Type 0 where
   floors : (bank : Bank) → floor_row (with_row fuses type row) bank ≡ floor_row fuses bank
   provision : (with_row fuses type row).provision ≡ fuses.provision
@@ -408,10 +392,10 @@ record SameRest (fuses : FusesState) (type : ContentType) (row : List ℕ) : Typ
   again : (other : List ℕ) → with_row (with_row fuses type row) type other ≡ with_row fuses type other
 
 same_rest : (fuses : FusesState) (type : ContentType) (row : List ℕ) → IsSigning type → SameRest fuses type row
-same_rest fuses PchManifest row s = record { floors = by_bank fuses (with_row fuses PchManifest row) refl refl; provision = refl; profile = refl; again = λ other. refl }
-same_rest fuses PchCapsule row s = record { floors = by_bank fuses (with_row fuses PchCapsule row) refl refl; provision = refl; profile = refl; again = λ other. refl }
-same_rest fuses BmcManifest row s = record { floors = by_bank fuses (with_row fuses BmcManifest row) refl refl; provision = refl; profile = refl; again = λ other. refl }
-same_rest fuses BmcCapsule row s = record { floors = by_bank fuses (with_row fuses BmcCapsule row) refl refl; provision = refl; profile = refl; again = λ other. refl }
+same_rest fuses PchManifest row s = record { floors = floors_by fuses (with_row fuses PchManifest row) refl refl; provision = refl; profile = refl; again = λ other. refl }
+same_rest fuses PchCapsule row s = record { floors = floors_by fuses (with_row fuses PchCapsule row) refl refl; provision = refl; profile = refl; again = λ other. refl }
+same_rest fuses BmcManifest row s = record { floors = floors_by fuses (with_row fuses BmcManifest row) refl refl; provision = refl; profile = refl; again = λ other. refl }
+same_rest fuses BmcCapsule row s = record { floors = floors_by fuses (with_row fuses BmcCapsule row) refl refl; provision = refl; profile = refl; again = λ other. refl }
 same_rest fuses type row s = absurd s
 
 same_with_row : (fuses : FusesState) (type : ContentType) (row : List ℕ) → IsSigning type → SameButRow fuses type (with_row fuses type row)

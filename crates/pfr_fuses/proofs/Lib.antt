@@ -1,7 +1,6 @@
 pub mod FloorLemmas
 pub mod BlankLemmas
 pub mod StandsLemmas
-pub mod FrameLemmas
 pub mod GrowthLemmas
 pub mod StaysLemmas
 pub mod ExactLemmas

@@ -34,7 +34,7 @@ use Rattle.pfr_fuses.proofs.FillingLemmas.{program_ones, program_zero}
 use Rattle.pfr_fuses.proofs.GrowthLemmas.{done_now, on_either, on_err, on_ok_with, profile-outside, slots-outside, IsProvisionedBy-same, KeepsProvision-plan}
 use Rattle.pfr_fuses.proofs.RootSlotLemmas.{part_middle}
 use Rattle.pfr_fuses.proofs.StandsLemmas.{floor_narrow, row_narrow, floor_stands, row_stands, no_row_stands, fuses_of-found, fuses_of-ok}
-use Rattle.pfr_fuses.proofs.StaysLemmas.{floor_bits-outside, row_bits-outside, floor_fuses-outside, row_fuses-outside, FloorStands-same, RowStands-same}
+use Rattle.pfr_fuses.proofs.StaysLemmas.{floors_by, rows_by, floor_bits-outside, row_bits-outside, floor_fuses-outside, row_fuses-outside, FloorStands-same, RowStands-same}
 
 -- ---- parts of what is written
 record Parts (fuses : FusesState) (all : List ℕ) : Type 0 where
@@ -294,20 +294,9 @@ then_stands first fuses nv p stands h is = record {
   provisioned = IsProvisionedBy-same first nv stands.slot h.slots stands.provisioned;
   provision = stands.provision ∙ ap provision_in (sym (h.slots stands.slot stands.provisioned.within));
   profile = is;
-  floors = λ bank. FloorStands-same nv nv fuses (record fuses { profile = p }) bank (same_floor bank) (λ k. (λ b. b, λ b. b)) (h.floors bank);
-  rows = λ type. RowStands-same nv nv fuses (record fuses { profile = p }) type (same_row type) (λ k. (λ b. b, λ b. b)) (h.rows type);
+  floors = λ bank. FloorStands-same nv nv fuses (record fuses { profile = p }) bank (floors_by fuses (record fuses { profile = p }) refl refl bank) (λ k. (λ b. b, λ b. b)) (h.floors bank);
+  rows = λ type. RowStands-same nv nv fuses (record fuses { profile = p }) type (rows_by fuses (record fuses { profile = p }) refl refl refl refl type) (λ k. (λ b. b, λ b. b)) (h.rows type);
 }
-  where
-    same_floor : (bank : Bank) → floor_row (record fuses { profile = p }) bank ≡ floor_row fuses bank
-    same_floor Bmc = refl
-    same_floor Pch = refl
-
-    same_row : (type : ContentType) → row_of (record fuses { profile = p }) type ≡ row_of fuses type
-    same_row PchManifest = refl
-    same_row PchCapsule = refl
-    same_row BmcManifest = refl
-    same_row BmcCapsule = refl
-    same_row type = refl
 
 pub first_holds : (nv : List ℕ) (fuses : FusesState) → Stands nv fuses → Holds nv fuses nv
 first_holds nv fuses h = record {
