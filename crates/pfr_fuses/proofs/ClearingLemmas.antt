@@ -1,5 +1,5 @@
 -- What clearing one fuse of a store of profile 2 leaves: raising a floor, and cancelling a key.
-use Rattle.std.proofs.Common.{◌≡◌, ℕ, ◌≤◌, List, length, Result, sym, ap, ◌∙◌, subst, arith, inl, ◌+◌, ◌-◌, ◌<◌, max, true, false, [], Ok, OnOk, OnErr, refl, ◌⊎◌, inr}
+use Rattle.std.proofs.Common.{◌≡◌, ℕ, ◌≤◌, List, length, Result, sym, ap, ◌∙◌, subst, arith, inl, ◌+◌, ◌-◌, ◌<◌, max, true, false, [], Ok, OnOk, OnErr, refl, ◌⊎◌, inr, Bool, if◌then◌else◌}
 use Rattle.std.specs.Prelude.{◌↔◌, ◌≢◌, nat_le}
 use Rattle.std.proofs.lemmas.Bool.{cases_Bool, cases_eq, cases_lt}
 use Rattle.std.proofs.lemmas.Bool.Decides.{nat_tests}
@@ -101,16 +101,19 @@ leaves at width plan old new result size low within programs h =
     }
 
 -- ---- the plan of a floor
-pub raise_plan-none : (floor : ℕ) (bank : Bank) (to : ℕ) → to ≤ floor → raise_plan floor bank to ≡ []
-raise_plan-none floor bank to h = let test : nat_le to floor ≡ true = grind (arith, nat_tests) in rw test refl
+at_most_cases : (P : Bool → Type 0) (to floor : ℕ) → (to ≤ floor → P true) → (floor < to → P false) → P (nat_le to floor)
+at_most_cases P to floor low high = by_test (cases_Bool (nat_le to floor))
+  where
+    by_test : ((nat_le to floor ≡ true) ⊎ (nat_le to floor ≡ false)) → P (nat_le to floor)
+    by_test (inl test) = let le : to ≤ floor = grind (arith, nat_tests) in rw test (low le)
+    by_test (inr test) = let lt : floor < to = grind (arith, nat_tests) in rw test (high lt)
 
 -- a floor is raised or left
-pub raise_cases : (P : List Operation → Type 0) (floor : ℕ) (bank : Bank) (to : ℕ) → (to ≤ floor → P []) → (floor < to → P (clearing (floor_at Two bank) (to - 1))) → P (raise_plan floor bank to)
-raise_cases P floor bank to none some = by_test (cases_Bool (nat_le to floor))
-  where
-    by_test : ((nat_le to floor ≡ true) ⊎ (nat_le to floor ≡ false)) → P (raise_plan floor bank to)
-    by_test (inl low) = let le : to ≤ floor = grind (arith, nat_tests) in rw low (none le)
-    by_test (inr high) = let lt : floor < to = grind (arith, nat_tests) in rw high (some lt)
+raise_cases : (P : List Operation → Type 0) (floor : ℕ) (bank : Bank) (to : ℕ) → (to ≤ floor → P []) → (floor < to → P (clearing (floor_at Two bank) (to - 1))) → P (raise_plan floor bank to)
+raise_cases P floor bank to = at_most_cases (λ low. P (if low then [] else clearing (floor_at Two bank) (to - 1))) to floor
+
+pub raise_plan-none : (floor : ℕ) (bank : Bank) (to : ℕ) → to ≤ floor → raise_plan floor bank to ≡ []
+raise_plan-none floor bank to h = raise_cases (λ plan. plan ≡ []) floor bank to (λ le. refl) (λ lt. absurd (omega arith))
 
 pub raise-within : (floor : ℕ) (bank : Bank) (to : ℕ) → to ≤ 127 → AllWithin (floor_at Two bank) 16 (raise_plan floor bank to)
 raise-within floor bank to most = raise_cases (λ plan. AllWithin (floor_at Two bank) 16 plan) floor bank to (λ le. tt) (λ lt. clearing-within (floor_at Two bank) 16 (to - 1) (omega arith))
@@ -136,11 +139,7 @@ raise-whole image floor bank to size most =
 -- ---- what is kept
 pub raised_cases : (P : FusesState → Type 0) (fuses : FusesState) (bank : Bank) (to : ℕ) → (to ≤ floor_of fuses bank → P fuses)
     → (floor_of fuses bank < to → P (with_floor fuses bank (with_cleared (floor_row fuses bank) (to - 1)))) → P (raised fuses bank to)
-raised_cases P fuses bank to none some = by_test (cases_Bool (nat_le to (floor_of fuses bank)))
-  where
-    by_test : ((nat_le to (floor_of fuses bank) ≡ true) ⊎ (nat_le to (floor_of fuses bank) ≡ false)) → P (raised fuses bank to)
-    by_test (inl low) = let le : to ≤ floor_of fuses bank = grind (arith, nat_tests) in rw low (none le)
-    by_test (inr high) = let lt : floor_of fuses bank < to = grind (arith, nat_tests) in rw high (some lt)
+raised_cases P fuses bank to = at_most_cases (λ low. P (if low then fuses else with_floor fuses bank (with_cleared (floor_row fuses bank) (to - 1)))) to (floor_of fuses bank)
 
 record SameElse (fuses : FusesState) (bank : Bank) (after : FusesState) : Type 0 where
   floors : (other : Bank) → other ≢ bank → floor_row after other ≡ floor_row fuses other

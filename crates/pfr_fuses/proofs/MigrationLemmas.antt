@@ -53,18 +53,13 @@ parts_of fuses h =
     let d = fuses.pch_capsule in
     let e = fuses.bmc_manifest in
     let f = fuses.bmc_capsule in
-    let ha : length a ≡ 16 = h.bmc_floor in
-    let hb : length b ≡ 16 = h.pch_floor in
-    let hc : length c ≡ 32 = h.pch_manifest in
-    let hd : length d ≡ 32 = h.pch_capsule in
-    let he : length e ≡ 32 = h.bmc_manifest in
     record {
       bmc_floor = part_middle (migrated fuses) [] a (b ++ (c ++ (d ++ (e ++ f)))) 0 16 refl refl h.bmc_floor;
-      pch_floor = part_middle (migrated fuses) a b (c ++ (d ++ (e ++ f))) 16 16 refl ha h.pch_floor;
-      pch_manifest = part_middle (migrated fuses) (a ++ b) c (d ++ (e ++ f)) 32 32 (simp append_assoc) (simp length-append (omega arith)) h.pch_manifest;
-      pch_capsule = part_middle (migrated fuses) ((a ++ b) ++ c) d (e ++ f) 64 32 (simp append_assoc) (simp length-append (omega arith)) h.pch_capsule;
-      bmc_manifest = part_middle (migrated fuses) (((a ++ b) ++ c) ++ d) e f 96 32 (simp append_assoc) (simp length-append (omega arith)) h.bmc_manifest;
-      bmc_capsule = part_middle (migrated fuses) ((((a ++ b) ++ c) ++ d) ++ e) f [] 128 32 (simp (append_assoc, append-nil)) (simp length-append (omega arith)) h.bmc_capsule;
+      pch_floor = part_middle (migrated fuses) a b (c ++ (d ++ (e ++ f))) 16 16 refl h.bmc_floor h.pch_floor;
+      pch_manifest = part_middle (migrated fuses) (a ++ b) c (d ++ (e ++ f)) 32 32 (simp append_assoc) (simp length-append (omega (arith, h.bmc_floor, h.pch_floor))) h.pch_manifest;
+      pch_capsule = part_middle (migrated fuses) ((a ++ b) ++ c) d (e ++ f) 64 32 (simp append_assoc) (simp length-append (omega (arith, h.bmc_floor, h.pch_floor, h.pch_manifest))) h.pch_capsule;
+      bmc_manifest = part_middle (migrated fuses) (((a ++ b) ++ c) ++ d) e f 96 32 (simp append_assoc) (simp length-append (omega (arith, h.bmc_floor, h.pch_floor, h.pch_manifest, h.pch_capsule))) h.bmc_manifest;
+      bmc_capsule = part_middle (migrated fuses) ((((a ++ b) ++ c) ++ d) ++ e) f [] 128 32 (simp (append_assoc, append-nil)) (simp length-append (omega (arith, h.bmc_floor, h.pch_floor, h.pch_manifest, h.pch_capsule, h.bmc_manifest))) h.bmc_capsule;
     }
 
 length-migrated : (fuses : FusesState) → AreRows fuses → length (migrated fuses) ≡ 160
@@ -230,9 +225,6 @@ module _ (nv : List ℕ) (fuses : FusesState) (size : length nv ≡ 32768) (one 
   in_sector new same_size outside =
       holds_one nv fuses 0x7000 4096 nv new size same_size one (profile-outside 0x7000 4096 nv new (inl (omega arith)) outside ∙ one) (omega arith) outside start
 
-  erase_outside : SameOutside 0x7000 4096 nv (applied nv (Erase 7))
-  erase_outside = SameOutside-applied nv (Erase 7)
-
   erase_size : length (applied nv (Erase 7)) ≡ length nv
   erase_size = length-applied nv (Erase 7)
 
@@ -240,7 +232,7 @@ module _ (nv : List ℕ) (fuses : FusesState) (size : length nv ≡ 32768) (one 
   program_size = length-applied (applied nv (Erase 7)) (Program 0x7000 (migrated fuses)) ∙ erase_size
 
   wider : (new : List ℕ) → SameOutside 0x7000 (length (migrated fuses)) (applied nv (Erase 7)) new → SameOutside 0x7000 4096 nv new
-  wider new h = then_outside erase_outside
+  wider new h = then_outside (SameOutside-applied nv (Erase 7))
       (SameOutside-wider 0x7000 (length (migrated fuses)) 0x7000 4096 (applied nv (Erase 7)) new (omega arith) (omega (arith, length-migrated fuses rows)) h)
 
   program_outside : SameOutside 0x7000 4096 nv (applied (applied nv (Erase 7)) (Program 0x7000 (migrated fuses)))
@@ -264,7 +256,7 @@ module _ (nv : List ℕ) (fuses : FusesState) (size : length nv ≡ 32768) (one 
       part_step (Holds nv fuses) nv (Erase 7) (Program 0x7000 (migrated fuses) ∷ Program 0xA00 (0 ∷ []) ∷ []) added h start
       (λ done t. in_sector (applied nv done) (length-applied nv done) (SameOutside-torn nv (Erase 7) done t))
       (λ ops q. part_step (Holds nv fuses) (applied nv (Erase 7)) (Program 0x7000 (migrated fuses)) (Program 0xA00 (0 ∷ []) ∷ []) ops q
-      (in_sector (applied nv (Erase 7)) erase_size erase_outside)
+      (in_sector (applied nv (Erase 7)) erase_size (SameOutside-applied nv (Erase 7)))
       (λ done t. in_sector (applied (applied nv (Erase 7)) done) (length-applied (applied nv (Erase 7)) done ∙ erase_size)
       (wider (applied (applied nv (Erase 7)) done) (SameOutside-torn (applied nv (Erase 7)) (Program 0x7000 (migrated fuses)) done t)))
       (λ later r. part_step (Holds nv fuses) (applied (applied nv (Erase 7)) (Program 0x7000 (migrated fuses))) (Program 0xA00 (0 ∷ [])) [] later r program_holds
@@ -277,15 +269,6 @@ module _ (nv : List ℕ) (fuses : FusesState) (size : length nv ≡ 32768) (one 
   -- once all is done
   pub whole_two : profile_of (play nv (migration fuses)) ≡ Two
   whole_two = profile-gate-set (play nv (migration fuses)) (program_zero (applied (applied nv (Erase 7)) (Program 0x7000 (migrated fuses))) 0xA00 (omega (arith, program_size, size)))
-
-  pub whole_written : IsWritten fuses (play nv (migration fuses))
-  whole_written = record {
-    size = length-applied (applied (applied nv (Erase 7)) (Program 0x7000 (migrated fuses))) (Program 0xA00 (0 ∷ [])) ∙ program_size ∙ size;
-    rows = rows;
-    bytes = bytes_at-outside 0xA00 1 (applied (applied nv (Erase 7)) (Program 0x7000 (migrated fuses))) (play nv (migration fuses)) 0x7000 160
-        (SameOutside-applied (applied (applied nv (Erase 7)) (Program 0x7000 (migrated fuses))) (Program 0xA00 (0 ∷ [])))
-        (length-applied (applied (applied nv (Erase 7)) (Program 0x7000 (migrated fuses))) (Program 0xA00 (0 ∷ []))) (inr (omega arith)) (omega (arith, program_size, size)) ∙ program_written.bytes;
-  }
 
 -- ---- what follows for the store
 pub then_stands : (first : List ℕ) (fuses : FusesState) (nv : List ℕ) (p : Profile) → Stands first fuses → Holds first fuses nv → p ≡ profile_of nv → Stands nv (record fuses { profile = p })
@@ -401,13 +384,10 @@ module _ (old new : FlashState) (fuses after : FusesState) (result : Result (Uni
   migrate-ok ok = on_ok_with result done ok
       (λ is kept. subst (λ (k : FusesState). Stands (now new) k) (sym kept) (then_stands (now old) fuses (now new) Two stands last (sym (new_two is))))
 
-  says_now : fuses_of (now old) ≡ Ok fuses → Says (now new) fuses
-  says_now was = last.says was
-
   pub migrate-exact : OnOk result (after ≡ record fuses { profile = Two }) → OnOk result (fuses_of (now old) ≡ Ok fuses → fuses_of (now new) ≡ Ok after)
   migrate-exact ok = on_ok_with result done ok
-      (λ is kept was. says_now was ∙ ap (λ (p : Profile). Ok (record fuses { profile = p })) (new_two is) ∙ ap (λ (k : FusesState). Ok k) (sym kept))
+      (λ is kept was. last.says was ∙ ap (λ (p : Profile). Ok (record fuses { profile = p })) (new_two is) ∙ ap (λ (k : FusesState). Ok k) (sym kept))
 
   pub migrate-rest : OnOk result (after ≡ record fuses { profile = Two }) → OnErr result (after ≡ fuses) → fuses_of (now old) ≡ Ok fuses → fuses_of (now new) ≡ Ok (record after { profile = profile_of (now new) })
   migrate-rest ok err was = on_either result ok err
-      (λ is. subst (λ (kept : FusesState). Says (now new) kept) (sym is) (says_now was)) (λ is. subst (λ (kept : FusesState). Says (now new) kept) (sym is) (says_now was))
+      (λ is. subst (λ (kept : FusesState). Says (now new) kept) (sym is) (last.says was)) (λ is. subst (λ (kept : FusesState). Says (now new) kept) (sym is) (last.says was))
