@@ -8,7 +8,7 @@ use Rattle.pfr_flash.specs.FlashState.{FlashState, now, size_of}
 use Rattle.pfr_flash.specs.Losing.{OnlyLoses, AddsAtMost}
 use Rattle.pfr_flash.specs.Operation.{Operation, play}
 use Rattle.pfr_flash.specs.Plan.{Follows, IsPart}
-use Rattle.pfr_flash.specs.Range.{AllWithin, IsWithin, SameOutside}
+use Rattle.pfr_flash.specs.Range.{AllWithin, IsWithin}
 use Rattle.pfr_flash.specs.declared.flash.FlashFail.{FlashFail}
 use Rattle.pfr_flash.specs.declared.names.Bank.{Bank}
 use Rattle.pfr_flash.specs.declared.names.ContentType.{ContentType}
@@ -28,7 +28,7 @@ use Rattle.pfr_fuses.specs.declared.profile.Profile.{Profile}
 use Rattle.pfr_fuses.specs.declared.profile.Profile.TheVariants.{Two}
 use Rattle.pfr_fuses.specs.FusesState.{FusesState, floor_row, row_of, floor_of}
 use Rattle.pfr_fuses.specs.FusesOf.{FloorStands, floor_fuses, fuses_of, RowStands, row_fuses}
-use Rattle.pfr_fuses.specs.Changes.{Raises, SameProvision, StaysButFloor, raise_plan, raised, with_floor, Cancels, CancelsAtMost, StaysButRow, cancellation, with_cancelled, with_row}
+use Rattle.pfr_fuses.specs.Changes.{Raises, StaysButFloor, raise_plan, raised, with_floor, Cancels, CancelsAtMost, StaysButRow, cancellation, with_cancelled, with_row}
 use Rattle.pfr_fuses.specs.FuseRows.{keys_of_rows, with_keys}
 use Rattle.pfr_fuses.specs.declared.root_slot.RootSlot.{RootSlot}
 use Rattle.pfr_fuses.specs.declared.fuse_rows.Floors.{Floors}

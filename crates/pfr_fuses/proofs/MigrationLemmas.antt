@@ -1,8 +1,7 @@
 -- What a migration leaves, whole or cut short.
-use Rattle.std.proofs.Common.{◌≡◌, ℕ, ◌+◌, ◌≤◌, ◌<◌, List, [], ◌∷◌, ◌++◌, length, get_or, take, Result, Ok, OnOk, OnErr, refl, sym, ap, ◌∙◌, subst, arith, bit_and, append_assoc, length-append, ◌⊎◌, inl, inr}
-use Rattle.std.specs.Int.Bits.{and_zero_r}
-use Rattle.std.proofs.lemmas.List.{ext_get_or, drop_at, take_at, append-nil}
-use Rattle.pfr_flash.specs.Bytes.{blank, bytes_at, written, and_bytes, continued}
+use Rattle.std.proofs.Common.{◌≡◌, ℕ, ◌+◌, ◌≤◌, ◌<◌, List, [], ◌∷◌, ◌++◌, length, get_or, Result, Ok, OnOk, OnErr, refl, sym, ap, ◌∙◌, subst, arith, append_assoc, length-append, ◌⊎◌, inl, inr}
+use Rattle.std.proofs.lemmas.List.{append-nil}
+use Rattle.pfr_flash.specs.Bytes.{blank, bytes_at, written, continued}
 use Rattle.pfr_flash.specs.FlashState.{FlashState, now, upto, size_of, op_count_of}
 use Rattle.pfr_flash.specs.Losing.{AddsAtMost, OnlyLoses}
 use Rattle.pfr_flash.specs.Operation.{Operation, Erase, Program, applied, play, IsTorn}
@@ -13,17 +12,16 @@ use Rattle.pfr_flash.specs.declared.names.Bank.TheVariants.{Bmc, Pch}
 use Rattle.pfr_flash.specs.declared.names.ContentType.{ContentType}
 use Rattle.pfr_flash.specs.declared.names.ContentType.TheVariants.{PchManifest, PchCapsule, BmcManifest, BmcCapsule}
 use Rattle.pfr_flash.specs.declared.flash.FlashFail.{FlashFail}
-use Rattle.pfr_flash.proofs.BytesLemmas.{length-blank, get_or-blank, get_or-written_inside, length-bytes_at, get_or-bytes_at, bytes_at-written, and_bytes-ones, continued-whole}
+use Rattle.pfr_flash.proofs.BytesLemmas.{length-blank, get_or-blank, get_or-written_inside, continued-whole}
 use Rattle.pfr_flash.proofs.CutLemmas.{part_step, part_end, at_each, AddsAtMost-plan}
 use Rattle.pfr_flash.proofs.FollowsLemmas.{DoesPart-now}
-use Rattle.pfr_flash.proofs.FuseLemmas.{applied-byte}
 use Rattle.pfr_flash.proofs.LosingLemmas.{OnlyLoses-plan}
 use Rattle.pfr_flash.proofs.PartsLemmas.{part_of}
 use Rattle.pfr_flash.proofs.PlayLemmas.{length-applied}
 use Rattle.pfr_flash.proofs.RangeLemmas.{SameOutside-applied, SameOutside-torn, SameOutside-wider, then_outside, bytes_at-outside, length-now, IsTorn-within}
 use Rattle.pfr_fuses.specs.RootSlot.{provision_in}
 use Rattle.pfr_fuses.specs.Slots.{IsProvisionedBy, slot_at}
-use Rattle.pfr_fuses.specs.FuseMap.{IsSigning, IsCancelBit, profile_of, floor_at, floor_width, row_at, row_width}
+use Rattle.pfr_fuses.specs.FuseMap.{IsSigning, profile_of, floor_at, floor_width, row_at, row_width}
 use Rattle.pfr_fuses.specs.FusesState.{FusesState, floor_row, row_of}
 use Rattle.pfr_fuses.specs.FusesOf.{Stands, FloorStands, RowStands, floor_fuses, row_fuses, fuses_with, fuses_of}
 use Rattle.pfr_fuses.specs.Changes.{AreRows, IsMigrating, migrated, migration}

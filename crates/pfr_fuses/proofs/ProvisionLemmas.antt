@@ -1,11 +1,10 @@
 -- What a provision leaves, whole or cut short.
-use Rattle.std.proofs.Common.{◌≡◌, ℕ, zero, suc, ◌+◌, ◌-◌, ◌*◌, ◌≤◌, ◌<◌, true, false, List, [], ◌∷◌, length, length-append, take, get_or, Option, Some, None, Result, Ok, Err, OnOk, IfErr, refl, sym, ap, ◌∙◌, subst, arith, bit_and, ◌⊎◌, inl, inr}
+use Rattle.std.proofs.Common.{◌≡◌, ℕ, zero, suc, ◌+◌, ◌-◌, ◌*◌, ◌≤◌, ◌<◌, true, false, List, [], ◌∷◌, length, length-append, take, get_or, Option, Some, None, Result, Ok, Err, OnOk, IfErr, refl, sym, ap, ◌∙◌, subst, arith, ◌⊎◌, inl, inr}
 use Rattle.std.specs.Prelude.{◌≢◌, MatchOption}
-use Rattle.std.specs.Int.Bits.{and_zero_r}
 use Rattle.std.proofs.lemmas.Bool.{cases_Bool, cases_eq, cases_lt}
 use Rattle.std.proofs.lemmas.Bool.Decides.{not_from_Decides}
 use Rattle.std.proofs.lemmas.List.{ext_get_or, append-nil}
-use Rattle.pfr_flash.specs.Bytes.{bytes_at, written, and_bytes}
+use Rattle.pfr_flash.specs.Bytes.{bytes_at}
 use Rattle.pfr_flash.specs.FlashState.{FlashState, now, upto, size_of, op_count_of}
 use Rattle.pfr_flash.specs.Answer.{Answers}
 use Rattle.pfr_flash.specs.Losing.{AddsAtMost, OnlyLoses}
@@ -19,11 +18,10 @@ use Rattle.pfr_flash.specs.declared.names.Bank.TheVariants.{Bmc, Pch}
 use Rattle.pfr_flash.specs.declared.names.ContentType.{ContentType}
 use Rattle.pfr_flash.specs.declared.names.ContentType.TheVariants.{PchManifest, PchCapsule, BmcManifest, BmcCapsule}
 use Rattle.pfr_flash.specs.declared.flash.FlashFail.{FlashFail}
-use Rattle.pfr_flash.proofs.BytesLemmas.{length-bytes_at, get_or-bytes_at, bytes_at-written, and_bytes-ones, get_or-written_inside}
+use Rattle.pfr_flash.proofs.BytesLemmas.{length-bytes_at, get_or-bytes_at}
 use Rattle.pfr_flash.proofs.CutLemmas.{AllPrograms, part_step, part_end, part_length, AddsAtMost-plan}
-use Rattle.pfr_flash.proofs.EndsLemmas.{ends_reads, ends_content, ends_fails}
+use Rattle.pfr_flash.proofs.EndsLemmas.{ends_reads, ends_content}
 use Rattle.pfr_flash.proofs.FollowsLemmas.{FailsWorking-reading, Follows-reads, Follows-then, Follows-first, Follows-now, DoesPart-now}
-use Rattle.pfr_flash.proofs.FuseLemmas.{applied-byte}
 use Rattle.pfr_flash.proofs.LosingLemmas.{AllLose-programs, OnlyLoses-plan}
 use Rattle.pfr_flash.proofs.PartsLemmas.{part_of}
 use Rattle.pfr_flash.proofs.PlayLemmas.{length-applied}
