@@ -36,9 +36,9 @@ pub choose_after-unset : (seen : Bool) (slot : List ℕ) (slots : List (List ℕ
 choose_after-unset true slot slots h = rw h refl
 choose_after-unset false slot slots h = rw h refl
 
--- the slots that are left of eight
-pub slots_left : (nv : List ℕ) (number : ℕ) → number < 8 → slots_from nv number (8 - number) ≡ slot_at nv number ∷ slots_from nv (number + 1) (8 - (number + 1))
-slots_left nv number h = let e : 8 - number ≡ suc (8 - (number + 1)) = omega arith in rw e refl
+-- one is left, and the others
+left : (number : ℕ) → number < 8 → 8 - number ≡ suc (8 - (number + 1))
+left number h = omega arith
 
 -- a step of the search that finds the slot, and one that goes on
 pub search_ends : (store image slot : List ℕ) (number : ℕ) (seen : Bool) → number < 8 → image ≡ store → slot ≡ bytes_at image (256 * number) 256 → true ≡ is_set slot
@@ -46,7 +46,7 @@ pub search_ends : (store image slot : List ℕ) (number : ℕ) (seen : Bool) →
 search_ends store image slot number seen below same read set h =
     let e : slot ≡ slot_at store number = read ∙ ap (λ (xs : List ℕ). slot_at xs number) same in
     let gate : is_set (slot_at store number) ≡ true = ap is_set (sym e) ∙ sym set in
-    sym h ∙ ap (choose_after seen) (slots_left store number below) ∙ choose_after-set seen (slot_at store number) (slots_from store (number + 1) (8 - (number + 1))) gate ∙ ap (λ (xs : List ℕ). Ok xs) (sym e)
+    sym h ∙ ap (λ (count : ℕ). choose_after seen (slots_from store number count)) (left number below) ∙ choose_after-set seen (slot_at store number) (slots_from store (number + 1) (8 - (number + 1))) gate ∙ ap (λ (xs : List ℕ). Ok xs) (sym e)
 
 pub search_goes_on : (store image slot : List ℕ) (number : ℕ) (seen blank : Bool) → number < 8 → image ≡ store → slot ≡ bytes_at image (256 * number) 256 → false ≡ is_set slot → blank ≡ is_blank slot
     → choose_after seen (slots_from store number (8 - number)) ≡ provisioned_slot store
@@ -57,7 +57,7 @@ search_goes_on store image slot number seen blank below same read unset test h =
     let same_test : blank ≡ is_blank (slot_at store number) = test ∙ ap is_blank e in
     ap (λ (b : Bool). choose_after (seen || b) (slots_from store (number + 1) (8 - (number + 1)))) same_test
     ∙ sym (choose_after-unset seen (slot_at store number) (slots_from store (number + 1) (8 - (number + 1))) gate)
-    ∙ sym (ap (choose_after seen) (slots_left store number below)) ∙ h
+    ∙ sym (ap (λ (count : ℕ). choose_after seen (slots_from store number count)) (left number below)) ∙ h
 
 -- ---- the law
 -- of so many slots from one on, the number of the first that a test finds
@@ -155,12 +155,6 @@ test_false false P d none = refl
 tests_unset : (nv : List ℕ) → IsUnset nv → (k : ℕ) → k < 8 → is_set (slot_at nv k) ≡ false
 tests_unset nv h k below = test_false (is_set (slot_at nv k)) (IsSet (slot_at nv k)) (Decides-is_set (slot_at nv k)) (h.gates k below)
 
-pub any_set : (nv : List ℕ) (k : ℕ) → IsProvisionedBy nv k → list_any is_set (slots_from nv 0 8) ≡ true
-any_set nv k h = any_some is_set nv k h.within ((Decides-is_set (slot_at nv k)).1 h.gate)
-
-pub none_set : (nv : List ℕ) → IsUnset nv → list_any is_set (slots_from nv 0 8) ≡ false
-none_set nv h = any_none is_set nv (tests_unset nv h)
-
 -- a store is provisioned by a slot, or none has its gate set
 pub provisioned_or_unset : (nv : List ℕ) → ((k : ℕ) × IsProvisionedBy nv k) ⊎ IsUnset nv
 provisioned_or_unset nv = by_found (number_from is_set nv 0 8) (finds is_set nv 0 8)
@@ -237,9 +231,6 @@ after_unset found nv number count h =
     rw h (ap (λ (blank : Option ℕ). if list_any is_set (slots_from nv (number + 1) count) then Err AlreadyProvisioned else Ok blank)
     (found_then found (is_blank (slot_at nv number)) number (blank_from nv (number + 1) count)))
 
-left : (number : ℕ) → number < 8 → 8 - number ≡ suc (8 - (number + 1))
-left number h = omega arith
-
 pub judge_ends : (store image slot : List ℕ) (number : ℕ) (found : Option ℕ) → number < 8 → image ≡ store → slot ≡ bytes_at image (256 * number) 256 → true ≡ is_set slot
     → judge_after found store number (8 - number) ≡ judge_slots store → judge_slots store ≡ Err AlreadyProvisioned
 judge_ends store image slot number found below same read set h =
@@ -270,8 +261,8 @@ unfolding judge_slots
 slots_judged P nv some none = by_search (provisioned_or_unset nv)
   where
     by_search : (((k : ℕ) × IsProvisionedBy nv k) ⊎ IsUnset nv) → P (if list_any is_set (slots_from nv 0 8) then Err AlreadyProvisioned else Ok (blank_from nv 0 8))
-    by_search (inl found) = rw (any_set nv found.0 found.1) (some found.0 found.1)
-    by_search (inr unset) = rw (none_set nv unset) (none unset (subst (FoundBlank nv) (sym (blank_number nv 0 8)) (found_blank nv)))
+    by_search (inl found) = rw (any_some is_set nv found.0 found.1.within ((Decides-is_set (slot_at nv found.0)).1 found.1.gate)) (some found.0 found.1)
+    by_search (inr unset) = rw (any_none is_set nv (tests_unset nv unset)) (none unset (subst (FoundBlank nv) (sym (blank_number nv 0 8)) (found_blank nv)))
 
 abbrev choose : Result (Unit {0}) LayoutRule → Result (Unit {0}) LayoutRule → Option ℕ → Result ℕ FuseFail
 choose bmc pch blank = told_as (LayoutBad Bmc) bmc >>= λ _. (told_as (LayoutBad Pch) pch >>= λ _. known SlotsSpent blank)

@@ -274,14 +274,10 @@ module _ (bank : Bank) (to : ℕ) (old new : FlashState) (fuses after : FusesSta
   raise-count = AddsAtMost-plan 1 (raise_plan (floor_of fuses bank) bank to) old new follows.part
       (raise_cases (λ plan. length plan ≤ 1) (floor_of fuses bank) bank to (λ le. omega arith) (λ lt. omega arith))
 
-  stays_kept : after ≡ fuses → StaysButFloor bank (now old) fuses (now new) after
-  stays_kept e = stays_but bank (now old) (now new) fuses after raise-changed (subst (λ (kept : FusesState). SameElse fuses bank kept) (sym e) (same_fuses fuses bank))
-
-  stays_raised : after ≡ raised fuses bank to → StaysButFloor bank (now old) fuses (now new) after
-  stays_raised e = stays_but bank (now old) (now new) fuses after raise-changed (subst (λ (kept : FusesState). SameElse fuses bank kept) (sym e) (same_raised fuses bank to))
-
   pub raise-stays : OnOk result (after ≡ raised fuses bank to) → OnErr result (after ≡ fuses) → StaysButFloor bank (now old) fuses (now new) after
-  raise-stays ok err = on_either result ok err stays_raised stays_kept
+  raise-stays ok err = on_either result ok err
+      (λ e. stays_but bank (now old) (now new) fuses after raise-changed (subst (λ (kept : FusesState). SameElse fuses bank kept) (sym e) (same_raised fuses bank to)))
+      (λ e. stays_but bank (now old) (now new) fuses after raise-changed (subst (λ (kept : FusesState). SameElse fuses bank kept) (sym e) (same_fuses fuses bank)))
 
   done : OnOk result (now new ≡ play (now old) (raise_plan (floor_of fuses bank) bank to))
   done = done_now (raise_plan (floor_of fuses bank) bank to) old new result follows

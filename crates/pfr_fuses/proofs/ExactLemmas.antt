@@ -86,16 +86,13 @@ floor_same {from} {len} {old} {new} bank h apart = floor_fuses-outside from len 
 row_same : {from len : ℕ} {old new : List ℕ} (type : ContentType) → ChangedAt from len old new → AreOutside from len (row_at Two type) 32 → row_fuses new type ≡ row_fuses old type
 row_same {from} {len} {old} {new} type h apart = row_fuses-outside from len old new type h.size h.same_size h.store.profile (rw h.two apart) h.outside
 
+row_behind : {old new : List ℕ} (bank : Bank) (type : ContentType) → ChangedAt (floor_at Two bank) 16 old new → IsSigning type → row_fuses new type ≡ row_fuses old type
+row_behind bank type h signing = row_same type h (inr (row_behind_floors bank type signing))
+
 but_floor : (bank : Bank) (old new : List ℕ) (number : ℕ) → ChangedAt (floor_at Two bank) 16 old new → number < 8
     → fuses_with new (slot_at new number) ≡ with_floor (fuses_with old (slot_at old number)) bank (floor_fuses new bank)
-but_floor bank old new number h below = by_bank bank h
-  where
-    row : (bank : Bank) (type : ContentType) → ChangedAt (floor_at Two bank) 16 old new → IsSigning type → row_fuses new type ≡ row_fuses old type
-    row bank type h signing = row_same type h (inr (row_behind_floors bank type signing))
-
-    by_bank : (bank : Bank) → ChangedAt (floor_at Two bank) 16 old new → fuses_with new (slot_at new number) ≡ with_floor (fuses_with old (slot_at old number)) bank (floor_fuses new bank)
-    by_bank Bmc h = rw (h.store.slots number below, h.store.profile, floor_same Pch h (inr (omega arith)), row Bmc PchManifest h tt, row Bmc PchCapsule h tt, row Bmc BmcManifest h tt, row Bmc BmcCapsule h tt) refl
-    by_bank Pch h = rw (h.store.slots number below, h.store.profile, floor_same Bmc h (inl (omega arith)), row Pch PchManifest h tt, row Pch PchCapsule h tt, row Pch BmcManifest h tt, row Pch BmcCapsule h tt) refl
+but_floor Bmc old new number h below = rw (h.store.slots number below, h.store.profile, floor_same Pch h (inr (omega arith)), row_behind Bmc PchManifest h tt, row_behind Bmc PchCapsule h tt, row_behind Bmc BmcManifest h tt, row_behind Bmc BmcCapsule h tt) refl
+but_floor Pch old new number h below = rw (h.store.slots number below, h.store.profile, floor_same Bmc h (inl (omega arith)), row_behind Pch PchManifest h tt, row_behind Pch PchCapsule h tt, row_behind Pch BmcManifest h tt, row_behind Pch BmcCapsule h tt) refl
 
 -- what the store says, but for a bank's floor
 pub fuses_of-but_floor : (bank : Bank) (old new : List ℕ) (fuses : FusesState) → ChangedAt (floor_at Two bank) 16 old new → fuses_of old ≡ Ok fuses
