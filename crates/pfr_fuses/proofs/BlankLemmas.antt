@@ -1,22 +1,218 @@
--- The search for the first blank slot, and what is judged of a provision.
-use Rattle.std.proofs.Common.{◌≡◌, ℕ, zero, suc, ◌+◌, ◌-◌, ◌*◌, ◌≤◌, ◌<◌, Bool, true, false, if◌then◌else◌, List, ◌∷◌, Option, Some, None, Result, Ok, Err, refl, sym, ap, ◌∙◌, subst, arith, ◌⊎◌, inl, inr}
-use Rattle.std.specs.List.{list_any}
-use Rattle.std.proofs.lemmas.Bool.{cases_Bool, cases_lt}
-use Rattle.std.proofs.lemmas.Bool.Decides.{not_from_Decides}
+-- The searches for the slot that provisions the platform and for the first blank one, and what is judged of a provision.
+use Rattle.std.proofs.Common.{◌≡◌, ℕ, zero, suc, ◌+◌, ◌-◌, ◌*◌, ◌≤◌, ◌<◌, Bool, true, false, ◌||◌, if◌then◌else◌, List, ◌∷◌, Option, Some, None, Result, Ok, Err, refl, sym, ap, ◌∙◌, subst, arith, ◌⊎◌, inl, inr, slice_index}
+use Rattle.std.specs.Prelude.{◌≢◌, ◌==◌}
+use Rattle.std.specs.Bool.{Decides}
+use Rattle.std.specs.List.{find, list_any}
+use Rattle.std.proofs.lemmas.Bool.{cases_eq, false≢true}
+use Rattle.std.proofs.lemmas.Bool.Decides.{Decides-eqb, Decides-not, Decides-by_and, not_from_Decides}
 use Rattle.pfr_flash.specs.Bytes.{bytes_at}
+use Rattle.pfr_flash.specs.Judging.{known, told_as, ◌>>=◌}
 use Rattle.pfr_flash.specs.Layout.{judge_layout}
 use Rattle.pfr_flash.specs.declared.layout.LayoutRule.{LayoutRule}
 use Rattle.pfr_flash.specs.declared.names.Bank.TheVariants.{Bmc, Pch}
 use Rattle.pfr_flash.proofs.LayoutLemmas.{judged_valid, valid_judged}
-use Rattle.pfr_flash.specs.Judging.{known, ◌>>=◌}
-use Rattle.pfr_fuses.specs.Slots.{IsSet, IsBlank, IsProvisionedBy, IsUnset, HasBlank, slot_at, slots_from, is_set, is_blank}
-use Rattle.pfr_fuses.specs.Provisioning.{IsFirstBlank, IsProvisionable, IsBarred, blank_from, found_first, judge_slots, judge_places, judge_provision, layout_judged}
-use Rattle.pfr_fuses.specs.declared.root_slot.RootSlot.{RootSlot}
+use Rattle.pfr_fuses.specs.Slots.{IsSet, IsBlank, IsProvisionedBy, IsUnset, HasBlank, slot_at, is_set, is_blank, slots_from, choose_slot, provisioned_slot}
+use Rattle.pfr_fuses.specs.Provisioning.{IsFirstBlank, IsProvisionable, IsBarred, blank_from, found_first, judge_slots, judge_places, judge_provision}
 use Rattle.pfr_fuses.specs.declared.fuse_fail.FuseFail.{FuseFail}
 use Rattle.pfr_fuses.specs.declared.fuse_fail.FuseFail.TheVariants.{NotProvisioned, SlotsSpent, AlreadyProvisioned, LayoutBad, Flash}
-use Rattle.pfr_fuses.proofs.SlotLemmas.{Decides-is_set, Decides-is_blank, provisioned_or_unset}
+use Rattle.pfr_fuses.specs.declared.root_slot.RootSlot.{RootSlot}
 
--- ---- a slot at a time
+-- ---- what the tests decide
+pub Decides-is_set : (slot : List ℕ) → Decides (is_set slot) (IsSet slot)
+Decides-is_set slot = Decides-not (slice_index slot 255 == 255) (Decides-eqb (slice_index slot 255) 255)
+
+pub Decides-is_blank : (slot : List ℕ) → Decides (is_blank slot) (IsBlank slot)
+Decides-is_blank slot = Decides-by_and (λ byte. byte == 255) (λ byte. byte ≡ 255) is_blank (λ byte. Decides-eqb byte 255) refl (λ _ _. refl) slot
+
+-- ---- the search, a slot at a time
+-- the choice among the slots that are left, when a blank one was seen or not
+abbrev pub choose_after : Bool → List (List ℕ) → Result (List ℕ) FuseFail
+choose_after seen slots = known (if seen || list_any is_blank slots then NotProvisioned else SlotsSpent) (find is_set slots)
+
+pub choose_after-set : (seen : Bool) (slot : List ℕ) (slots : List (List ℕ)) → is_set slot ≡ true → choose_after seen (slot ∷ slots) ≡ Ok slot
+choose_after-set seen slot slots h = rw h refl
+
+pub choose_after-unset : (seen : Bool) (slot : List ℕ) (slots : List (List ℕ)) → is_set slot ≡ false → choose_after seen (slot ∷ slots) ≡ choose_after (seen || is_blank slot) slots
+choose_after-unset true slot slots h = rw h refl
+choose_after-unset false slot slots h = rw h refl
+
+-- one is left, and the others
+left : (number : ℕ) → number < 8 → 8 - number ≡ suc (8 - (number + 1))
+left number h = omega arith
+
+-- a step of the search that finds the slot, and one that goes on
+pub search_ends : (store image slot : List ℕ) (number : ℕ) (seen : Bool) → number < 8 → image ≡ store → slot ≡ bytes_at image (256 * number) 256 → true ≡ is_set slot
+    → choose_after seen (slots_from store number (8 - number)) ≡ provisioned_slot store → provisioned_slot store ≡ Ok slot
+search_ends store image slot number seen below same read set h =
+    let e : slot ≡ slot_at store number = read ∙ ap (λ (xs : List ℕ). slot_at xs number) same in
+    let gate : is_set (slot_at store number) ≡ true = ap is_set (sym e) ∙ sym set in
+    sym h ∙ ap (λ (count : ℕ). choose_after seen (slots_from store number count)) (left number below) ∙ choose_after-set seen (slot_at store number) (slots_from store (number + 1) (8 - (number + 1))) gate ∙ ap (λ (xs : List ℕ). Ok xs) (sym e)
+
+pub search_goes_on : (store image slot : List ℕ) (number : ℕ) (seen blank : Bool) → number < 8 → image ≡ store → slot ≡ bytes_at image (256 * number) 256 → false ≡ is_set slot → blank ≡ is_blank slot
+    → choose_after seen (slots_from store number (8 - number)) ≡ provisioned_slot store
+    → choose_after (seen || blank) (slots_from store (number + 1) (8 - (number + 1))) ≡ provisioned_slot store
+search_goes_on store image slot number seen blank below same read unset test h =
+    let e : slot ≡ slot_at store number = read ∙ ap (λ (xs : List ℕ). slot_at xs number) same in
+    let gate : is_set (slot_at store number) ≡ false = ap is_set (sym e) ∙ sym unset in
+    let same_test : blank ≡ is_blank (slot_at store number) = test ∙ ap is_blank e in
+    ap (λ (b : Bool). choose_after (seen || b) (slots_from store (number + 1) (8 - (number + 1)))) same_test
+    ∙ sym (choose_after-unset seen (slot_at store number) (slots_from store (number + 1) (8 - (number + 1))) gate)
+    ∙ sym (ap (λ (count : ℕ). choose_after seen (slots_from store number count)) (left number below)) ∙ h
+
+-- ---- the law
+-- of so many slots from one on, the number of the first that a test finds
+abbrev pub number_from : (List ℕ → Bool) → List ℕ → ℕ → ℕ → Option ℕ
+number_from test nv from zero = None
+number_from test nv from (suc count) = if test (slot_at nv from) then Some from else number_from test nv (from + 1) count
+
+record IsFound (test : List ℕ → Bool) (nv : List ℕ) (from count k : ℕ) : Type 0 where
+  low : from ≤ k
+  high : k < from + count
+  here : test (slot_at nv k) ≡ true
+  before : (j : ℕ) → from ≤ j → j < k → test (slot_at nv j) ≡ false
+
+abbrev Finds : (List ℕ → Bool) → List ℕ → ℕ → ℕ → Option ℕ → Type 0
+Finds test nv from count (Some k) = IsFound test nv from count k
+Finds test nv from count None = (j : ℕ) → from ≤ j → j < from + count → test (slot_at nv j) ≡ false
+
+finds : (test : List ℕ → Bool) (nv : List ℕ) (from count : ℕ) → Finds test nv from count (number_from test nv from count)
+finds test nv from zero = λ j low below. absurd (omega arith)
+finds test nv from (suc count) = by_test (test (slot_at nv from)) refl (number_from test nv (from + 1) count) (finds test nv (from + 1) count)
+  where
+    next : (k : ℕ) → test (slot_at nv from) ≡ false → ((j : ℕ) → from + 1 ≤ j → j < k → test (slot_at nv j) ≡ false) → (j : ℕ) → from ≤ j → j < k → test (slot_at nv j) ≡ false
+    next k here rest j low below = by_place (cases_eq j from)
+      where
+        by_place : ((j ≡ from) ⊎ (j ≢ from)) → test (slot_at nv j) ≡ false
+        by_place (inl same) = rw same here
+        by_place (inr other) = rest j (omega (arith, other)) below
+
+    by_test : (b : Bool) → test (slot_at nv from) ≡ b → (r : Option ℕ) → Finds test nv (from + 1) count r → Finds test nv from (suc count) (if b then Some from else r)
+    by_test true here r h = record { low = omega arith; high = omega arith; here = here; before = λ j low below. absurd (omega arith) }
+    by_test false here (Some k) h = record { low = omega (arith, h.low); high = omega (arith, h.high); here = h.here; before = next k here h.before }
+    by_test false here None h = next (from + suc count) here (λ j low below. h j low (omega arith))
+
+-- which number it is, where one is the first or none is found
+number-first : (test : List ℕ → Bool) (nv : List ℕ) (k : ℕ) → k < 8 → test (slot_at nv k) ≡ true → ((j : ℕ) → j < k → test (slot_at nv j) ≡ false) → number_from test nv 0 8 ≡ Some k
+number-first test nv k below here before = by_found (number_from test nv 0 8) (finds test nv 0 8)
+  where
+    by_found : (r : Option ℕ) → Finds test nv 0 8 r → r ≡ Some k
+    by_found None h = absurd (false≢true (sym (h k (omega arith) (omega arith)) ∙ here))
+    by_found (Some j) h =
+        let not_below : ¬ (j < k) = λ (q : j < k). false≢true (sym (before j q) ∙ h.here) in
+        let not_above : ¬ (k < j) = λ (q : k < j). false≢true (sym (h.before k (omega arith) q) ∙ here) in
+        let same : j ≡ k = omega (arith, not_below, not_above) in
+        ap (λ (n : ℕ). Some n) same
+
+number-none : (test : List ℕ → Bool) (nv : List ℕ) → ((j : ℕ) → j < 8 → test (slot_at nv j) ≡ false) → number_from test nv 0 8 ≡ None
+number-none test nv none = by_found (number_from test nv 0 8) (finds test nv 0 8)
+  where
+    by_found : (r : Option ℕ) → Finds test nv 0 8 r → r ≡ None
+    by_found None h = refl
+    by_found (Some j) h = absurd (false≢true (sym (none j (omega (arith, h.high))) ∙ h.here))
+
+-- what other searches find
+abbrev slot_numbered : List ℕ → Option ℕ → Option (List ℕ)
+slot_numbered nv (Some k) = Some (slot_at nv k)
+slot_numbered nv None = None
+
+find_number : (test : List ℕ → Bool) (nv : List ℕ) (from count : ℕ) → find test (slots_from nv from count) ≡ slot_numbered nv (number_from test nv from count)
+find_number test nv from zero = refl
+find_number test nv from (suc count) = by_test (test (slot_at nv from)) (find_number test nv (from + 1) count)
+  where
+    by_test : (b : Bool) → find test (slots_from nv (from + 1) count) ≡ slot_numbered nv (number_from test nv (from + 1) count)
+        → (if b then Some (slot_at nv from) else find test (slots_from nv (from + 1) count)) ≡ slot_numbered nv (if b then Some from else number_from test nv (from + 1) count)
+    by_test true rest = refl
+    by_test false rest = rest
+
+abbrev is_numbered : Option ℕ → Bool
+is_numbered (Some k) = true
+is_numbered None = false
+
+any_number : (test : List ℕ → Bool) (nv : List ℕ) (from count : ℕ) → list_any test (slots_from nv from count) ≡ is_numbered (number_from test nv from count)
+any_number test nv from zero = refl
+any_number test nv from (suc count) = by_test (test (slot_at nv from)) (any_number test nv (from + 1) count)
+  where
+    by_test : (b : Bool) → list_any test (slots_from nv (from + 1) count) ≡ is_numbered (number_from test nv (from + 1) count)
+        → (b || list_any test (slots_from nv (from + 1) count)) ≡ is_numbered (if b then Some from else number_from test nv (from + 1) count)
+    by_test true rest = refl
+    by_test false rest = rest
+
+any_some : (test : List ℕ → Bool) (nv : List ℕ) (k : ℕ) → k < 8 → test (slot_at nv k) ≡ true → list_any test (slots_from nv 0 8) ≡ true
+any_some test nv k below here = any_number test nv 0 8 ∙ by_found (number_from test nv 0 8) (finds test nv 0 8)
+  where
+    by_found : (r : Option ℕ) → Finds test nv 0 8 r → is_numbered r ≡ true
+    by_found None h = absurd (false≢true (sym (h k (omega arith) (omega arith)) ∙ here))
+    by_found (Some j) h = refl
+
+any_none : (test : List ℕ → Bool) (nv : List ℕ) → ((j : ℕ) → j < 8 → test (slot_at nv j) ≡ false) → list_any test (slots_from nv 0 8) ≡ false
+any_none test nv none = any_number test nv 0 8 ∙ ap is_numbered (number-none test nv none)
+
+-- ---- what it says of gates and of blank slots
+test_false : (b : Bool) (P : Type 0) → Decides b P → ¬ P → b ≡ false
+test_false true P d none = absurd (none (d.0 refl))
+test_false false P d none = refl
+
+tests_unset : (nv : List ℕ) → IsUnset nv → (k : ℕ) → k < 8 → is_set (slot_at nv k) ≡ false
+tests_unset nv h k below = test_false (is_set (slot_at nv k)) (IsSet (slot_at nv k)) (Decides-is_set (slot_at nv k)) (h.gates k below)
+
+-- a store is provisioned by a slot, or none has its gate set
+pub provisioned_or_unset : (nv : List ℕ) → ((k : ℕ) × IsProvisionedBy nv k) ⊎ IsUnset nv
+provisioned_or_unset nv = by_found (number_from is_set nv 0 8) (finds is_set nv 0 8)
+  where
+    not_set : (k : ℕ) → is_set (slot_at nv k) ≡ false → ¬ IsSet (slot_at nv k)
+    not_set k h = not_from_Decides (is_set (slot_at nv k)) (Decides-is_set (slot_at nv k)) h
+
+    by_found : (r : Option ℕ) → Finds is_set nv 0 8 r → ((k : ℕ) × IsProvisionedBy nv k) ⊎ IsUnset nv
+    by_found (Some k) h = inl (k, record { within = omega (arith, h.high); gate = (Decides-is_set (slot_at nv k)).0 h.here; first = λ j below. not_set j (h.before j (omega arith) below) })
+    by_found None h = inr (record { gates = λ k below. not_set k (h k (omega arith) (omega arith)) })
+
+-- the first blank slot, or there is none
+abbrev pub FoundBlank : List ℕ → Option ℕ → Type 0
+FoundBlank nv (Some number) = IsFirstBlank nv number
+FoundBlank nv None = ¬ HasBlank nv
+
+pub found_blank : (nv : List ℕ) → FoundBlank nv (number_from is_blank nv 0 8)
+found_blank nv = by_found (number_from is_blank nv 0 8) (finds is_blank nv 0 8)
+  where
+    not_blank : (k : ℕ) → is_blank (slot_at nv k) ≡ false → ¬ IsBlank (slot_at nv k)
+    not_blank k h = not_from_Decides (is_blank (slot_at nv k)) (Decides-is_blank (slot_at nv k)) h
+
+    by_found : (r : Option ℕ) → Finds is_blank nv 0 8 r → FoundBlank nv r
+    by_found (Some k) h = record { within = omega (arith, h.high); blank = (Decides-is_blank (slot_at nv k)).0 h.here; first = λ j below. not_blank j (h.before j (omega arith) below) }
+    by_found None h = λ (b : HasBlank nv). not_blank b.number (h b.number (omega arith) (omega (arith, b.within))) b.blank
+
+-- some slot is blank, or none
+pub blank_or_spent : (nv : List ℕ) → HasBlank nv ⊎ (¬ HasBlank nv)
+blank_or_spent nv = by_found (number_from is_blank nv 0 8) (found_blank nv)
+  where
+    by_found : (r : Option ℕ) → FoundBlank nv r → HasBlank nv ⊎ (¬ HasBlank nv)
+    by_found (Some k) h = inl (record { number = k; within = h.within; blank = h.blank })
+    by_found None h = inr h
+
+-- ---- what is chosen
+choose_none : (slots : List (List ℕ)) (b : Bool) → find is_set slots ≡ None → list_any is_blank slots ≡ b → choose_slot slots ≡ Err (if b then NotProvisioned else SlotsSpent)
+choose_none slots b h e = rw (h, e) refl
+
+find_none : (nv : List ℕ) → IsUnset nv → find is_set (slots_from nv 0 8) ≡ None
+find_none nv h = find_number is_set nv 0 8 ∙ ap (slot_numbered nv) (number-none is_set nv (tests_unset nv h))
+
+pub provisioned_slot-found : (nv : List ℕ) (k : ℕ) → IsProvisionedBy nv k → provisioned_slot nv ≡ Ok (slot_at nv k)
+unfolding provisioned_slot
+provisioned_slot-found nv k h =
+    let number : number_from is_set nv 0 8 ≡ Some k = number-first is_set nv k h.within ((Decides-is_set (slot_at nv k)).1 h.gate)
+    (λ j below. test_false (is_set (slot_at nv j)) (IsSet (slot_at nv j)) (Decides-is_set (slot_at nv j)) (h.first j below)) in
+    ap (known (if list_any is_blank (slots_from nv 0 8) then NotProvisioned else SlotsSpent)) (find_number is_set nv 0 8 ∙ ap (slot_numbered nv) number)
+
+pub provisioned_slot-blank : (nv : List ℕ) → IsUnset nv → HasBlank nv → provisioned_slot nv ≡ Err NotProvisioned
+unfolding provisioned_slot
+provisioned_slot-blank nv h b = choose_none (slots_from nv 0 8) true (find_none nv h) (any_some is_blank nv b.number b.within ((Decides-is_blank (slot_at nv b.number)).1 b.blank))
+
+pub provisioned_slot-spent : (nv : List ℕ) → IsUnset nv → ¬ HasBlank nv → provisioned_slot nv ≡ Err SlotsSpent
+unfolding provisioned_slot
+provisioned_slot-spent nv h spent = choose_none (slots_from nv 0 8) false (find_none nv h) (any_none is_blank nv (λ k below.
+    test_false (is_blank (slot_at nv k)) (IsBlank (slot_at nv k)) (Decides-is_blank (slot_at nv k)) (λ (b : IsBlank (slot_at nv k)). spent (record { number = k; within = below; blank = b }))))
+
+-- ---- the first blank slot, a slot at a time
 -- what is judged of the slots that are left, when this slot was found or none
 abbrev pub judge_after : Option ℕ → List ℕ → ℕ → ℕ → Result (Option ℕ) FuseFail
 judge_after found nv number count = if list_any is_set (slots_from nv number count) then Err AlreadyProvisioned else Ok (found_first found (blank_from nv number count))
@@ -34,9 +230,6 @@ after_unset : (found : Option ℕ) (nv : List ℕ) (number count : ℕ) → is_s
 after_unset found nv number count h =
     rw h (ap (λ (blank : Option ℕ). if list_any is_set (slots_from nv (number + 1) count) then Err AlreadyProvisioned else Ok blank)
     (found_then found (is_blank (slot_at nv number)) number (blank_from nv (number + 1) count)))
-
-left : (number : ℕ) → number < 8 → 8 - number ≡ suc (8 - (number + 1))
-left number h = omega arith
 
 pub judge_ends : (store image slot : List ℕ) (number : ℕ) (found : Option ℕ) → number < 8 → image ≡ store → slot ≡ bytes_at image (256 * number) 256 → true ≡ is_set slot
     → judge_after found store number (8 - number) ≡ judge_slots store → judge_slots store ≡ Err AlreadyProvisioned
@@ -56,95 +249,23 @@ judge_goes_on store image slot number found next below same read unset is h =
     ∙ sym (after_unset found store number (8 - (number + 1)) gate)
     ∙ sym (ap (λ (count : ℕ). judge_after found store number count) (left number below)) ∙ h
 
--- ---- what the search means
-blank_step : (nv : List ℕ) (from : ℕ) (P : ℕ → Type 0) → P from → ((j : ℕ) → from + 1 ≤ j → P j) → (j : ℕ) → from ≤ j → P j
-blank_step nv from P here rest j low = by_place (cases_lt from j)
-  where
-    by_place : ((from < j) ⊎ (j ≤ from)) → P j
-    by_place (inl above) = rest j (omega arith)
-    by_place (inr same) = let e : from ≡ j = omega arith in subst P e here
-
--- the first blank slot from one on
-record IsFirst (nv : List ℕ) (from count k : ℕ) : Type 0 where
-  low : from ≤ k
-  high : k < from + count
-  blank : IsBlank (slot_at nv k)
-  first : (j : ℕ) → from ≤ j → j < k → ¬ IsBlank (slot_at nv j)
-
-record AreUsed (nv : List ℕ) (from count : ℕ) : Type 0 where
-  used : (j : ℕ) → from ≤ j → j < from + count → ¬ IsBlank (slot_at nv j)
-
-abbrev FoundBlank : List ℕ → ℕ → ℕ → Option ℕ → Type 0
-FoundBlank nv from count (Some k) = IsFirst nv from count k
-FoundBlank nv from count None = AreUsed nv from count
-
-found_more : (nv : List ℕ) (from count : ℕ) (rest : Option ℕ) → ¬ IsBlank (slot_at nv from) → FoundBlank nv (from + 1) count rest → FoundBlank nv from (suc count) rest
-found_more nv from count (Some k) used h = record {
-  low = omega (arith, h.low);
-  high = omega (arith, h.high);
-  blank = h.blank;
-  first = λ j low below. blank_step nv from (λ i. i < k → ¬ IsBlank (slot_at nv i)) (λ q. used) (λ i next q. h.first i next q) j low below;
-}
-found_more nv from count None used h = record { used = λ j low below. blank_step nv from (λ i. i < from + suc count → ¬ IsBlank (slot_at nv i)) (λ q. used) (λ i next q. h.used i next (omega (arith, q))) j low below }
-
-found_blank : (nv : List ℕ) (from count : ℕ) → FoundBlank nv from count (blank_from nv from count)
-found_blank nv from zero = record { used = λ j low below. absurd (omega arith) }
-found_blank nv from (suc count) = by_test (is_blank (slot_at nv from)) refl (found_blank nv (from + 1) count)
-  where
-    by_test : (b : Bool) → is_blank (slot_at nv from) ≡ b → FoundBlank nv (from + 1) count (blank_from nv (from + 1) count) → FoundBlank nv from (suc count) (if b then Some from else blank_from nv (from + 1) count)
-    by_test true e rest = record { low = omega arith; high = omega arith; blank = (Decides-is_blank (slot_at nv from)).0 e; first = λ j low below. absurd (omega arith) }
-    by_test false e rest = found_more nv from count (blank_from nv (from + 1) count) (not_from_Decides (is_blank (slot_at nv from)) (Decides-is_blank (slot_at nv from)) e) rest
-
--- some slot is set, or none
-abbrev SomeSet : List ℕ → ℕ → ℕ → Type 0
-SomeSet nv from count = (k : ℕ) × (from ≤ k) × (k < from + count) × IsSet (slot_at nv k)
-
-record NoneSet (nv : List ℕ) (from count : ℕ) : Type 0 where
-  gates : (k : ℕ) → from ≤ k → k < from + count → ¬ IsSet (slot_at nv k)
-
--- what the test says
-abbrev SaysSet : List ℕ → ℕ → ℕ → Bool → Type 0
-SaysSet nv from count true = SomeSet nv from count
-SaysSet nv from count false = NoneSet nv from count
-
-none_more : (nv : List ℕ) (from count : ℕ) → ¬ IsSet (slot_at nv from) → NoneSet nv (from + 1) count → NoneSet nv from (suc count)
-none_more nv from count here h = record { gates = λ k low below. blank_step nv from (λ i. i < from + suc count → ¬ IsSet (slot_at nv i)) (λ q. here) (λ i next q. h.gates i next (omega (arith, q))) k low below }
-
-says_more : (nv : List ℕ) (from count : ℕ) (b : Bool) → ¬ IsSet (slot_at nv from) → SaysSet nv (from + 1) count b → SaysSet nv from (suc count) b
-says_more nv from count true here found = (found.0, omega (arith, found.1), omega (arith, found.2), found.3)
-says_more nv from count false here none = none_more nv from count here none
-
-any_set : (nv : List ℕ) (from count : ℕ) → SaysSet nv from count (list_any is_set (slots_from nv from count))
-any_set nv from zero = record { gates = λ k low below. absurd (omega arith) }
-any_set nv from (suc count) = by_test (cases_Bool (is_set (slot_at nv from))) (any_set nv (from + 1) count)
-  where
-    by_test : ((is_set (slot_at nv from) ≡ true) ⊎ (is_set (slot_at nv from) ≡ false)) → SaysSet nv (from + 1) count (list_any is_set (slots_from nv (from + 1) count))
-        → SaysSet nv from (suc count) (list_any is_set (slot_at nv from ∷ slots_from nv (from + 1) count))
-    by_test (inl e) rest = rw e (from, omega arith, omega arith, (Decides-is_set (slot_at nv from)).0 e)
-    by_test (inr e) rest =
-        let here : ¬ IsSet (slot_at nv from) = not_from_Decides (is_set (slot_at nv from)) (Decides-is_set (slot_at nv from)) e in
-        rw e (says_more nv from count (list_any is_set (slots_from nv (from + 1) count)) here rest)
-
 -- ---- what is judged
-some_slot : (nv : List ℕ) → SomeSet nv 0 8 → (number : ℕ) × IsProvisionedBy nv number
-some_slot nv found = by_search (provisioned_or_unset nv)
-  where
-    by_search : (((k : ℕ) × IsProvisionedBy nv k) ⊎ IsUnset nv) → (number : ℕ) × IsProvisionedBy nv number
-    by_search (inl some) = some
-    by_search (inr unset) = absurd (unset.gates found.0 (omega (arith, found.2)) found.3)
+blank_number : (nv : List ℕ) (from count : ℕ) → blank_from nv from count ≡ number_from is_blank nv from count
+blank_number nv from zero = refl
+blank_number nv from (suc count) = ap (λ (rest : Option ℕ). if is_blank (slot_at nv from) then Some from else rest) (blank_number nv (from + 1) count)
 
 -- where some slot is set, or none is and the first blank one was found
-slots_judged : (P : Result (Option ℕ) FuseFail → Type 0) (nv : List ℕ) → ((number : ℕ) → IsProvisionedBy nv number → P (Err AlreadyProvisioned)) → (IsUnset nv → FoundBlank nv 0 8 (blank_from nv 0 8) → P (Ok (blank_from nv 0 8)))
+slots_judged : (P : Result (Option ℕ) FuseFail → Type 0) (nv : List ℕ) → ((number : ℕ) → IsProvisionedBy nv number → P (Err AlreadyProvisioned)) → (IsUnset nv → FoundBlank nv (blank_from nv 0 8) → P (Ok (blank_from nv 0 8)))
     → P (judge_slots nv)
 unfolding judge_slots
-slots_judged P nv some none = by_test (list_any is_set (slots_from nv 0 8)) (any_set nv 0 8)
+slots_judged P nv some none = by_search (provisioned_or_unset nv)
   where
-    by_test : (b : Bool) → SaysSet nv 0 8 b → P (if b then Err AlreadyProvisioned else Ok (blank_from nv 0 8))
-    by_test true found = let slot = some_slot nv found in some slot.0 slot.1
-    by_test false h = none (record { gates = λ k below. h.gates k (omega arith) (omega arith) }) (found_blank nv 0 8)
+    by_search : (((k : ℕ) × IsProvisionedBy nv k) ⊎ IsUnset nv) → P (if list_any is_set (slots_from nv 0 8) then Err AlreadyProvisioned else Ok (blank_from nv 0 8))
+    by_search (inl found) = rw (any_some is_set nv found.0 found.1.within ((Decides-is_set (slot_at nv found.0)).1 found.1.gate)) (some found.0 found.1)
+    by_search (inr unset) = rw (any_none is_set nv (tests_unset nv unset)) (none unset (subst (FoundBlank nv) (sym (blank_number nv 0 8)) (found_blank nv)))
 
 abbrev choose : Result (Unit {0}) LayoutRule → Result (Unit {0}) LayoutRule → Option ℕ → Result ℕ FuseFail
-choose bmc pch blank = layout_judged Bmc bmc >>= λ _. (layout_judged Pch pch >>= λ _. known SlotsSpent blank)
+choose bmc pch blank = told_as (LayoutBad Bmc) bmc >>= λ _. (told_as (LayoutBad Pch) pch >>= λ _. known SlotsSpent blank)
 
 -- what a judgement says
 abbrev pub JudgedSo : List ℕ → RootSlot → ℕ → ℕ → Result ℕ FuseFail → Type 0
@@ -152,16 +273,16 @@ JudgedSo nv what bmc_size pch_size (Ok number) = IsProvisionable nv what bmc_siz
 JudgedSo nv what bmc_size pch_size (Err cause) = IsBarred nv what bmc_size pch_size cause
 
 chosen : (nv : List ℕ) (what : RootSlot) (bmc_size pch_size : ℕ) → IsUnset nv → (bmc pch : Result (Unit {0}) LayoutRule) → judge_layout what.bmc bmc_size ≡ bmc → judge_layout what.pch pch_size ≡ pch
-    → (blank : Option ℕ) → FoundBlank nv 0 8 blank → JudgedSo nv what bmc_size pch_size (choose bmc pch blank)
+    → (blank : Option ℕ) → FoundBlank nv blank → JudgedSo nv what bmc_size pch_size (choose bmc pch blank)
 chosen nv what bmc_size pch_size unset (Err rule) pch b p blank found = (unset, b)
 chosen nv what bmc_size pch_size unset (Ok u) (Err rule) b p blank found = (unset, judged_valid what.bmc bmc_size b, p)
 chosen nv what bmc_size pch_size unset (Ok u) (Ok v) b p None found =
-    (unset, judged_valid what.bmc bmc_size b, judged_valid what.pch pch_size p, λ (some : HasBlank nv). found.used some.number (omega arith) (omega (arith, some.within)) some.blank)
+    (unset, judged_valid what.bmc bmc_size b, judged_valid what.pch pch_size p, found)
 chosen nv what bmc_size pch_size unset (Ok u) (Ok v) b p (Some number) found = record {
   unset = unset;
   bmc = judged_valid what.bmc bmc_size b;
   pch = judged_valid what.pch pch_size p;
-  slot = record { within = omega (arith, found.high); blank = found.blank; first = λ k below. found.first k (omega arith) below };
+  slot = found;
 }
 
 -- a provision is judged so: it may be done in that slot, or this bars it

@@ -2,7 +2,7 @@
 use Rattle.std.proofs.Common.{◌≡◌, ◌≢◌, ℕ, ◌+◌, ◌*◌, ◌/◌, ◌≤◌, ◌<◌, List, [], ◌∷◌, length, length-set, get_or, set, bit_and, Ok, refl, sym, ap, ◌∙◌, subst, arith, ◌⊎◌, inl, inr}
 use Rattle.std.proofs.lemmas.Bool.{cases_order}
 use Rattle.std.proofs.lemmas.List.{ext_get_or, get_or-set_same, get_or-set_other}
-use Rattle.pfr_flash.specs.Bytes.{bytes_at, written}
+use Rattle.pfr_flash.specs.Bytes.{bytes_at, written, continued}
 use Rattle.pfr_flash.specs.FuseRow.{fuse_byte, with_cleared}
 use Rattle.pfr_flash.specs.Operation.{Program, applied}
 use Rattle.pfr_flash.specs.Range.{SameOutside}
@@ -21,7 +21,7 @@ use Rattle.pfr_fuses.specs.declared.profile.Profile.TheVariants.{Two}
 use Rattle.pfr_fuses.proofs.GrowthLemmas.{IsProvisionedBy-same}
 use Rattle.pfr_fuses.proofs.MigrationLemmas.{floor_fuses-two, row_fuses-two}
 use Rattle.pfr_fuses.proofs.StandsLemmas.{same_floor, fuses_of-found, fuses_of-ok}
-use Rattle.pfr_fuses.proofs.StaysLemmas.{AreOutside, floor_fuses-outside, row_fuses-outside}
+use Rattle.pfr_fuses.proofs.StaysLemmas.{AreOutside, row_behind_floors, floor_fuses-outside, row_fuses-outside}
 
 -- ---- a fuse that is programmed
 -- the row of the bytes at a place is the one with this fuse cleared
@@ -80,32 +80,19 @@ pub record ChangedAt (from len : ℕ) (old new : List ℕ) : Type 0 where
   pub outside : SameOutside from len old new
   pub store : SameProvision old new
 
-floor_same : (from len : ℕ) (old new : List ℕ) (bank : Bank) → ChangedAt from len old new → AreOutside from len (floor_at Two bank) 16 → floor_fuses new bank ≡ floor_fuses old bank
-floor_same from len old new bank h apart = floor_fuses-outside from len old new bank h.size h.same_size h.store.profile (rw h.two apart) h.outside
+floor_same : {from len : ℕ} {old new : List ℕ} (bank : Bank) → ChangedAt from len old new → AreOutside from len (floor_at Two bank) 16 → floor_fuses new bank ≡ floor_fuses old bank
+floor_same {from} {len} {old} {new} bank h apart = floor_fuses-outside from len old new bank h.size h.same_size h.store.profile (rw h.two apart) h.outside
 
-row_same : (from len : ℕ) (old new : List ℕ) (type : ContentType) → ChangedAt from len old new → AreOutside from len (row_at Two type) 32 → row_fuses new type ≡ row_fuses old type
-row_same from len old new type h apart = row_fuses-outside from len old new type h.size h.same_size h.store.profile (rw h.two apart) h.outside
+row_same : {from len : ℕ} {old new : List ℕ} (type : ContentType) → ChangedAt from len old new → AreOutside from len (row_at Two type) 32 → row_fuses new type ≡ row_fuses old type
+row_same {from} {len} {old} {new} type h apart = row_fuses-outside from len old new type h.size h.same_size h.store.profile (rw h.two apart) h.outside
+
+row_behind : {old new : List ℕ} (bank : Bank) (type : ContentType) → ChangedAt (floor_at Two bank) 16 old new → IsSigning type → row_fuses new type ≡ row_fuses old type
+row_behind bank type h signing = row_same type h (inr (row_behind_floors bank type signing))
 
 but_floor : (bank : Bank) (old new : List ℕ) (number : ℕ) → ChangedAt (floor_at Two bank) 16 old new → number < 8
     → fuses_with new (slot_at new number) ≡ with_floor (fuses_with old (slot_at old number)) bank (floor_fuses new bank)
-but_floor Bmc old new number h below = rw (
-  h.store.slots number below,
-  h.store.profile,
-  floor_same 0x7000 16 old new Pch h (inr (omega arith)),
-  row_same 0x7000 16 old new PchManifest h (inr (omega arith)),
-  row_same 0x7000 16 old new PchCapsule h (inr (omega arith)),
-  row_same 0x7000 16 old new BmcManifest h (inr (omega arith)),
-  row_same 0x7000 16 old new BmcCapsule h (inr (omega arith)),
-) refl
-but_floor Pch old new number h below = rw (
-  h.store.slots number below,
-  h.store.profile,
-  floor_same 0x7010 16 old new Bmc h (inl (omega arith)),
-  row_same 0x7010 16 old new PchManifest h (inr (omega arith)),
-  row_same 0x7010 16 old new PchCapsule h (inr (omega arith)),
-  row_same 0x7010 16 old new BmcManifest h (inr (omega arith)),
-  row_same 0x7010 16 old new BmcCapsule h (inr (omega arith)),
-) refl
+but_floor Bmc old new number h below = rw (h.store.slots number below, h.store.profile, floor_same Pch h (inr (omega arith)), row_behind Bmc PchManifest h tt, row_behind Bmc PchCapsule h tt, row_behind Bmc BmcManifest h tt, row_behind Bmc BmcCapsule h tt) refl
+but_floor Pch old new number h below = rw (h.store.slots number below, h.store.profile, floor_same Bmc h (inl (omega arith)), row_behind Pch PchManifest h tt, row_behind Pch PchCapsule h tt, row_behind Pch BmcManifest h tt, row_behind Pch BmcCapsule h tt) refl
 
 -- what the store says, but for a bank's floor
 pub fuses_of-but_floor : (bank : Bank) (old new : List ℕ) (fuses : FusesState) → ChangedAt (floor_at Two bank) 16 old new → fuses_of old ≡ Ok fuses
@@ -120,60 +107,36 @@ pub floor_kept : (nv : List ℕ) (fuses : FusesState) (bank : Bank) → fuses_of
 floor_kept nv fuses bank was =
     let found = fuses_of-ok nv fuses was in ap (λ (kept : FusesState). floor_row kept bank) found.2 ∙ same_floor nv (slot_at nv found.0) bank
 
--- the floor with a fuse that is programmed
+-- the fuses with one that is programmed
+kept-cleared : (at width bit : ℕ) (old new : List ℕ) → ChangedAt at width old new → bit < 8 * width → new ≡ applied old (Program (at + bit / 8) (fuse_byte bit ∷ [])) → at + width ≤ 32768
+    → continued (bytes_at new at width) width ≡ with_cleared (continued (bytes_at old at width) width) bit
+kept-cleared at width bit old new h below is fits =
+    continued-whole (bytes_at new at width) width (length-bytes_at new at width (omega (arith, h.size, h.same_size, fits)))
+    ∙ ap (λ (image : List ℕ). bytes_at image at width) is
+    ∙ clearing-row old at width bit below (omega (arith, h.size, fits))
+    ∙ ap (λ (row : List ℕ). with_cleared row bit) (sym (continued-whole (bytes_at old at width) width (length-bytes_at old at width (omega (arith, h.size, fits)))))
+
 pub floor-cleared : (bank : Bank) (old new : List ℕ) (bit : ℕ) → ChangedAt (floor_at Two bank) 16 old new → bit < 128 → new ≡ applied old (Program (floor_at Two bank + bit / 8) (fuse_byte bit ∷ []))
     → floor_at Two bank + 16 ≤ 32768 → floor_fuses new bank ≡ with_cleared (floor_fuses old bank) bit
 floor-cleared bank old new bit h below is fits =
-    let before : length (bytes_at old (floor_at Two bank) 16) ≡ 16 = length-bytes_at old (floor_at Two bank) 16 (omega (arith, h.size, fits)) in
-    let after : length (bytes_at new (floor_at Two bank) 16) ≡ 16 = length-bytes_at new (floor_at Two bank) 16 (omega (arith, h.size, h.same_size, fits)) in
-    let kept : floor_fuses old bank ≡ bytes_at old (floor_at Two bank) 16 = floor_fuses-two old bank h.two ∙ continued-whole (bytes_at old (floor_at Two bank) 16) 16 before in
-    floor_fuses-two new bank (h.store.profile ∙ h.two)
-    ∙ continued-whole (bytes_at new (floor_at Two bank) 16) 16 after
-    ∙ ap (λ (image : List ℕ). bytes_at image (floor_at Two bank) 16) is
-    ∙ clearing-row old (floor_at Two bank) 16 bit (omega arith) (omega (arith, h.size, fits))
-    ∙ ap (λ (row : List ℕ). with_cleared row bit) (sym kept)
+    floor_fuses-two new bank (h.store.profile ∙ h.two) ∙ kept-cleared (floor_at Two bank) 16 bit old new h (omega arith) is fits ∙ ap (λ (row : List ℕ). with_cleared row bit) (sym (floor_fuses-two old bank h.two))
 
 -- ---- but for a row
 abbrev IsButRow : ContentType → List ℕ → List ℕ → ℕ → Type 0
 IsButRow type old new number = fuses_with new (slot_at new number) ≡ with_row (fuses_with old (slot_at old number)) type (row_fuses new type)
 
+floor_before : {old new : List ℕ} (bank : Bank) (type : ContentType) → ChangedAt (row_at Two type) 32 old new → IsSigning type → floor_fuses new bank ≡ floor_fuses old bank
+floor_before bank type h signing = floor_same bank h (inl (row_behind_floors bank type signing))
+
 but_row : (type : ContentType) (old new : List ℕ) (number : ℕ) → IsSigning type → ChangedAt (row_at Two type) 32 old new → number < 8 → IsButRow type old new number
-but_row PchManifest old new number s h below = rw (
-  h.store.slots number below,
-  h.store.profile,
-  floor_same 0x7020 32 old new Bmc h (inl (omega arith)),
-  floor_same 0x7020 32 old new Pch h (inl (omega arith)),
-  row_same 0x7020 32 old new PchCapsule h (inr (omega arith)),
-  row_same 0x7020 32 old new BmcManifest h (inr (omega arith)),
-  row_same 0x7020 32 old new BmcCapsule h (inr (omega arith)),
-) refl
-but_row PchCapsule old new number s h below = rw (
-  h.store.slots number below,
-  h.store.profile,
-  floor_same 0x7040 32 old new Bmc h (inl (omega arith)),
-  floor_same 0x7040 32 old new Pch h (inl (omega arith)),
-  row_same 0x7040 32 old new PchManifest h (inl (omega arith)),
-  row_same 0x7040 32 old new BmcManifest h (inr (omega arith)),
-  row_same 0x7040 32 old new BmcCapsule h (inr (omega arith)),
-) refl
-but_row BmcManifest old new number s h below = rw (
-  h.store.slots number below,
-  h.store.profile,
-  floor_same 0x7060 32 old new Bmc h (inl (omega arith)),
-  floor_same 0x7060 32 old new Pch h (inl (omega arith)),
-  row_same 0x7060 32 old new PchManifest h (inl (omega arith)),
-  row_same 0x7060 32 old new PchCapsule h (inl (omega arith)),
-  row_same 0x7060 32 old new BmcCapsule h (inr (omega arith)),
-) refl
-but_row BmcCapsule old new number s h below = rw (
-  h.store.slots number below,
-  h.store.profile,
-  floor_same 0x7080 32 old new Bmc h (inl (omega arith)),
-  floor_same 0x7080 32 old new Pch h (inl (omega arith)),
-  row_same 0x7080 32 old new PchManifest h (inl (omega arith)),
-  row_same 0x7080 32 old new PchCapsule h (inl (omega arith)),
-  row_same 0x7080 32 old new BmcManifest h (inl (omega arith)),
-) refl
+but_row PchManifest old new number s h below =
+    rw (h.store.slots number below, h.store.profile, floor_before Bmc PchManifest h s, floor_before Pch PchManifest h s, row_same PchCapsule h (inr (omega arith)), row_same BmcManifest h (inr (omega arith)), row_same BmcCapsule h (inr (omega arith))) refl
+but_row PchCapsule old new number s h below =
+    rw (h.store.slots number below, h.store.profile, floor_before Bmc PchCapsule h s, floor_before Pch PchCapsule h s, row_same PchManifest h (inl (omega arith)), row_same BmcManifest h (inr (omega arith)), row_same BmcCapsule h (inr (omega arith))) refl
+but_row BmcManifest old new number s h below =
+    rw (h.store.slots number below, h.store.profile, floor_before Bmc BmcManifest h s, floor_before Pch BmcManifest h s, row_same PchManifest h (inl (omega arith)), row_same PchCapsule h (inl (omega arith)), row_same BmcCapsule h (inr (omega arith))) refl
+but_row BmcCapsule old new number s h below =
+    rw (h.store.slots number below, h.store.profile, floor_before Bmc BmcCapsule h s, floor_before Pch BmcCapsule h s, row_same PchManifest h (inl (omega arith)), row_same PchCapsule h (inl (omega arith)), row_same BmcManifest h (inl (omega arith))) refl
 but_row type old new number s h below = absurd s
 
 -- what the store says, but for the cancelled keys of a type
@@ -199,11 +162,4 @@ row_kept nv fuses type signing was =
 pub row-cleared : (type : ContentType) (old new : List ℕ) (bit : ℕ) → ChangedAt (row_at Two type) 32 old new → bit < 256 → new ≡ applied old (Program (row_at Two type + bit / 8) (fuse_byte bit ∷ []))
     → row_at Two type + 32 ≤ 32768 → row_fuses new type ≡ with_cleared (row_fuses old type) bit
 row-cleared type old new bit h below is fits =
-    let before : length (bytes_at old (row_at Two type) 32) ≡ 32 = length-bytes_at old (row_at Two type) 32 (omega (arith, h.size, fits)) in
-    let after : length (bytes_at new (row_at Two type) 32) ≡ 32 = length-bytes_at new (row_at Two type) 32 (omega (arith, h.size, h.same_size, fits)) in
-    let kept : row_fuses old type ≡ bytes_at old (row_at Two type) 32 = row_fuses-two old type h.two ∙ continued-whole (bytes_at old (row_at Two type) 32) 32 before in
-    row_fuses-two new type (h.store.profile ∙ h.two)
-    ∙ continued-whole (bytes_at new (row_at Two type) 32) 32 after
-    ∙ ap (λ (image : List ℕ). bytes_at image (row_at Two type) 32) is
-    ∙ clearing-row old (row_at Two type) 32 bit (omega arith) (omega (arith, h.size, fits))
-    ∙ ap (λ (row : List ℕ). with_cleared row bit) (sym kept)
+    row_fuses-two new type (h.store.profile ∙ h.two) ∙ kept-cleared (row_at Two type) 32 bit old new h (omega arith) is fits ∙ ap (λ (row : List ℕ). with_cleared row bit) (sym (row_fuses-two old type h.two))

@@ -1,6 +1,10 @@
--- Bytes that are put together, a part behind the other.
-use Rattle.std.proofs.Common.{◌≡◌, ℕ, zero, suc, ◌+◌, List, [], ◌∷◌, ◌++◌, length, refl, sym, ap, ◌∙◌, arith, append_assoc, length-append}
-use Rattle.pfr_flash.specs.Bytes.{written}
+-- Bytes that are put together, a part behind the other, and bytes that are programmed.
+use Rattle.std.proofs.Common.{◌≡◌, ℕ, zero, suc, ◌+◌, ◌≤◌, ◌<◌, List, [], ◌∷◌, ◌++◌, length, get_or, bit_and, refl, sym, ap, ◌∙◌, subst, arith, append_assoc, length-append}
+use Rattle.std.specs.Int.Bits.{and_zero_r}
+use Rattle.pfr_flash.specs.Bytes.{bytes_at, written, and_bytes}
+use Rattle.pfr_flash.specs.Operation.{Program, applied}
+use Rattle.pfr_flash.proofs.BytesLemmas.{length-bytes_at, get_or-bytes_at, get_or-written_inside, bytes_at-written, and_bytes-ones}
+use Rattle.pfr_flash.proofs.FuseLemmas.{applied-byte}
 
 -- one part behind another
 written_behind : (image : List ℕ) (at : ℕ) (xs ys : List ℕ) → written (written image at xs) (at + length xs) ys ≡ written image at (xs ++ ys)
@@ -55,3 +59,22 @@ filled_five image a b c d e first second third fourth fifth size ha hb hc hd he 
     e5 ∙ ap (λ (x : List ℕ). written x 16 e) four ∙ put_behind image (((a ++ b) ++ c) ++ d) e 16 (simp length-append (omega arith))
     ∙ put_whole image ((((a ++ b) ++ c) ++ d) ++ e) (simp length-append (omega arith))
     ∙ (simp append_assoc)
+
+-- ---- bytes that are programmed where all is 0xFF, and a byte of 0
+pub program_ones : (image bytes : List ℕ) (at n : ℕ) → length bytes ≡ n → at + n ≤ length image → ((i : ℕ) → i < n → get_or image (at + i) 0 ≡ 255) → ((i : ℕ) → i < n → get_or bytes i 0 < 256)
+    → bytes_at (applied image (Program at bytes)) at n ≡ bytes
+program_ones image bytes at n len fits ones small =
+    let old = bytes_at image at (length bytes) in
+    let old_len : length old ≡ length bytes = length-bytes_at image at (length bytes) (omega (arith, len, fits)) in
+    let same : and_bytes old bytes ≡ bytes = and_bytes-ones old bytes old_len
+    (λ i below. get_or-bytes_at image at (length bytes) i 0 (omega (arith, old_len, below)) ∙ ones i (omega (arith, old_len, len, below))) (λ i below. small i (omega (arith, len, below))) in
+    ap (λ (after : List ℕ). bytes_at (written image at after) at n) same
+    ∙ subst (λ (k : ℕ). bytes_at (written image at bytes) at k ≡ bytes) len (bytes_at-written image at bytes (omega (arith, len, fits)))
+
+pub program_zero : (image : List ℕ) (at : ℕ) → at < length image → get_or (applied image (Program at (0 ∷ []))) at 0 ≡ 0
+program_zero image at below =
+    let place : at + 0 ≡ at = omega arith in
+    let left : ℕ = bit_and (get_or image at 0) 0 in
+    ap (λ (after : List ℕ). get_or after at 0) (applied-byte image at 0 below)
+    ∙ subst (λ (p : ℕ). get_or (written image at (left ∷ [])) p 0 ≡ left) place (get_or-written_inside image at (left ∷ []) 0 0 (omega arith) (omega arith))
+    ∙ and_zero_r (get_or image at 0)

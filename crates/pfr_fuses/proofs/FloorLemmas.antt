@@ -14,16 +14,10 @@ use Rattle.pfr_flash.proofs.BytesLemmas.{length-bytes_at}
 use Rattle.pfr_fuses.specs.FusesState.{floor_in}
 
 -- ---- the floor of a row
-cleared_from : (row : List ℕ) (k : ℕ) → is_cleared row k ≡ true → IsCleared row k
-cleared_from row k h = (Decides-eqb (fuse_at row k) 0).0 h
-
-cleared_test : (row : List ℕ) (k : ℕ) → IsCleared row k → is_cleared row k ≡ true
-cleared_test row k h = (Decides-eqb (fuse_at row k) 0).1 h
-
 above_step : (b : Bool) (n floor : ℕ) (row : List ℕ) (k : ℕ) → is_cleared row n ≡ b → k < suc n → IsCleared row k → (k < n → k < floor) → k < (if b then suc n else floor)
 above_step true n floor row k e below h rest = below
 above_step false n floor row k e below h rest =
-    let other : k ≢ n = λ (same : k ≡ n). let c : is_cleared row n ≡ true = subst (λ (j : ℕ). is_cleared row j ≡ true) same (cleared_test row k h) in false≢true (sym e ∙ c) in
+    let other : k ≢ n = λ (same : k ≡ n). let c : is_cleared row n ≡ true = subst (λ (j : ℕ). is_cleared row j ≡ true) same ((Decides-eqb (fuse_at row k) 0).1 h) in false≢true (sym e ∙ c) in
     rest (omega (arith, other))
 
 -- a cleared bit is below the floor
@@ -35,7 +29,7 @@ floor_in-above (suc n) row k below h = above_step (is_cleared row n) n (floor_in
 bit_step : (b : Bool) (n floor : ℕ) (row : List ℕ) (k : ℕ) → is_cleared row n ≡ b → (if b then suc n else floor) ≡ k + 1 → (floor ≡ k + 1 → (k < n) × IsCleared row k) → (k < suc n) × IsCleared row k
 bit_step true n floor row k e h rest =
     let same : n ≡ k = omega arith in
-    (omega arith, subst (λ (j : ℕ). IsCleared row j) same (cleared_from row n e))
+    (omega arith, subst (λ (j : ℕ). IsCleared row j) same ((Decides-eqb (fuse_at row n) 0).0 e))
 bit_step false n floor row k e h rest = let p = rest h in (omega (arith, p.0), p.1)
 
 -- where the floor is not 0, the bit below it is cleared

@@ -1,17 +1,19 @@
--- Fuses at each count of operations.
-use Rattle.std.proofs.Common.{◌≡◌, ℕ, ◌+◌, ◌-◌, ◌*◌, ◌≤◌, ◌<◌, List, [], ◌∷◌, length, take, get_or, refl, sym, ap, ◌∙◌, subst, arith, ◌⊎◌, inl, inr}
+-- Fuses at each count of operations, and at a call's answers.
+use Rattle.std.proofs.Common.{◌≡◌, ℕ, ◌+◌, ◌-◌, ◌*◌, ◌≤◌, ◌<◌, List, [], ◌∷◌, length, take, get_or, refl, sym, ap, ◌∙◌, subst, arith, ◌⊎◌, inl, inr, Result, Ok, Err, OnOk, OnErr}
 use Rattle.std.proofs.lemmas.Bool.{cases_lt}
 use Rattle.pfr_flash.specs.Operation.{Operation, play}
 use Rattle.pfr_flash.specs.FlashState.{FlashState, now, upto, size_of, op_count_of}
 use Rattle.pfr_flash.specs.Moved.{Extends}
-use Rattle.pfr_flash.specs.Plan.{DoesPart}
+use Rattle.pfr_flash.specs.Plan.{DoesPart, Follows}
 use Rattle.pfr_flash.specs.Range.{IsWithin, AllWithin, SameOutside, OnlyClears}
+use Rattle.pfr_flash.specs.declared.flash.FlashFail.{FlashFail}
 use Rattle.pfr_flash.proofs.CutLemmas.{AllPrograms, at_each, clears_between}
 use Rattle.pfr_flash.proofs.PlayLemmas.{length-play}
 use Rattle.pfr_flash.proofs.PlanLemmas.{AllWithin-part}
 use Rattle.pfr_flash.proofs.FuseLemmas.{IsCleared-stays}
 use Rattle.pfr_flash.proofs.RangeLemmas.{SameOutside-play, bytes_at-outside, length-now}
 use Rattle.pfr_flash.proofs.StateLemmas.{upto-added, upto-Extends}
+use Rattle.pfr_flash.proofs.FollowsLemmas.{Follows-now}
 use Rattle.pfr_fuses.specs.Slots.{IsSet, IsProvisionedBy, IsUnset, slot_at}
 use Rattle.pfr_fuses.specs.FuseMap.{IsBit, profile_of, floor_at, floor_width, row_at, row_width}
 use Rattle.pfr_fuses.specs.Growth.{Grows, NeverGoesBack, KeepsProvision, AllAre, Adds}
@@ -162,3 +164,21 @@ AllAre-within from len (op ∷ ops) h = (h.0, AllAre-within from len ops h.1)
 
 pub Adds-within : (from len : ℕ) (plan : List Operation) (old new : FlashState) → AllWithin from len plan → DoesPart plan old new → Adds (λ op. IsWithin from len op) old new
 Adds-within from len plan old new within h = record { added = h.added; is = h.is; all = AllAre-within from len h.added (AllWithin-part from len (now old) plan h.added within h.part) }
+
+-- ---- what holds at the one answer of a call, or at both
+pub on_either : {T E P Q S : Type 0} (r : Result T E) → OnOk r P → OnErr r Q → (P → S) → (Q → S) → S
+on_either (Ok x) p q f g = f p
+on_either (Err e) p q f g = g q
+
+pub on_ok_with : {T E P Q S : Type 0} (r : Result T E) → OnOk r P → OnOk r Q → (P → Q → S) → OnOk r S
+on_ok_with (Ok x) p q f = f p q
+on_ok_with (Err e) p q f = tt
+
+pub on_err : {T E S : Type 0} (r : Result T E) → S → OnErr r S
+on_err (Ok x) s = tt
+on_err (Err e) s = s
+
+-- at Ok the device has the bytes that the plan leaves
+pub done_now : (plan : List Operation) (old new : FlashState) (result : Result (Unit {0}) FlashFail) → Follows plan old new result → OnOk result (now new ≡ play (now old) plan)
+done_now plan old new (Ok u) h = Follows-now plan old new u h
+done_now plan old new (Err f) h = tt

@@ -1,8 +1,7 @@
 -- What a migration leaves, whole or cut short.
-use Rattle.std.proofs.Common.{◌≡◌, ℕ, ◌+◌, ◌≤◌, ◌<◌, List, [], ◌∷◌, ◌++◌, length, get_or, take, Result, Ok, OnOk, OnErr, refl, sym, ap, ◌∙◌, subst, arith, bit_and, append_assoc, length-append, ◌⊎◌, inl, inr}
-use Rattle.std.specs.Int.Bits.{and_zero_r}
-use Rattle.std.proofs.lemmas.List.{ext_get_or, drop_at, take_at, append-nil}
-use Rattle.pfr_flash.specs.Bytes.{blank, bytes_at, written, and_bytes, continued}
+use Rattle.std.proofs.Common.{◌≡◌, ℕ, ◌+◌, ◌≤◌, ◌<◌, List, [], ◌∷◌, ◌++◌, length, get_or, Result, Ok, OnOk, OnErr, refl, sym, ap, ◌∙◌, subst, arith, append_assoc, length-append, ◌⊎◌, inl, inr}
+use Rattle.std.proofs.lemmas.List.{append-nil}
+use Rattle.pfr_flash.specs.Bytes.{blank, bytes_at, written, continued}
 use Rattle.pfr_flash.specs.FlashState.{FlashState, now, upto, size_of, op_count_of}
 use Rattle.pfr_flash.specs.Losing.{AddsAtMost, OnlyLoses}
 use Rattle.pfr_flash.specs.Operation.{Operation, Erase, Program, applied, play, IsTorn}
@@ -13,44 +12,29 @@ use Rattle.pfr_flash.specs.declared.names.Bank.TheVariants.{Bmc, Pch}
 use Rattle.pfr_flash.specs.declared.names.ContentType.{ContentType}
 use Rattle.pfr_flash.specs.declared.names.ContentType.TheVariants.{PchManifest, PchCapsule, BmcManifest, BmcCapsule}
 use Rattle.pfr_flash.specs.declared.flash.FlashFail.{FlashFail}
-use Rattle.pfr_flash.proofs.BytesLemmas.{length-blank, get_or-blank, get_or-written_inside, length-bytes_at, get_or-bytes_at, bytes_at-written, and_bytes-ones, continued-whole}
+use Rattle.pfr_flash.proofs.BytesLemmas.{length-blank, get_or-blank, get_or-written_inside, continued-whole}
 use Rattle.pfr_flash.proofs.CutLemmas.{part_step, part_end, at_each, AddsAtMost-plan}
 use Rattle.pfr_flash.proofs.FollowsLemmas.{DoesPart-now}
-use Rattle.pfr_flash.proofs.FuseLemmas.{applied-byte}
 use Rattle.pfr_flash.proofs.LosingLemmas.{OnlyLoses-plan}
+use Rattle.pfr_flash.proofs.PartsLemmas.{part_of}
 use Rattle.pfr_flash.proofs.PlayLemmas.{length-applied}
 use Rattle.pfr_flash.proofs.RangeLemmas.{SameOutside-applied, SameOutside-torn, SameOutside-wider, then_outside, bytes_at-outside, length-now, IsTorn-within}
 use Rattle.pfr_fuses.specs.RootSlot.{provision_in}
 use Rattle.pfr_fuses.specs.Slots.{IsProvisionedBy, slot_at}
-use Rattle.pfr_fuses.specs.FuseMap.{IsSigning, IsCancelBit, profile_of, floor_at, floor_width, row_at, row_width}
+use Rattle.pfr_fuses.specs.FuseMap.{IsSigning, profile_of, floor_at, floor_width, row_at, row_width}
 use Rattle.pfr_fuses.specs.FusesState.{FusesState, floor_row, row_of}
 use Rattle.pfr_fuses.specs.FusesOf.{Stands, FloorStands, RowStands, floor_fuses, row_fuses, fuses_with, fuses_of}
 use Rattle.pfr_fuses.specs.Changes.{AreRows, IsMigrating, migrated, migration}
 use Rattle.pfr_fuses.specs.Growth.{Grows, NeverGoesBack, KeepsProvision, AllAre, Adds}
 use Rattle.pfr_fuses.specs.declared.profile.Profile.{Profile}
 use Rattle.pfr_fuses.specs.declared.profile.Profile.TheVariants.{One, Two}
-use Rattle.pfr_fuses.proofs.AnswerLemmas.{done_now, on_either, on_err, on_ok_with}
-use Rattle.pfr_fuses.proofs.GrowthLemmas.{profile-outside, slots-outside, IsProvisionedBy-same, KeepsProvision-plan}
-use Rattle.pfr_fuses.proofs.StandsLemmas.{floor_narrow, row_narrow, floor_stands, row_stands, fuses_of-found, fuses_of-ok}
-use Rattle.pfr_fuses.proofs.StaysLemmas.{floor_bits-outside, row_bits-outside, floor_fuses-outside, row_fuses-outside, FloorStands-same, RowStands-same}
+use Rattle.pfr_fuses.proofs.FillingLemmas.{program_ones, program_zero}
+use Rattle.pfr_fuses.proofs.GrowthLemmas.{done_now, on_either, on_err, on_ok_with, profile-outside, slots-outside, IsProvisionedBy-same, KeepsProvision-plan}
+use Rattle.pfr_fuses.proofs.RootSlotLemmas.{part_middle}
+use Rattle.pfr_fuses.proofs.StandsLemmas.{floor_narrow, row_narrow, floor_stands, row_stands, no_row_stands, fuses_of-found, fuses_of-ok}
+use Rattle.pfr_fuses.proofs.StaysLemmas.{floors_by, rows_by, floor_bits-outside, row_bits-outside, floor_fuses-outside, row_fuses-outside, FloorStands-same, RowStands-same}
 
 -- ---- parts of what is written
-bytes_at-part : (image : List ℕ) (at count off n : ℕ) → at + count ≤ length image → off + n ≤ count → bytes_at image (at + off) n ≡ bytes_at (bytes_at image at count) off n
-bytes_at-part image at count off n fits within =
-    let whole : length (bytes_at image at count) ≡ count = length-bytes_at image at count fits in
-    let short : length (bytes_at image (at + off) n) ≡ n = length-bytes_at image (at + off) n (omega arith) in
-    let part : length (bytes_at (bytes_at image at count) off n) ≡ n = length-bytes_at (bytes_at image at count) off n (omega arith) in
-    ext_get_or 0 (bytes_at image (at + off) n) (bytes_at (bytes_at image at count) off n) (short ∙ sym part) (λ i below.
-    let inside : i < n = omega arith in
-    let there : at + off + i ≡ at + (off + i) = omega arith in
-    get_or-bytes_at image (at + off) n i 0 inside
-    ∙ ap (λ (place : ℕ). get_or image place 0) there
-    ∙ sym (get_or-bytes_at (bytes_at image at count) off n i 0 inside ∙ get_or-bytes_at image at count (off + i) 0 (omega arith)))
-
-middle : (all front part rest : List ℕ) (at n : ℕ) → all ≡ front ++ (part ++ rest) → length front ≡ at → length part ≡ n → bytes_at all at n ≡ part
-middle all front part rest at n e hf hp =
-    ap (λ (xs : List ℕ). bytes_at xs at n) e ∙ ap (λ (xs : List ℕ). take n xs) (drop_at front (part ++ rest) at hf) ∙ take_at part rest n hp
-
 record Parts (fuses : FusesState) (all : List ℕ) : Type 0 where
   bmc_floor : bytes_at all 0 16 ≡ fuses.bmc_floor
   pch_floor : bytes_at all 16 16 ≡ fuses.pch_floor
@@ -58,9 +42,6 @@ record Parts (fuses : FusesState) (all : List ℕ) : Type 0 where
   pch_capsule : bytes_at all 64 32 ≡ fuses.pch_capsule
   bmc_manifest : bytes_at all 96 32 ≡ fuses.bmc_manifest
   bmc_capsule : bytes_at all 128 32 ≡ fuses.bmc_capsule
-
-six : (a b c d e f : List ℕ) → a ++ (b ++ (c ++ (d ++ (e ++ f)))) ≡ ((((a ++ b) ++ c) ++ d) ++ e) ++ (f ++ [])
-six a b c d e f = simp (append_assoc, append-nil)
 
 parts_of : (fuses : FusesState) → AreRows fuses → Parts fuses (migrated fuses)
 parts_of fuses h =
@@ -70,18 +51,13 @@ parts_of fuses h =
     let d = fuses.pch_capsule in
     let e = fuses.bmc_manifest in
     let f = fuses.bmc_capsule in
-    let ha : length a ≡ 16 = h.bmc_floor in
-    let hb : length b ≡ 16 = h.pch_floor in
-    let hc : length c ≡ 32 = h.pch_manifest in
-    let hd : length d ≡ 32 = h.pch_capsule in
-    let he : length e ≡ 32 = h.bmc_manifest in
     record {
-      bmc_floor = middle (migrated fuses) [] a (b ++ (c ++ (d ++ (e ++ f)))) 0 16 refl refl h.bmc_floor;
-      pch_floor = middle (migrated fuses) a b (c ++ (d ++ (e ++ f))) 16 16 refl ha h.pch_floor;
-      pch_manifest = middle (migrated fuses) (a ++ b) c (d ++ (e ++ f)) 32 32 (simp append_assoc) (simp length-append (omega arith)) h.pch_manifest;
-      pch_capsule = middle (migrated fuses) ((a ++ b) ++ c) d (e ++ f) 64 32 (simp append_assoc) (simp length-append (omega arith)) h.pch_capsule;
-      bmc_manifest = middle (migrated fuses) (((a ++ b) ++ c) ++ d) e f 96 32 (simp append_assoc) (simp length-append (omega arith)) h.bmc_manifest;
-      bmc_capsule = middle (migrated fuses) ((((a ++ b) ++ c) ++ d) ++ e) f [] 128 32 (six a b c d e f) (simp length-append (omega arith)) h.bmc_capsule;
+      bmc_floor = part_middle (migrated fuses) [] a (b ++ (c ++ (d ++ (e ++ f)))) 0 16 refl refl h.bmc_floor;
+      pch_floor = part_middle (migrated fuses) a b (c ++ (d ++ (e ++ f))) 16 16 refl h.bmc_floor h.pch_floor;
+      pch_manifest = part_middle (migrated fuses) (a ++ b) c (d ++ (e ++ f)) 32 32 (simp append_assoc) (simp length-append (omega (arith, h.bmc_floor, h.pch_floor))) h.pch_manifest;
+      pch_capsule = part_middle (migrated fuses) ((a ++ b) ++ c) d (e ++ f) 64 32 (simp append_assoc) (simp length-append (omega (arith, h.bmc_floor, h.pch_floor, h.pch_manifest))) h.pch_capsule;
+      bmc_manifest = part_middle (migrated fuses) (((a ++ b) ++ c) ++ d) e f 96 32 (simp append_assoc) (simp length-append (omega (arith, h.bmc_floor, h.pch_floor, h.pch_manifest, h.pch_capsule))) h.bmc_manifest;
+      bmc_capsule = part_middle (migrated fuses) ((((a ++ b) ++ c) ++ d) ++ e) f [] 128 32 (simp (append_assoc, append-nil)) (simp length-append (omega (arith, h.bmc_floor, h.pch_floor, h.pch_manifest, h.pch_capsule, h.bmc_manifest))) h.bmc_capsule;
     }
 
 length-migrated : (fuses : FusesState) → AreRows fuses → length (migrated fuses) ≡ 160
@@ -105,7 +81,7 @@ pub record IsWritten (fuses : FusesState) (nv : List ℕ) : Type 0 where
 
 part_at : (fuses : FusesState) (nv row : List ℕ) (off n : ℕ) → IsWritten fuses nv → off + n ≤ 160 → length row ≡ n → bytes_at (migrated fuses) off n ≡ row → continued (bytes_at nv (0x7000 + off) n) n ≡ row
 part_at fuses nv row off n h within len is =
-    let there : bytes_at nv (0x7000 + off) n ≡ row = bytes_at-part nv 0x7000 160 off n (omega (arith, h.size)) within ∙ ap (λ (xs : List ℕ). bytes_at xs off n) h.bytes ∙ is in
+    let there : bytes_at nv (0x7000 + off) n ≡ row = sym (part_of nv 0x7000 160 off n within) ∙ ap (λ (xs : List ℕ). bytes_at xs off n) h.bytes ∙ is in
     ap (λ (xs : List ℕ). continued xs n) there ∙ continued-whole row n len
 
 written_floor : (fuses : FusesState) (nv : List ℕ) (bank : Bank) → IsWritten fuses nv → profile_of nv ≡ Two → floor_fuses nv bank ≡ floor_row fuses bank
@@ -118,15 +94,6 @@ written_row fuses nv PchCapsule s h two = row_fuses-two nv PchCapsule two ∙ pa
 written_row fuses nv BmcManifest s h two = row_fuses-two nv BmcManifest two ∙ part_at fuses nv fuses.bmc_manifest 96 32 h (omega arith) h.rows.bmc_manifest (parts_of fuses h.rows).bmc_manifest
 written_row fuses nv BmcCapsule s h two = row_fuses-two nv BmcCapsule two ∙ part_at fuses nv fuses.bmc_capsule 128 32 h (omega arith) h.rows.bmc_capsule (parts_of fuses h.rows).bmc_capsule
 written_row fuses nv type s h two = absurd s
-
--- a type without cancellations
-row_of_other : (nv : List ℕ) (fuses : FusesState) (type : ContentType) → ¬ IsSigning type → RowStands nv fuses type → (other : List ℕ) → RowStands other fuses type
-row_of_other nv fuses type none h other = record {
-  fuses_same = λ k below. (
-    λ z. absurd (none ((h.fuses_same k below).0 z).signing),
-    λ (b : IsCancelBit other type k). absurd (none b.signing),
-  );
-}
 
 -- ---- what the store says
 -- what is kept of a store, whose profile is this one
@@ -202,24 +169,23 @@ holds_one first fuses from len old new size same_size one still low outside h =
     }
 
 -- in profile 2 sector 7 is read
-signing_or_not : (type : ContentType) → IsSigning type ⊎ (¬ IsSigning type)
-signing_or_not PchManifest = inl tt
-signing_or_not PchCapsule = inl tt
-signing_or_not BmcManifest = inl tt
-signing_or_not BmcCapsule = inl tt
-signing_or_not type = inr (λ h. h)
-
 holds_two : (first : List ℕ) (fuses : FusesState) (old new : List ℕ) → IsWritten fuses new → profile_of new ≡ Two → ((k : ℕ) → k < 8 → slot_at new k ≡ slot_at old k) → Holds first fuses old → Holds first fuses new
 holds_two first fuses old new written two slots h = record {
   slots = λ k below. slots k below ∙ h.slots k below;
   floors = λ bank. floor_stands new fuses bank written.size (sym (written_floor fuses new bank written two));
-  rows = λ type. by_type type (signing_or_not type);
+  rows = by_type;
   says = λ was. says_two old new fuses written two slots (h.says was);
 }
   where
-    by_type : (type : ContentType) → (IsSigning type ⊎ (¬ IsSigning type)) → RowStands new fuses type
-    by_type type (inl signing) = row_stands new fuses type written.size signing (sym (written_row fuses new type signing written two))
-    by_type type (inr none) = row_of_other old fuses type none (h.rows type) new
+    signing : (type : ContentType) → IsSigning type → RowStands new fuses type
+    signing type s = row_stands new fuses type written.size s (sym (written_row fuses new type s written two))
+
+    by_type : (type : ContentType) → RowStands new fuses type
+    by_type PchManifest = signing PchManifest tt
+    by_type PchCapsule = signing PchCapsule tt
+    by_type BmcManifest = signing BmcManifest tt
+    by_type BmcCapsule = signing BmcCapsule tt
+    by_type type = no_row_stands new fuses type (λ h. h) refl
 
 -- the gate, whole or torn
 holds_gated : (first : List ℕ) (fuses : FusesState) (old new : List ℕ) → IsWritten fuses old → profile_of old ≡ One → length new ≡ length old → SameOutside 0xA00 1 old new → Holds first fuses old → Holds first fuses new
@@ -248,25 +214,14 @@ sector_bytes fuses nv size rows fit =
     let len : length (migrated fuses) ≡ 160 = length-migrated fuses rows in
     let clean = applied nv (Erase 7) in
     let clean_size : length clean ≡ 32768 = length-applied nv (Erase 7) ∙ size in
-    let fits : 0x7000 + length (migrated fuses) ≤ length clean = omega arith in
-    let old = bytes_at clean 0x7000 (length (migrated fuses)) in
-    let old_len : length old ≡ length (migrated fuses) = length-bytes_at clean 0x7000 (length (migrated fuses)) fits in
-    let ones : (i : ℕ) → i < length old → get_or old i 0 ≡ 255 = λ i below.
-    let inside : i < 160 = omega arith in
-    get_or-bytes_at clean 0x7000 (length (migrated fuses)) i 0 (omega arith)
-    ∙ get_or-written_inside nv 0x7000 blank i 0 (omega arith) (omega (arith, length-blank)) ∙ get_or-blank i (omega arith) in
-    let same : and_bytes old (migrated fuses) ≡ migrated fuses = and_bytes-ones old (migrated fuses) old_len ones (λ i below. fit i (omega arith)) in
-    let is : applied clean (Program 0x7000 (migrated fuses)) ≡ written clean 0x7000 (migrated fuses) = ap (λ (after : List ℕ). written clean 0x7000 after) same in
-    ap (λ (image : List ℕ). bytes_at image 0x7000 160) is ∙ subst (λ (n : ℕ). bytes_at (written clean 0x7000 (migrated fuses)) 0x7000 n ≡ migrated fuses) len (bytes_at-written clean 0x7000 (migrated fuses) fits)
+    program_ones clean (migrated fuses) 0x7000 160 len (omega arith)
+    (λ i below. get_or-written_inside nv 0x7000 blank i 0 (omega arith) (omega (arith, length-blank)) ∙ get_or-blank i (omega arith)) fit
 
 module _ (nv : List ℕ) (fuses : FusesState) (size : length nv ≡ 32768) (one : profile_of nv ≡ One) (rows : AreRows fuses) (fit : (i : ℕ) → i < 160 → get_or (migrated fuses) i 0 < 256) (start : Holds nv fuses nv) where
   -- only sector 7 changed
   in_sector : (new : List ℕ) → length new ≡ length nv → SameOutside 0x7000 4096 nv new → Holds nv fuses new
   in_sector new same_size outside =
       holds_one nv fuses 0x7000 4096 nv new size same_size one (profile-outside 0x7000 4096 nv new (inl (omega arith)) outside ∙ one) (omega arith) outside start
-
-  erase_outside : SameOutside 0x7000 4096 nv (applied nv (Erase 7))
-  erase_outside = SameOutside-applied nv (Erase 7)
 
   erase_size : length (applied nv (Erase 7)) ≡ length nv
   erase_size = length-applied nv (Erase 7)
@@ -275,7 +230,7 @@ module _ (nv : List ℕ) (fuses : FusesState) (size : length nv ≡ 32768) (one 
   program_size = length-applied (applied nv (Erase 7)) (Program 0x7000 (migrated fuses)) ∙ erase_size
 
   wider : (new : List ℕ) → SameOutside 0x7000 (length (migrated fuses)) (applied nv (Erase 7)) new → SameOutside 0x7000 4096 nv new
-  wider new h = then_outside erase_outside
+  wider new h = then_outside (SameOutside-applied nv (Erase 7))
       (SameOutside-wider 0x7000 (length (migrated fuses)) 0x7000 4096 (applied nv (Erase 7)) new (omega arith) (omega (arith, length-migrated fuses rows)) h)
 
   program_outside : SameOutside 0x7000 4096 nv (applied (applied nv (Erase 7)) (Program 0x7000 (migrated fuses)))
@@ -299,7 +254,7 @@ module _ (nv : List ℕ) (fuses : FusesState) (size : length nv ≡ 32768) (one 
       part_step (Holds nv fuses) nv (Erase 7) (Program 0x7000 (migrated fuses) ∷ Program 0xA00 (0 ∷ []) ∷ []) added h start
       (λ done t. in_sector (applied nv done) (length-applied nv done) (SameOutside-torn nv (Erase 7) done t))
       (λ ops q. part_step (Holds nv fuses) (applied nv (Erase 7)) (Program 0x7000 (migrated fuses)) (Program 0xA00 (0 ∷ []) ∷ []) ops q
-      (in_sector (applied nv (Erase 7)) erase_size erase_outside)
+      (in_sector (applied nv (Erase 7)) erase_size (SameOutside-applied nv (Erase 7)))
       (λ done t. in_sector (applied (applied nv (Erase 7)) done) (length-applied (applied nv (Erase 7)) done ∙ erase_size)
       (wider (applied (applied nv (Erase 7)) done) (SameOutside-torn (applied nv (Erase 7)) (Program 0x7000 (migrated fuses)) done t)))
       (λ later r. part_step (Holds nv fuses) (applied (applied nv (Erase 7)) (Program 0x7000 (migrated fuses))) (Program 0xA00 (0 ∷ [])) [] later r program_holds
@@ -311,23 +266,7 @@ module _ (nv : List ℕ) (fuses : FusesState) (size : length nv ≡ 32768) (one 
 
   -- once all is done
   pub whole_two : profile_of (play nv (migration fuses)) ≡ Two
-  whole_two = gate_two (applied (applied nv (Erase 7)) (Program 0x7000 (migrated fuses))) (omega (arith, program_size, size))
-    where
-      zero_and : (x : ℕ) → bit_and x 0 ≡ 0
-      zero_and x = and_zero_r x
-
-      gate_two : (image : List ℕ) → 0xA00 < length image → profile_of (applied image (Program 0xA00 (0 ∷ []))) ≡ Two
-      gate_two image within = profile-gate-set (applied image (Program 0xA00 (0 ∷ [])))
-          (ap (λ (after : List ℕ). get_or after 0xA00 0) (applied-byte image 0xA00 0 within) ∙ get_or-written_inside image 0xA00 (bit_and (get_or image 0xA00 0) 0 ∷ []) 0 0 (omega arith) (omega arith) ∙ zero_and (get_or image 0xA00 0))
-
-  pub whole_written : IsWritten fuses (play nv (migration fuses))
-  whole_written = record {
-    size = length-applied (applied (applied nv (Erase 7)) (Program 0x7000 (migrated fuses))) (Program 0xA00 (0 ∷ [])) ∙ program_size ∙ size;
-    rows = rows;
-    bytes = bytes_at-outside 0xA00 1 (applied (applied nv (Erase 7)) (Program 0x7000 (migrated fuses))) (play nv (migration fuses)) 0x7000 160
-        (SameOutside-applied (applied (applied nv (Erase 7)) (Program 0x7000 (migrated fuses))) (Program 0xA00 (0 ∷ [])))
-        (length-applied (applied (applied nv (Erase 7)) (Program 0x7000 (migrated fuses))) (Program 0xA00 (0 ∷ []))) (inr (omega arith)) (omega (arith, program_size, size)) ∙ program_written.bytes;
-  }
+  whole_two = profile-gate-set (play nv (migration fuses)) (program_zero (applied (applied nv (Erase 7)) (Program 0x7000 (migrated fuses))) 0xA00 (omega (arith, program_size, size)))
 
 -- ---- what follows for the store
 pub then_stands : (first : List ℕ) (fuses : FusesState) (nv : List ℕ) (p : Profile) → Stands first fuses → Holds first fuses nv → p ≡ profile_of nv → Stands nv (record fuses { profile = p })
@@ -336,20 +275,9 @@ then_stands first fuses nv p stands h is = record {
   provisioned = IsProvisionedBy-same first nv stands.slot h.slots stands.provisioned;
   provision = stands.provision ∙ ap provision_in (sym (h.slots stands.slot stands.provisioned.within));
   profile = is;
-  floors = λ bank. FloorStands-same nv nv fuses (record fuses { profile = p }) bank (same_floor bank) (λ k. (λ b. b, λ b. b)) (h.floors bank);
-  rows = λ type. RowStands-same nv nv fuses (record fuses { profile = p }) type (same_row type) (λ k. (λ b. b, λ b. b)) (h.rows type);
+  floors = λ bank. FloorStands-same nv nv fuses (record fuses { profile = p }) bank (floors_by fuses (record fuses { profile = p }) refl refl bank) (λ k. (λ b. b, λ b. b)) (h.floors bank);
+  rows = λ type. RowStands-same nv nv fuses (record fuses { profile = p }) type (rows_by fuses (record fuses { profile = p }) refl refl refl refl type) (λ k. (λ b. b, λ b. b)) (h.rows type);
 }
-  where
-    same_floor : (bank : Bank) → floor_row (record fuses { profile = p }) bank ≡ floor_row fuses bank
-    same_floor Bmc = refl
-    same_floor Pch = refl
-
-    same_row : (type : ContentType) → row_of (record fuses { profile = p }) type ≡ row_of fuses type
-    same_row PchManifest = refl
-    same_row PchCapsule = refl
-    same_row BmcManifest = refl
-    same_row BmcCapsule = refl
-    same_row type = refl
 
 pub first_holds : (nv : List ℕ) (fuses : FusesState) → Stands nv fuses → Holds nv fuses nv
 first_holds nv fuses h = record {
@@ -398,8 +326,8 @@ migrating fuses rows = (
   ),
 )
 
-behind_slots : (fuses : FusesState) → AreRows fuses → AllWithin 2048 30720 (migration fuses)
-behind_slots fuses rows = (
+pub migration_within : (fuses : FusesState) → AreRows fuses → AllWithin 2048 30720 (migration fuses)
+migration_within fuses rows = (
   record { low = omega arith; high = omega arith },
   (
     record { low = omega arith; high = omega (arith, length-migrated fuses rows) },
@@ -429,7 +357,7 @@ module _ (old new : FlashState) (fuses after : FusesState) (result : Result (Uni
   migrate-grows = record { grows = λ m n low order high. Grows-holds (now old) fuses (upto new m) (upto new n) (at_count m low) (at_count n (omega arith)) }
 
   pub migrate-provision : KeepsProvision old new
-  migrate-provision = KeepsProvision-plan 2048 30720 (migration fuses) old new size follows.worked.moved.start follows.part (omega arith) (behind_slots fuses rows)
+  migrate-provision = KeepsProvision-plan 2048 30720 (migration fuses) old new size follows.worked.moved.start follows.part (omega arith) (migration_within fuses rows)
 
   pub migrate-loses : OnlyLoses 0 4096 old new
   migrate-loses = OnlyLoses-plan 32768 0 4096 (omega arith) (migration fuses) old new size follows.worked.moved.start follows.part
@@ -454,13 +382,10 @@ module _ (old new : FlashState) (fuses after : FusesState) (result : Result (Uni
   migrate-ok ok = on_ok_with result done ok
       (λ is kept. subst (λ (k : FusesState). Stands (now new) k) (sym kept) (then_stands (now old) fuses (now new) Two stands last (sym (new_two is))))
 
-  says_now : fuses_of (now old) ≡ Ok fuses → Says (now new) fuses
-  says_now was = last.says was
-
   pub migrate-exact : OnOk result (after ≡ record fuses { profile = Two }) → OnOk result (fuses_of (now old) ≡ Ok fuses → fuses_of (now new) ≡ Ok after)
   migrate-exact ok = on_ok_with result done ok
-      (λ is kept was. says_now was ∙ ap (λ (p : Profile). Ok (record fuses { profile = p })) (new_two is) ∙ ap (λ (k : FusesState). Ok k) (sym kept))
+      (λ is kept was. last.says was ∙ ap (λ (p : Profile). Ok (record fuses { profile = p })) (new_two is) ∙ ap (λ (k : FusesState). Ok k) (sym kept))
 
   pub migrate-rest : OnOk result (after ≡ record fuses { profile = Two }) → OnErr result (after ≡ fuses) → fuses_of (now old) ≡ Ok fuses → fuses_of (now new) ≡ Ok (record after { profile = profile_of (now new) })
   migrate-rest ok err was = on_either result ok err
-      (λ is. subst (λ (kept : FusesState). Says (now new) kept) (sym is) (says_now was)) (λ is. subst (λ (kept : FusesState). Says (now new) kept) (sym is) (says_now was))
+      (λ is. subst (λ (kept : FusesState). Says (now new) kept) (sym is) (last.says was)) (λ is. subst (λ (kept : FusesState). Says (now new) kept) (sym is) (last.says was))

@@ -1,11 +1,10 @@
 -- What a provision leaves, whole or cut short.
-use Rattle.std.proofs.Common.{◌≡◌, ℕ, zero, suc, ◌+◌, ◌-◌, ◌*◌, ◌≤◌, ◌<◌, true, false, List, [], ◌∷◌, length, length-append, take, get_or, Option, Some, None, Result, Ok, Err, OnOk, IfErr, refl, sym, ap, ◌∙◌, subst, arith, bit_and, ◌⊎◌, inl, inr}
+use Rattle.std.proofs.Common.{◌≡◌, ℕ, zero, suc, ◌+◌, ◌-◌, ◌*◌, ◌≤◌, ◌<◌, true, false, List, [], ◌∷◌, length, length-append, take, get_or, Option, Some, None, Result, Ok, Err, OnOk, IfErr, refl, sym, ap, ◌∙◌, subst, arith, ◌⊎◌, inl, inr}
 use Rattle.std.specs.Prelude.{◌≢◌, MatchOption}
-use Rattle.std.specs.Int.Bits.{and_zero_r}
 use Rattle.std.proofs.lemmas.Bool.{cases_Bool, cases_eq, cases_lt}
 use Rattle.std.proofs.lemmas.Bool.Decides.{not_from_Decides}
 use Rattle.std.proofs.lemmas.List.{ext_get_or, append-nil}
-use Rattle.pfr_flash.specs.Bytes.{bytes_at, written, and_bytes}
+use Rattle.pfr_flash.specs.Bytes.{bytes_at}
 use Rattle.pfr_flash.specs.FlashState.{FlashState, now, upto, size_of, op_count_of}
 use Rattle.pfr_flash.specs.Answer.{Answers}
 use Rattle.pfr_flash.specs.Losing.{AddsAtMost, OnlyLoses}
@@ -19,12 +18,12 @@ use Rattle.pfr_flash.specs.declared.names.Bank.TheVariants.{Bmc, Pch}
 use Rattle.pfr_flash.specs.declared.names.ContentType.{ContentType}
 use Rattle.pfr_flash.specs.declared.names.ContentType.TheVariants.{PchManifest, PchCapsule, BmcManifest, BmcCapsule}
 use Rattle.pfr_flash.specs.declared.flash.FlashFail.{FlashFail}
-use Rattle.pfr_flash.proofs.BytesLemmas.{length-bytes_at, get_or-bytes_at, bytes_at-written, and_bytes-ones, get_or-written_inside}
+use Rattle.pfr_flash.proofs.BytesLemmas.{length-bytes_at, get_or-bytes_at}
 use Rattle.pfr_flash.proofs.CutLemmas.{AllPrograms, part_step, part_end, part_length, AddsAtMost-plan}
-use Rattle.pfr_flash.proofs.EndsLemmas.{ends_reads, ends_content, ends_fails}
+use Rattle.pfr_flash.proofs.EndsLemmas.{ends_reads, ends_content}
 use Rattle.pfr_flash.proofs.FollowsLemmas.{FailsWorking-reading, Follows-reads, Follows-then, Follows-first, Follows-now, DoesPart-now}
-use Rattle.pfr_flash.proofs.FuseLemmas.{applied-byte}
 use Rattle.pfr_flash.proofs.LosingLemmas.{AllLose-programs, OnlyLoses-plan}
+use Rattle.pfr_flash.proofs.PartsLemmas.{part_of}
 use Rattle.pfr_flash.proofs.PlayLemmas.{length-applied}
 use Rattle.pfr_flash.proofs.PlanLemmas.{DoesPart-outside}
 use Rattle.pfr_flash.proofs.StateLemmas.{upto-added}
@@ -40,10 +39,10 @@ use Rattle.pfr_fuses.specs.declared.fuse_fail.FuseFail.{FuseFail}
 use Rattle.pfr_fuses.specs.declared.fuse_fail.FuseFail.TheVariants.{Flash}
 use Rattle.pfr_fuses.specs.declared.profile.Profile.{Profile}
 use Rattle.pfr_fuses.specs.declared.profile.Profile.TheVariants.{One, Two}
-use Rattle.pfr_fuses.proofs.BlankLemmas.{judged-ok, judged-err, provisionable-judged}
+use Rattle.pfr_fuses.proofs.BlankLemmas.{judged-ok, judged-err, provisionable-judged, Decides-is_blank}
+use Rattle.pfr_fuses.proofs.FillingLemmas.{program_ones, program_zero}
 use Rattle.pfr_fuses.proofs.GrowthLemmas.{profile-outside, NeverGoesBack-programs, KeepsProvision-none, KeepsProvision-last, Adds-within}
 use Rattle.pfr_fuses.proofs.RootSlotLemmas.{length-slot, slot_of-bytes}
-use Rattle.pfr_fuses.proofs.SlotLemmas.{Decides-is_blank}
 use Rattle.pfr_fuses.proofs.StaysLemmas.{AreOutside, floor_bits-outside, row_bits-outside}
 
 -- ---- the answer, by its parts
@@ -118,16 +117,7 @@ module _ (nv : List ℕ) (what : RootSlot) (number : ℕ) (size : length nv ≡ 
 
   -- the provision, whole
   whole_bytes : bytes_at (applied nv (Program (256 * number) (slot_bytes what))) (256 * number) 72 ≡ slot_bytes what
-  whole_bytes =
-      let fits : 256 * number + length (slot_bytes what) ≤ length nv = omega (arith, len) in
-      let old = bytes_at nv (256 * number) (length (slot_bytes what)) in
-      let old_len : length old ≡ length (slot_bytes what) = length-bytes_at nv (256 * number) (length (slot_bytes what)) fits in
-      let ones : (i : ℕ) → i < length old → get_or old i 0 ≡ 255 = λ i below.
-      get_or-bytes_at nv (256 * number) (length (slot_bytes what)) i 0 (omega arith) ∙ blank_byte nv number i size within blank (omega (arith, len)) in
-      let same : and_bytes old (slot_bytes what) ≡ slot_bytes what = and_bytes-ones old (slot_bytes what) old_len ones (λ i below. slot.bytes i (omega (arith, len))) in
-      let is : applied nv (Program (256 * number) (slot_bytes what)) ≡ written nv (256 * number) (slot_bytes what) = ap (λ (after : List ℕ). written nv (256 * number) after) same in
-      ap (λ (image : List ℕ). bytes_at image (256 * number) 72) is
-      ∙ subst (λ (n : ℕ). bytes_at (written nv (256 * number) (slot_bytes what)) (256 * number) n ≡ slot_bytes what) len (bytes_at-written nv (256 * number) (slot_bytes what) fits)
+  whole_bytes = program_ones nv (slot_bytes what) (256 * number) 72 len (omega arith) (λ i below. blank_byte nv number i size within blank (omega arith)) slot.bytes
 
   first_size : length (applied nv (Program (256 * number) (slot_bytes what))) ≡ length nv
   first_size = length-applied nv (Program (256 * number) (slot_bytes what))
@@ -162,15 +152,7 @@ module _ (nv : List ℕ) (what : RootSlot) (number : ℕ) (size : length nv ≡ 
 
   -- once all is done the gate is set
   whole_gate : get_or (play nv (provision_plan number what)) (256 * number + 255) 0 ≡ 0
-  whole_gate = gate_is (applied nv (Program (256 * number) (slot_bytes what))) (omega (arith, first_size))
-    where
-      gate_is : (image : List ℕ) → 256 * number + 255 < length image → get_or (applied image (Program (256 * number + 255) (0 ∷ []))) (256 * number + 255) 0 ≡ 0
-      gate_is image below =
-          let place : 256 * number + 255 + 0 ≡ 256 * number + 255 = omega arith in
-          ap (λ (after : List ℕ). get_or after (256 * number + 255) 0) (applied-byte image (256 * number + 255) 0 below)
-          ∙ subst (λ (p : ℕ). get_or (written image (256 * number + 255) (bit_and (get_or image (256 * number + 255) 0) 0 ∷ [])) p 0 ≡ bit_and (get_or image (256 * number + 255) 0) 0) place
-          (get_or-written_inside image (256 * number + 255) (bit_and (get_or image (256 * number + 255) 0) 0 ∷ []) 0 0 (omega arith) (omega arith))
-          ∙ and_zero_r (get_or image (256 * number + 255) 0)
+  whole_gate = program_zero (applied nv (Program (256 * number) (slot_bytes what))) (256 * number + 255) (omega (arith, first_size))
 
   -- ---- what it means
   gate_at : (image : List ℕ) → get_or (slot_at image number) 255 0 ≡ get_or image (256 * number + 255) 0
@@ -199,17 +181,8 @@ module _ (nv : List ℕ) (what : RootSlot) (number : ℕ) (size : length nv ≡ 
         where
           front : bytes_at (slot_at image number) 0 72 ≡ bytes_at image (256 * number) 72
           front =
-              let fits : 256 * number + 256 ≤ length image = omega (arith, h.size) in
-              let whole : length (slot_at image number) ≡ 256 = length-bytes_at image (256 * number) 256 fits in
-              let a : length (bytes_at (slot_at image number) 0 72) ≡ 72 = length-bytes_at (slot_at image number) 0 72 (omega arith) in
-              let b : length (bytes_at image (256 * number) 72) ≡ 72 = length-bytes_at image (256 * number) 72 (omega arith) in
-              ext_get_or 0 (bytes_at (slot_at image number) 0 72) (bytes_at image (256 * number) 72) (a ∙ sym b) (λ i below.
-              let inside : i < 72 = omega arith in
-              let place : 0 + i ≡ i = omega arith in
-              get_or-bytes_at (slot_at image number) 0 72 i 0 inside
-              ∙ ap (λ (p : ℕ). get_or (slot_at image number) p 0) place
-              ∙ get_or-bytes_at image (256 * number) 256 i 0 (omega arith)
-              ∙ sym (get_or-bytes_at image (256 * number) 72 i 0 inside))
+              let place : 256 * number + 0 ≡ 256 * number = omega arith in
+              part_of image (256 * number) 256 0 72 (omega arith) ∙ ap (λ (p : ℕ). bytes_at image p 72) place
 
   still_unset : (image : List ℕ) → IsUnset nv → Along nv what number image → get_or image (256 * number + 255) 0 ≡ 255 → IsUnset image
   still_unset image unset h gate = record { gates = λ k below. by_slot k below (cases_eq k number) }

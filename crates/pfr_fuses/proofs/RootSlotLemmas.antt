@@ -13,7 +13,7 @@ pub length-number : (x : ℕ) → length (little_bytes 4 x) ≡ 4
 length-number x = length-bytes_low_first 0 4 x
 
 -- a part of bytes that are put together
-part_middle : (all front part rest : List ℕ) (at count : ℕ) → all ≡ front ++ (part ++ rest) → length front ≡ at → length part ≡ count → bytes_at all at count ≡ part
+pub part_middle : (all front part rest : List ℕ) (at count : ℕ) → all ≡ front ++ (part ++ rest) → length front ≡ at → length part ≡ count → bytes_at all at count ≡ part
 part_middle all front part rest at count e hf hp = ap (λ (xs : List ℕ). bytes_at xs at count) e ∙ ap (λ (xs : List ℕ). take count xs) (drop_at front (part ++ rest) at hf) ∙ take_at part rest count hp
 
 number_there : (all front rest : List ℕ) (at x : ℕ) → x < 2 ^ 32 → all ≡ front ++ (little_bytes 4 x ++ rest) → length front ≡ at → number_at all at ≡ x
@@ -29,33 +29,18 @@ layout_there all front rest at l h e hf =
     let c = little_bytes 4 l.recovery_at in
     let d = little_bytes 4 l.staging_at in
     let f = little_bytes 4 l.area_len in
-    let first : number_at all at ≡ l.manifest_at = number_there all front (b ++ (c ++ (d ++ (f ++ rest)))) at l.manifest_at h.manifest_at (e ∙ regroup front a b c d f rest) hf in
+    let first : number_at all at ≡ l.manifest_at = number_there all front (b ++ (c ++ (d ++ (f ++ rest)))) at l.manifest_at h.manifest_at (e ∙ (simp append_assoc)) hf in
     let second : number_at all (at + 4) ≡ l.manifest_len =
-    number_there all (front ++ a) (c ++ (d ++ (f ++ rest))) (at + 4) l.manifest_len h.manifest_len (e ∙ regroup2 front a b c d f rest) (simp length-append (omega (arith, length-number l.manifest_at))) in
+    number_there all (front ++ a) (c ++ (d ++ (f ++ rest))) (at + 4) l.manifest_len h.manifest_len (e ∙ (simp append_assoc)) (simp length-append (omega (arith, length-number l.manifest_at))) in
     let third : number_at all (at + 8) ≡ l.recovery_at =
-    number_there all ((front ++ a) ++ b) (d ++ (f ++ rest)) (at + 8) l.recovery_at h.recovery_at (e ∙ regroup3 front a b c d f rest) (simp length-append (omega (arith, length-number l.manifest_at, length-number l.manifest_len))) in
+    number_there all ((front ++ a) ++ b) (d ++ (f ++ rest)) (at + 8) l.recovery_at h.recovery_at (e ∙ (simp append_assoc)) (simp length-append (omega (arith, length-number l.manifest_at, length-number l.manifest_len))) in
     let fourth : number_at all (at + 12) ≡ l.staging_at =
-    number_there all (((front ++ a) ++ b) ++ c) (f ++ rest) (at + 12) l.staging_at h.staging_at (e ∙ regroup4 front a b c d f rest)
+    number_there all (((front ++ a) ++ b) ++ c) (f ++ rest) (at + 12) l.staging_at h.staging_at (e ∙ (simp append_assoc))
     (simp length-append (omega (arith, length-number l.manifest_at, length-number l.manifest_len, length-number l.recovery_at))) in
     let fifth : number_at all (at + 16) ≡ l.area_len =
-    number_there all ((((front ++ a) ++ b) ++ c) ++ d) rest (at + 16) l.area_len h.area_len (e ∙ regroup5 front a b c d f rest)
+    number_there all ((((front ++ a) ++ b) ++ c) ++ d) rest (at + 16) l.area_len h.area_len (e ∙ (simp append_assoc))
     (simp length-append (omega (arith, length-number l.manifest_at, length-number l.manifest_len, length-number l.recovery_at, length-number l.staging_at))) in
     rw (first, second, third, fourth, fifth) refl
-  where
-    regroup : (x a b c d f rest : List ℕ) → x ++ ((a ++ (b ++ (c ++ (d ++ f)))) ++ rest) ≡ x ++ (a ++ (b ++ (c ++ (d ++ (f ++ rest)))))
-    regroup x a b c d f rest = simp append_assoc
-
-    regroup2 : (x a b c d f rest : List ℕ) → x ++ ((a ++ (b ++ (c ++ (d ++ f)))) ++ rest) ≡ (x ++ a) ++ (b ++ (c ++ (d ++ (f ++ rest))))
-    regroup2 x a b c d f rest = simp append_assoc
-
-    regroup3 : (x a b c d f rest : List ℕ) → x ++ ((a ++ (b ++ (c ++ (d ++ f)))) ++ rest) ≡ ((x ++ a) ++ b) ++ (c ++ (d ++ (f ++ rest)))
-    regroup3 x a b c d f rest = simp append_assoc
-
-    regroup4 : (x a b c d f rest : List ℕ) → x ++ ((a ++ (b ++ (c ++ (d ++ f)))) ++ rest) ≡ (((x ++ a) ++ b) ++ c) ++ (d ++ (f ++ rest))
-    regroup4 x a b c d f rest = simp append_assoc
-
-    regroup5 : (x a b c d f rest : List ℕ) → x ++ ((a ++ (b ++ (c ++ (d ++ f)))) ++ rest) ≡ ((((x ++ a) ++ b) ++ c) ++ d) ++ (f ++ rest)
-    regroup5 x a b c d f rest = simp append_assoc
 
 pub length-layout : (l : Layout) → length (layout_bytes l) ≡ 20
 unfolding layout_bytes
@@ -73,8 +58,5 @@ slot_of-bytes what h =
     let root : bytes_at all 0 32 ≡ what.root = part_middle all [] what.root (layout_bytes what.bmc ++ layout_bytes what.pch) 0 32 refl refl h.root in
     let bmc : layout_at all 32 ≡ what.bmc = layout_there all what.root (layout_bytes what.pch) 32 what.bmc h.bmc refl h.root in
     let pch : layout_at all 52 ≡ what.pch =
-    layout_there all (what.root ++ layout_bytes what.bmc) [] 52 what.pch h.pch (last what.root (layout_bytes what.bmc) (layout_bytes what.pch)) (simp length-append (omega (arith, h.root, length-layout what.bmc))) in
+    layout_there all (what.root ++ layout_bytes what.bmc) [] 52 what.pch h.pch (simp (append_assoc, append-nil)) (simp length-append (omega (arith, h.root, length-layout what.bmc))) in
     rw (root, bmc, pch) refl
-  where
-    last : (a b c : List ℕ) → a ++ (b ++ c) ≡ (a ++ b) ++ (c ++ [])
-    last a b c = simp (append_assoc, append-nil)

@@ -20,7 +20,7 @@ use Rattle.pfr_fuses.specs.declared.fuse_fail.FuseFail.TheVariants.{NotProvision
 use Rattle.pfr_fuses.specs.declared.profile.Profile.{Profile}
 use Rattle.pfr_fuses.specs.declared.profile.Profile.TheVariants.{One, Two}
 use Rattle.pfr_fuses.proofs.FloorLemmas.{floor_in-above, floor_in-bit, IsCleared-continued, not_cleared}
-use Rattle.pfr_fuses.proofs.SlotLemmas.{provisioned_slot-found, provisioned_slot-blank, provisioned_slot-spent, provisioned_or_unset, blank_or_spent}
+use Rattle.pfr_fuses.proofs.BlankLemmas.{provisioned_slot-found, provisioned_slot-blank, provisioned_slot-spent, provisioned_or_unset, blank_or_spent}
 
 -- ---- the profile
 gate_is : (nv bytes : List ℕ) → bytes ≡ bytes_at nv 0xA00 1 → get_or bytes 0 0 ≡ get_or nv 0xA00 0

@@ -1,5 +1,5 @@
 -- What stands for a store stands for one that is changed elsewhere.
-use Rattle.std.proofs.Common.{◌≡◌, ℕ, ◌+◌, ◌≤◌, List, length, refl, sym, ap, ◌∙◌, subst, arith, ◌⊎◌, inl, inr}
+use Rattle.std.proofs.Common.{◌≡◌, ℕ, ◌+◌, ◌≤◌, List, length, refl, sym, ap, ◌∙◌, subst, arith, ◌⊎◌, inl, inr, zero, suc, ◌*◌, ◌∷◌}
 use Rattle.std.specs.Prelude.{◌↔◌, ◌≢◌}
 use Rattle.pfr_flash.specs.Bytes.{bytes_at, continued}
 use Rattle.pfr_flash.specs.FuseRow.{IsCleared}
@@ -11,14 +11,29 @@ use Rattle.pfr_flash.specs.declared.names.ContentType.TheVariants.{PchManifest, 
 use Rattle.pfr_flash.proofs.RangeLemmas.{bytes_at-outside}
 use Rattle.pfr_fuses.specs.FuseMap.{IsSigning, IsBit, IsFloorBit, IsCancelBit, profile_of, floor_at, floor_width, row_at, row_width}
 use Rattle.pfr_fuses.specs.FusesState.{FusesState, floor_row, row_of}
-use Rattle.pfr_fuses.specs.FusesOf.{FloorStands, RowStands, floor_fuses, row_fuses}
+use Rattle.pfr_fuses.specs.FusesOf.{FloorStands, RowStands, floor_fuses, row_fuses, fuses_of}
 use Rattle.pfr_fuses.specs.declared.profile.Profile.{Profile}
-use Rattle.pfr_fuses.specs.declared.profile.Profile.TheVariants.{Two}
+use Rattle.pfr_fuses.specs.declared.profile.Profile.TheVariants.{Two, One}
+use Rattle.pfr_fuses.specs.Slots.{slot_at, slots_from, choose_slot, provisioned_slot}
 use Rattle.pfr_fuses.proofs.StandsLemmas.{floor_fits, row_fits}
+use Rattle.pfr_fuses.proofs.GrowthLemmas.{profile-outside}
 
 -- so many bytes at a place lie outside of others
 abbrev pub AreOutside : ℕ → ℕ → ℕ → ℕ → Type 0
 AreOutside from len at count = (at + count ≤ from) ⊎ (from + len ≤ at)
+
+-- ---- the kept rows, one by one
+pub floors_by : (old new : FusesState) → new.bmc_floor ≡ old.bmc_floor → new.pch_floor ≡ old.pch_floor → (bank : Bank) → floor_row new bank ≡ floor_row old bank
+floors_by old new bmc pch Bmc = bmc
+floors_by old new bmc pch Pch = pch
+
+pub rows_by : (old new : FusesState) → new.pch_manifest ≡ old.pch_manifest → new.pch_capsule ≡ old.pch_capsule → new.bmc_manifest ≡ old.bmc_manifest → new.bmc_capsule ≡ old.bmc_capsule
+    → (type : ContentType) → row_of new type ≡ row_of old type
+rows_by old new a b c d PchManifest = a
+rows_by old new a b c d PchCapsule = b
+rows_by old new a b c d BmcManifest = c
+rows_by old new a b c d BmcCapsule = d
+rows_by old new a b c d type = refl
 
 -- ---- bits
 abbrev SameBit : List ℕ → List ℕ → ℕ → ℕ → ℕ → Type 0
@@ -105,18 +120,6 @@ floors_apart Bmc Pch h = inr (omega arith)
 floors_apart Pch Bmc h = inl (omega arith)
 floors_apart Pch Pch h = absurd (h refl)
 
-pub row_behind_floors : (bank : Bank) (type : ContentType) → IsSigning type → floor_at Two bank + 16 ≤ row_at Two type
-row_behind_floors Bmc PchManifest h = omega arith
-row_behind_floors Bmc PchCapsule h = omega arith
-row_behind_floors Bmc BmcManifest h = omega arith
-row_behind_floors Bmc BmcCapsule h = omega arith
-row_behind_floors Bmc type h = absurd h
-row_behind_floors Pch PchManifest h = omega arith
-row_behind_floors Pch PchCapsule h = omega arith
-row_behind_floors Pch BmcManifest h = omega arith
-row_behind_floors Pch BmcCapsule h = omega arith
-row_behind_floors Pch type h = absurd h
-
 pub rows_apart : (type other : ContentType) → IsSigning type → IsSigning other → other ≢ type → AreOutside (row_at Two type) 32 (row_at Two other) 32
 rows_apart PchManifest PchManifest s t h = absurd (h refl)
 rows_apart PchManifest PchCapsule s t h = inr (omega arith)
@@ -150,3 +153,65 @@ row_in_sector type h = absurd h
 pub floor_in_sector : (bank : Bank) → (0x7000 ≤ floor_at Two bank) × (floor_at Two bank + 16 ≤ 0x7020)
 floor_in_sector Bmc = (omega arith, omega arith)
 floor_in_sector Pch = (omega arith, omega arith)
+
+pub row_behind_floors : (bank : Bank) (type : ContentType) → IsSigning type → floor_at Two bank + 16 ≤ row_at Two type
+row_behind_floors bank type h = omega (arith, (floor_in_sector bank).1, (row_in_sector type h).0)
+
+-- ---- where only bytes between sector 0 and sector 7 change
+pub record SameFuses (old new : List ℕ) : Type 0 where
+  pub outside : SameOutside 4096 24576 old new
+  pub size : length new ≡ length old
+  pub whole : length old ≡ 32768
+
+slots_same : (old new : List ℕ) (number count : ℕ) → SameFuses old new → number + count ≤ 8 → slots_from new number count ≡ slots_from old number count
+slots_same old new number zero h fits = refl
+slots_same old new number (suc count) h fits =
+    let head : slot_at new number ≡ slot_at old number = bytes_at-outside 4096 24576 old new (256 * number) 256 h.outside h.size (inl (omega arith)) (omega (arith, h.whole)) in
+    let rest : slots_from new (number + 1) count ≡ slots_from old (number + 1) count = slots_same old new (number + 1) count h (omega arith) in
+    ap (λ (slot : List ℕ). slot ∷ slots_from new (number + 1) count) head ∙ ap (λ (slots : List (List ℕ)). slot_at old number ∷ slots) rest
+
+provisioned_slot-same : (old new : List ℕ) → SameFuses old new → provisioned_slot new ≡ provisioned_slot old
+unfolding provisioned_slot
+provisioned_slot-same old new h = ap choose_slot (slots_same old new 0 8 h (omega arith))
+
+profile_of-same : (old new : List ℕ) → SameFuses old new → profile_of new ≡ profile_of old
+profile_of-same old new h = profile-outside 4096 24576 old new (inl (omega arith)) h.outside
+
+floor_apart : (profile : Profile) (bank : Bank) → (floor_at profile bank + floor_width profile ≤ 4096) ⊎ (4096 + 24576 ≤ floor_at profile bank)
+floor_apart One Bmc = inl (omega arith)
+floor_apart One Pch = inl (omega arith)
+floor_apart Two Bmc = inr (omega arith)
+floor_apart Two Pch = inr (omega arith)
+
+row_apart : (profile : Profile) (type : ContentType) → (row_at profile type + row_width profile ≤ 4096) ⊎ (4096 + 24576 ≤ row_at profile type)
+row_apart One PchManifest = inl (omega arith)
+row_apart One PchCapsule = inl (omega arith)
+row_apart One BmcManifest = inl (omega arith)
+row_apart One BmcCapsule = inl (omega arith)
+row_apart Two PchManifest = inr (omega arith)
+row_apart Two PchCapsule = inr (omega arith)
+row_apart Two BmcManifest = inr (omega arith)
+row_apart Two BmcCapsule = inr (omega arith)
+row_apart One type = inl (omega arith)
+row_apart Two type = inl (omega arith)
+
+floor_fuses-same : (old new : List ℕ) (bank : Bank) → SameFuses old new → floor_fuses new bank ≡ floor_fuses old bank
+floor_fuses-same old new bank h = floor_fuses-outside 4096 24576 old new bank h.whole h.size (profile_of-same old new h) (floor_apart (profile_of old) bank) h.outside
+
+row_fuses-same : (old new : List ℕ) (type : ContentType) → SameFuses old new → row_fuses new type ≡ row_fuses old type
+row_fuses-same old new type h = row_fuses-outside 4096 24576 old new type h.whole h.size (profile_of-same old new h) (row_apart (profile_of old) type) h.outside
+
+-- what the store says stays
+pub fuses_of-same : (old new : List ℕ) → SameFuses old new → fuses_of new ≡ fuses_of old
+unfolding fuses_of
+fuses_of-same old new h =
+    rw (
+      provisioned_slot-same old new h,
+      profile_of-same old new h,
+      floor_fuses-same old new Bmc h,
+      floor_fuses-same old new Pch h,
+      row_fuses-same old new PchManifest h,
+      row_fuses-same old new PchCapsule h,
+      row_fuses-same old new BmcManifest h,
+      row_fuses-same old new BmcCapsule h,
+    ) refl

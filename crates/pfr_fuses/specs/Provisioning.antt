@@ -3,12 +3,11 @@ use Rattle.std.specs.Prelude.{◌≡◌, ◌≢◌, ◌↔◌, ℕ, zero, suc, �
 use Rattle.std.specs.List.{list_any}
 use Rattle.pfr_flash.specs.Answer.{Answers}
 use Rattle.pfr_flash.specs.FlashState.{FlashState, now}
-use Rattle.pfr_flash.specs.Judging.{◌>>=◌, known}
+use Rattle.pfr_flash.specs.Judging.{◌>>=◌, known, told_as}
 use Rattle.pfr_flash.specs.Layout.{IsValidLayout, judge_layout}
 use Rattle.pfr_flash.specs.Operation.{Operation, Program}
 use Rattle.pfr_flash.specs.Plan.{FailsWorking, Follows}
 use Rattle.pfr_flash.specs.Reading.{EndsAt, failed_by}
-use Rattle.pfr_flash.specs.declared.layout.LayoutRule.{LayoutRule}
 use Rattle.pfr_flash.specs.declared.names.Bank.{Bank}
 use Rattle.pfr_flash.specs.declared.names.Bank.TheVariants.{Bmc, Pch}
 use Rattle.pfr_flash.specs.declared.names.ContentType.{ContentType}
@@ -65,13 +64,9 @@ found_first None next = next
 unfoldable pub judge_slots : List ℕ → Result (Option ℕ) FuseFail
 judge_slots nv = if list_any is_set (slots_from nv 0 8) then Err AlreadyProvisioned else Ok (blank_from nv 0 8)
 
-abbrev pub layout_judged : Bank → Result (Unit {0}) LayoutRule → Result (Unit {0}) FuseFail
-layout_judged bank (Ok fine) = Ok fine
-layout_judged bank (Err rule) = Err (LayoutBad bank rule)
-
 unfoldable pub judge_places : RootSlot → ℕ → ℕ → Option ℕ → Result ℕ FuseFail
 judge_places what bmc_size pch_size blank =
-    layout_judged Bmc (judge_layout what.bmc bmc_size) >>= λ _. (layout_judged Pch (judge_layout what.pch pch_size) >>= λ _. known SlotsSpent blank)
+    told_as (LayoutBad Bmc) (judge_layout what.bmc bmc_size) >>= λ _. (told_as (LayoutBad Pch) (judge_layout what.pch pch_size) >>= λ _. known SlotsSpent blank)
 
 -- the number of the slot that is to be provisioned, or the first cause against it
 unfoldable pub judge_provision : List ℕ → RootSlot → ℕ → ℕ → Result ℕ FuseFail

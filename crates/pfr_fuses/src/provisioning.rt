@@ -1,6 +1,7 @@
 // The first provision of a store.
 ghost use Rattle.std.specs.Prelude.{◌≡◌, ℕ, OnOk, ◌*◌, ◌+◌, ◌<◌, [], ◌∷◌, Some, None, if◌then◌else◌, IfErr};
 ghost use Rattle.pfr_flash.specs.FlashState.{now, size_of};
+ghost use Rattle.pfr_flash.specs.Judging.{told_as};
 ghost use Rattle.pfr_flash.specs.Layout.{judge_layout};
 ghost use Rattle.pfr_flash.specs.Losing.{AddsAtMost, OnlyLoses};
 ghost use Rattle.pfr_flash.specs.Moved.{Worked};
@@ -13,7 +14,8 @@ ghost use Rattle.pfr_fuses.specs.Answer.{fuse_failure};
 ghost use Rattle.pfr_fuses.specs.RootSlot.{IsSlot};
 ghost use Rattle.pfr_fuses.specs.Growth.{Adds, KeepsProvision, NeverGoesBack};
 ghost use Rattle.pfr_fuses.specs.Slots.{IsProvisionedBy, is_blank};
-ghost use Rattle.pfr_fuses.specs.Provisioning.{CanProvision, FollowsAs, IsProvisionable, IsProvisionedWith, KeepsFuses, ProvisionFails, Provisions, found_first, judge_slots, judge_places, judge_provision, layout_judged, provision_plan};
+ghost use Rattle.pfr_fuses.specs.Provisioning.{CanProvision, FollowsAs, IsProvisionable, IsProvisionedWith, KeepsFuses, ProvisionFails, Provisions, found_first, judge_slots, judge_places, judge_provision, provision_plan};
+ghost use Rattle.pfr_fuses.specs.declared.fuse_fail.FuseFail.TheVariants.{LayoutBad};
 
 use crate::fuse_fail::FuseFail;
 use crate::root_slot::RootSlot;
@@ -51,7 +53,7 @@ fn first_blank<F: Flash>(nv: &mut F) -> Result<Option<u32>, FuseFail>
 }
 
 fn judge_layout(bank: Bank, layout: &Layout, size: u32) -> Result<(), FuseFail>
-    ensures exact { result ≡ layout_judged bank (judge_layout layout.now size) }
+    ensures exact { result ≡ told_as (LayoutBad bank) (judge_layout layout.now size) }
     ensures judged { IfErr result (IsFound fuse_failure) }
 {
     match layout.judge(size) {

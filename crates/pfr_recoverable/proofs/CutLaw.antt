@@ -10,7 +10,7 @@ use Rattle.pfr_engine.specs.Acceptance.{Acceptance}
 use Rattle.pfr_fuses.specs.FusesState.{FusesState}
 use Rattle.pfr_fuses.specs.FusesOf.{fuses_of}
 use Rattle.pfr_fuses.specs.RootSlot.{layout_of}
-use Rattle.pfr_fuses.proofs.FrameLemmas.{fuses_of-same}
+use Rattle.pfr_fuses.proofs.StaysLemmas.{fuses_of-same}
 use Rattle.pfr_capsule.specs.Good.{IsGood}
 use Rattle.pfr_jobs.specs.Log.{open_job}
 use Rattle.pfr_strokes.specs.Deeds.{Deed, Asks, Does, side_ops}

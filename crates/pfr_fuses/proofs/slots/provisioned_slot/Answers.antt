@@ -2,7 +2,7 @@ use Rattle.std.proofs.Common.{arith, refl}
 use Rattle.std.proofs.lemmas.Result.{err_from_is_err_and}
 use Rattle.pfr_flash.proofs.EndsLemmas.{EndsAt-refl, then_ends, ends_content}
 use Rattle.pfr_fuses.specs.Slots.{provisioned_slot}
-use Rattle.pfr_fuses.proofs.SlotLemmas.{search_ends, search_goes_on}
+use Rattle.pfr_fuses.proofs.BlankLemmas.{search_ends, search_goes_on}
 use Rattle.pfr_fuses.proofs.slots.provisioned_slot.Goals as goal
 
 pub loop-number-init : goal.loop-number-init

@@ -2,7 +2,7 @@ use Rattle.std.proofs.Common.{◌≡◌, ◌-◌, None}
 use Rattle.pfr_flash.specs.FlashState.{now}
 use Rattle.pfr_flash.specs.Reading.{EndsAt}
 use Rattle.pfr_fuses.specs.Slots.{slots_from, provisioned_slot}
-use Rattle.pfr_fuses.proofs.SlotLemmas.{choose_after}
+use Rattle.pfr_fuses.proofs.BlankLemmas.{choose_after}
 use Rattle.pfr_fuses.proofs.slots.provisioned_slot.Given as goal
 
 -- what is chosen among the slots that are left is what is chosen among all

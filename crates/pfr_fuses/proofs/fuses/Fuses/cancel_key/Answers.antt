@@ -1,4 +1,4 @@
-use Rattle.pfr_fuses.proofs.KeptLemmas.{cancelled_view, cancels_view}
+use Rattle.pfr_fuses.proofs.ClearingLemmas.{cancelled_view, cancels_view}
 use Rattle.pfr_fuses.proofs.fuses.Fuses.cancel_key.Goals as goal
 
 pub returns-clause-ok : goal.returns-clause-ok

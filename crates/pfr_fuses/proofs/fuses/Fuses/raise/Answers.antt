@@ -1,4 +1,4 @@
-use Rattle.pfr_fuses.proofs.RaiseLemmas.{raise-floor, raise-ok, raise-err, raise-exact, raise-rest, raise-stays, raise-loses, raise-count, raise-adds, raise-outside, raise-grows, raise-provision}
+use Rattle.pfr_fuses.proofs.ClearingLemmas.{raise-floor, raise-ok, raise-err, raise-exact, raise-rest, raise-stays, raise-leaves, raise-changed, raise-count}
 use Rattle.pfr_fuses.proofs.fuses.Fuses.raise.Goals as goal
 
 pub returns-clause-floor : goal.returns-clause-floor
@@ -14,16 +14,16 @@ pub returns-clause-stays : goal.returns-clause-stays
 returns-clause-stays g c = raise-stays c.args.bank c.args.to _ _ c.args.self.now c.raise_fuse.new.self _ c.requires.size c.requires.profile c.requires.to c.raise_fuse.ensures.follows c.raise_fuse.ensures.ok c.raise_fuse.ensures.err
 
 pub returns-clause-within : goal.returns-clause-within
-returns-clause-within g c = raise-adds c.args.bank c.args.to _ _ c.args.self.now c.raise_fuse.new.self _ c.requires.size c.requires.profile c.requires.to c.raise_fuse.ensures.follows
+returns-clause-within g c = (raise-leaves c.args.bank c.args.to _ _ c.args.self.now c.raise_fuse.new.self _ c.requires.size c.requires.profile c.requires.to c.raise_fuse.ensures.follows).adds
 
 pub returns-clause-outside : goal.returns-clause-outside
-returns-clause-outside g c = raise-outside c.args.bank c.args.to _ _ c.args.self.now c.raise_fuse.new.self _ c.requires.size c.requires.profile c.requires.to c.raise_fuse.ensures.follows
+returns-clause-outside g c = (raise-changed c.args.bank c.args.to _ _ c.args.self.now c.raise_fuse.new.self _ c.requires.size c.requires.profile c.requires.to c.raise_fuse.ensures.follows).outside
 
 pub returns-clause-grows : goal.returns-clause-grows
-returns-clause-grows g c = raise-grows c.args.bank c.args.to _ _ c.args.self.now c.raise_fuse.new.self _ c.requires.size c.requires.profile c.requires.to c.raise_fuse.ensures.follows
+returns-clause-grows g c = (raise-leaves c.args.bank c.args.to _ _ c.args.self.now c.raise_fuse.new.self _ c.requires.size c.requires.profile c.requires.to c.raise_fuse.ensures.follows).grows
 
 pub returns-clause-provision : goal.returns-clause-provision
-returns-clause-provision g c = raise-provision c.args.bank c.args.to _ _ c.args.self.now c.raise_fuse.new.self _ c.requires.size c.requires.profile c.requires.to c.raise_fuse.ensures.follows
+returns-clause-provision g c = (raise-leaves c.args.bank c.args.to _ _ c.args.self.now c.raise_fuse.new.self _ c.requires.size c.requires.profile c.requires.to c.raise_fuse.ensures.follows).provision
 
 pub returns-clause-exact : goal.returns-clause-exact
 returns-clause-exact g c = raise-exact c.args.bank c.args.to _ _ c.args.self.now c.raise_fuse.new.self _ c.requires.size c.requires.profile c.requires.to c.raise_fuse.ensures.follows c.raise_fuse.ensures.ok
@@ -35,4 +35,4 @@ pub returns-clause-count : goal.returns-clause-count
 returns-clause-count g c = raise-count c.args.bank c.args.to _ _ c.args.self.now c.raise_fuse.new.self _ c.requires.size c.requires.profile c.requires.to c.raise_fuse.ensures.follows
 
 pub returns-clause-loses : goal.returns-clause-loses
-returns-clause-loses g c = raise-loses c.args.bank c.args.to _ _ c.args.self.now c.raise_fuse.new.self _ c.requires.size c.requires.profile c.requires.to c.raise_fuse.ensures.follows
+returns-clause-loses g c = (raise-leaves c.args.bank c.args.to _ _ c.args.self.now c.raise_fuse.new.self _ c.requires.size c.requires.profile c.requires.to c.raise_fuse.ensures.follows).loses

@@ -1,7 +1,7 @@
 use Rattle.std.proofs.Common.{◌≤◌, arith}
 use Rattle.pfr_flash.proofs.FollowsLemmas.{Follows-none}
 use Rattle.pfr_fuses.specs.FusesState.{floor_of}
-use Rattle.pfr_fuses.proofs.KeptLemmas.{raise_plan-none}
+use Rattle.pfr_fuses.proofs.ClearingLemmas.{raise_plan-none}
 use Rattle.pfr_fuses.proofs.fuses.Fuses.raise_fuse.Goals as goal
 
 pub returns-then-to-floor-clause-follows : goal.returns-then-to-floor-clause-follows
