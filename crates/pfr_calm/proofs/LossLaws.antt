@@ -156,7 +156,7 @@ outcome_lost s old new quiet l = losing (record {
   which = l.which;
   before = l.at;
   quietly = Quietly-stopped (s.plan (story_of old)) l.which Loses old l.at l.stopped (quiet.plan (story_of old));
-  lost_at = LostAt-on l.which old l.at new l.stopped.cause l.noted.none_lost;
+  lost_at = LostAt-on l.which old l.at new l.stopped.cause.0 l.noted.none_lost;
   noted = l.noted;
 })
 

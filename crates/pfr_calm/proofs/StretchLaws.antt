@@ -16,7 +16,7 @@ use Rattle.pfr_report.specs.declared.note.LockWhy.TheVariants as why
 use Rattle.pfr_report.specs.declared.note.Note.{Note}
 use Rattle.pfr_report.specs.declared.note.What.TheVariants as what
 use Rattle.pfr_calm.specs.Story.{Story, Says, noted, device_of, image_at, all_do}
-use Rattle.pfr_calm.specs.World.{World, story_of, state_at, AllMoved, LostAt}
+use Rattle.pfr_calm.specs.World.{World, story_of, state_at, AllMoved, LostAt, FaultedAt}
 use Rattle.pfr_calm.specs.Plans.{authentication_at, recovery_at, distrusted, brought_up, migration_in, migrated, provisioned_in, provisioned}
 use Rattle.pfr_calm.specs.Course.{Crosses, Faults, LosesPower, lost}
 use Rattle.pfr_calm.specs.Turn.{fault_of, is_store, bank_or_store, StopsInCheck, bank_stretch, fuse_stretch, provision_stretch, unreadable}
@@ -55,9 +55,9 @@ between_back s a b c m p = record { before = IsLater-trans s.first a b p.before 
 held_between : (s : Setting) (old new : World) → Between s old new → AllMoved old new → HaveBytes old
 held_between s old new p m = have_before old new m (p.behind.bytes s.held)
 
-rose_between : (s : Setting) (which : Device) (old new : World) → Between s old new → Rose (state_at which old).faults (state_at which new).faults
+rose_between : (s : Setting) (which : Device) (old new : World) → Between s old new → FaultedAt which old new
     → Rose (state_at which s.first).faults (state_at which s.last).faults
-rose_between s which old new p r = omega (arith, p.before.faults which, r, p.behind.faults which)
+rose_between s which old new p f = omega (arith, p.before.faults which, f.once, p.behind.faults which)
 
 lost_between : (s : Setting) (which : Device) (old new : World) → Between s old new → LostAt which old new
     → (state_at which s.first).losses < (state_at which s.last).losses
@@ -143,7 +143,7 @@ module _ (s : Setting) (b : Bank) where
   pub bank_lost : (old new : World) → Between s old new → LosesPower (bank_stretch s.accepts b) old new → Traced (IsGood s) old new
   bank_lost old new within p =
       let first = bank_stopped old p.at p.stopped.moved p.early in
-      let fell = lost_between s p.which old p.at (between_front s old p.at new p.noted.moved within) p.stopped.cause in
+      let fell = lost_between s p.which old p.at (between_front s old p.at new p.noted.moved within) p.stopped.cause.0 in
       Traced-then (IsGood s) old p.at new first.traced (Traced-ran (IsGood s) (lost p.which) p.at new p.noted (lost_good s p.which (story_of p.at) fell))
 
 -- ---- the fuses are migrated
@@ -170,7 +170,7 @@ module _ (s : Setting) where
   fuses_lost old new within may p =
       let good = AllGood-cut (IsGood s) p.which (migrated (story_of old)) p.stopped.trace (story_of old) (good_torn s) (migrated_good (story_of old) may) p.stopped.cut in
       let first = Traced-stopped (IsGood s) (migrated (story_of old)) p.which Loses old p.at p.stopped good in
-      let fell = lost_between s p.which old p.at (between_front s old p.at new p.noted.moved within) p.stopped.cause in
+      let fell = lost_between s p.which old p.at (between_front s old p.at new p.noted.moved within) p.stopped.cause.0 in
       Traced-then (IsGood s) old p.at new first (Traced-ran (IsGood s) (lost p.which) p.at new p.noted (lost_good s p.which (story_of p.at) fell))
 
 -- ---- the platform is provisioned
@@ -207,5 +207,5 @@ module _ (s : Setting) (root : RootSlot) where
       let whole = provisioned_good (story_of old) (judged_in root (story_of old)) may in
       let good = AllGood-cut (IsGood s) p.which (provisioned root (story_of old)) p.stopped.trace (story_of old) (good_torn s) whole p.stopped.cut in
       let first = Traced-stopped (IsGood s) (provisioned root (story_of old)) p.which Loses old p.at p.stopped good in
-      let fell = lost_between s p.which old p.at (between_front s old p.at new p.noted.moved within) p.stopped.cause in
+      let fell = lost_between s p.which old p.at (between_front s old p.at new p.noted.moved within) p.stopped.cause.0 in
       Traced-then (IsGood s) old p.at new first (Traced-ran (IsGood s) (lost p.which) p.at new p.noted (lost_good s p.which (story_of p.at) fell))
