@@ -27,12 +27,13 @@ use Rattle.pfr_auth.specs.Judge.{judge_active}
 use Rattle.pfr_auth.specs.Trusted.{IsTrusted}
 use Rattle.pfr_auth.specs.declared.fail.ActiveFail.{ActiveFail}
 use Rattle.pfr_auth.proofs.TrustedLaw.{judged_trusted, stands_whole, trusted_judged}
+use Rattle.pfr_recoverable.specs.Recoverable.{HasGoodRecovery}
 use Rattle.pfr_report.specs.Texts.{IsNoted}
 use Rattle.pfr_report.specs.declared.note.LockWhy.{LockWhy}
 use Rattle.pfr_report.specs.declared.note.What.{What}
 use Rattle.pfr_report.specs.declared.note.What.TheVariants as what
 use Rattle.pfr_report.specs.declared.note.Note.{Note}
-use Rattle.pfr_calm.specs.Authentication.{authentication_of, authentication_with, by_active, by_layout, HasGoodRecovery, HasBadRecovery, refusal_in, recovery_with, recovery_of}
+use Rattle.pfr_calm.specs.Authentication.{authentication_of, authentication_with, by_active, by_layout, HasBadRecovery, refusal_in, recovery_with, recovery_of}
 use Rattle.pfr_calm.specs.Promises.{IsMisplaced, IsNotTrusted, IsAgainst}
 use Rattle.pfr_calm.specs.declared.authentication.Authentication.{Authentication}
 use Rattle.pfr_calm.specs.declared.authentication.Authentication.TheVariants.{Unprovisioned, SlotsSpent, BadLayout, Untrusted, Trusted}

@@ -16,6 +16,7 @@ use Rattle.pfr_fuses.specs.FusesOf.{fuses_of}
 use Rattle.pfr_capsule.specs.declared.fail.CapsuleFail.{CapsuleFail}
 use Rattle.pfr_auth.specs.Trusted.{IsTrusted}
 use Rattle.pfr_auth.specs.declared.fail.ActiveFail.{ActiveFail}
+use Rattle.pfr_recoverable.specs.Recoverable.{HasGoodRecovery}
 use Rattle.pfr_script.specs.declared.event.Event.{Event}
 use Rattle.pfr_script.specs.declared.event.Event.TheVariants as event
 use Rattle.pfr_report.specs.Texts.{IsNoted}
@@ -31,7 +32,7 @@ use Rattle.pfr_calm.specs.Plans.{concluded, distrusted as untrusted_moves, authe
 use Rattle.pfr_calm.specs.Course.{Crosses, Faults, Ends, Steps, lost}
 use Rattle.pfr_calm.specs.Turn.{fault_of, bank_or_store, StopsInCheck, bank_stretch, bank_stretches, power_stretches, unreadable, next_item, Turn}
 use Rattle.pfr_calm.specs.Promises.{added, counts_in, IsCalm, IsDue, IsAgainst, IsMisplaced, BringsUp, BringsUpCalm}
-use Rattle.pfr_calm.specs.Authentication.{HasGoodRecovery, HasBadRecovery}
+use Rattle.pfr_calm.specs.Authentication.{HasBadRecovery}
 use Rattle.pfr_calm.specs.declared.authentication.Authentication.{Authentication}
 use Rattle.pfr_calm.specs.declared.authentication.Authentication.TheVariants.{Unprovisioned, SlotsSpent, BadLayout, Untrusted, Trusted}
 use Rattle.pfr_calm.proofs.Sequence.{AllMoved-trans}

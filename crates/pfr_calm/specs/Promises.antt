@@ -18,6 +18,7 @@ use Rattle.pfr_fuses.specs.declared.root_slot.RootSlot.{RootSlot}
 use Rattle.pfr_auth.specs.Judge.{judge_active}
 use Rattle.pfr_auth.specs.Trusted.{IsTrusted}
 use Rattle.pfr_auth.specs.declared.fail.ActiveFail.{ActiveFail}
+use Rattle.pfr_recoverable.specs.Recoverable.{HasGoodRecovery}
 use Rattle.pfr_script.specs.declared.event.Event.{Event}
 use Rattle.pfr_script.specs.declared.event.Event.TheVariants as event
 use Rattle.pfr_report.specs.Texts.{IsNoted}
@@ -29,7 +30,7 @@ use Rattle.pfr_report.specs.declared.note.What.{What}
 use Rattle.pfr_report.specs.declared.note.What.TheVariants.{Held, Released, Locked, Lost, Untrusted, Provisioned, ProvisionRefused, Ignored}
 use Rattle.pfr_calm.specs.Story.{counts_of, device_of}
 use Rattle.pfr_calm.specs.World.{NoneFailed, World, story_of, state_at, IsDark, IsOn, SameDevices}
-use Rattle.pfr_calm.specs.Authentication.{HasGoodRecovery, HasBadRecovery}
+use Rattle.pfr_calm.specs.Authentication.{HasBadRecovery}
 use Rattle.pfr_calm.specs.Standing.{standing_of, is_off, Off}
 use Rattle.pfr_calm.specs.Plans.{refusal_of}
 use Rattle.pfr_calm.specs.Spans.{count_at}
