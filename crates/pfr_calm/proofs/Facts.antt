@@ -16,12 +16,11 @@ use Rattle.pfr_calm.specs.Story.{Story, Move, Says, Does, after, noted, operated
 use Rattle.pfr_calm.specs.World.{World, state_at}
 use Rattle.pfr_calm.specs.Plans.{concluded, distrusted}
 use Rattle.pfr_calm.specs.Promises.{IsDue, IsAgainst, IsTrustedWith}
-use Rattle.pfr_calm.specs.Authentication.{authentication_of}
 use Rattle.pfr_calm.specs.declared.authentication.Authentication.{Authentication}
 use Rattle.pfr_calm.specs.declared.authentication.Authentication.TheVariants.{Unprovisioned, SlotsSpent, BadLayout, Untrusted, Trusted}
 use Rattle.pfr_calm.proofs.Bytes.{HaveBytes}
 use Rattle.pfr_calm.proofs.Traces.{AllGood, KnowsNoOperation, image_noted}
-use Rattle.pfr_calm.proofs.Findings.{Found, unset, spent, misplaced, distrusted as called_untrusted, trusted, RecoveryFound, against_of, not_trusted}
+use Rattle.pfr_calm.proofs.Findings.{Found, unset, spent, misplaced, distrusted as called_untrusted, trusted, RecoveryFound, not_trusted}
 
 -- What is looked at: the worlds at the two ends, the engine, what is known of the store where a bank is released, of
 -- the notes where an operation is done, and where the power is switched off.
@@ -80,7 +79,7 @@ module _ (s : Setting) (b : Bank) (mine nv : List ℕ) where
       (
         refl,
         rw (image_noted (device_of b) (λ _. what.Untrusted b cause) story, e, f)
-            (not_trusted cause b mine nv s.accepts a, good),
+            (not_trusted b mine nv s.accepts cause a, good),
       ),
       tt,
     ),
@@ -90,9 +89,9 @@ module _ (s : Setting) (b : Bank) (mine nv : List ℕ) where
   conclusion_good recovery (Trusted svn) story (trusted t is) r fits e f = ((refl, rw (e, f) (t, is), rw f fits), tt)
 
   -- it is called untrusted, before its recovery area is looked at
-  pub distrust_good : (a : Authentication) (story : Story) → authentication_of b mine nv s.accepts ≡ a
+  pub distrust_good : (a : Authentication) (story : Story) → Found b mine nv s.accepts a
       → image_at (device_of b) story ≡ mine → image_at device.Nv story ≡ nv → AllGood (IsGood s) (distrusted b a) story
-  distrust_good (Untrusted cause) story is e f = (rw (e, f) (against_of cause b mine nv s.accepts is), tt)
+  distrust_good (Untrusted cause) story (called_untrusted a) e f = (rw (e, f) a, tt)
   distrust_good _ story is e f = tt
 
 -- ---- plans that only note

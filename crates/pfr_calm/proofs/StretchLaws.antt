@@ -23,7 +23,7 @@ use Rattle.pfr_calm.specs.Turn.{fault_of, is_store, bank_or_store, StopsInCheck,
 use Rattle.pfr_calm.proofs.Bytes.{HaveBytes, have_before, image_bytes}
 use Rattle.pfr_calm.proofs.Sequence.{Moved-at}
 use Rattle.pfr_calm.proofs.Traces.{AllGood, AllGood-append, AllGood-cut, Traced, Traced-then, Traced-ran, Traced-stopped, image_noted}
-use Rattle.pfr_calm.proofs.Findings.{found, recovery_found}
+use Rattle.pfr_calm.proofs.Findings.{Found, found, recovery_found}
 use Rattle.pfr_calm.proofs.Facts.{Setting, IsGood, good_torn, ops_good, conclusion_good, distrust_good, concluded_says, distrusted_says, says_nv, IsLater, IsLater-trans}
 
 -- ---- what calls do never lets faults or losses fall
@@ -90,13 +90,17 @@ module _ (s : Setting) (b : Bank) where
     pub traced : Traced (IsGood s) old new
     pub store : (story_of new).nv ≡ (story_of old).nv
 
+  found_in : (old at : World) → Between s old at → AllMoved old at
+      → Found b (image_at (device_of b) (story_of old)) (image_at device.Nv (story_of old)) s.accepts (authentication_at s.accepts b (story_of old))
+  found_in old at within moved = found b _ _ s.accepts (image_bytes (device_of b) old (held_between s old at within moved))
+
   -- where a call failed, it was held, and its image may have been called untrusted
-  pub bank_stopped : (old at : World) → AllMoved old at → StopsInCheck s.accepts b (story_of old) (story_of at) → Brought old at
-  bank_stopped old at moved (inl is) = record {
+  pub bank_stopped : (old at : World) → Between s old at → AllMoved old at → StopsInCheck s.accepts b (story_of old) (story_of at) → Brought old at
+  bank_stopped old at within moved (inl is) = record {
     traced = record { trace = Says (what.Held b) ∷ []; is = is; good = (refl, tt); moved = moved };
     store = ap (λ (t : Story). t.nv) is;
   }
-  bank_stopped old at moved (inr is) =
+  bank_stopped old at within moved (inr is) =
       let story = story_of old in
       let a = authentication_at s.accepts b story in
       record {
@@ -105,7 +109,7 @@ module _ (s : Setting) (b : Bank) where
           is = is;
           good = (
             refl,
-            distrust_good s b (image_at (device_of b) story) (image_at device.Nv story) a (noted (what.Held b) story) refl
+            distrust_good s b (image_at (device_of b) story) (image_at device.Nv story) a (noted (what.Held b) story) (found_in old at within moved)
                 (image_noted (device_of b) (what.Held b) story) refl,
           );
           moved = moved;
@@ -119,8 +123,8 @@ module _ (s : Setting) (b : Bank) where
       let a = authentication_at s.accepts b story in
       let recovery = recovery_at s.accepts b story in
       let bytes = image_bytes (device_of b) old (held_between s old new within p.moved) in
-      let f = found b (image_at (device_of b) story) (image_at device.Nv story) s.accepts bytes in
-      let r = recovery_found b (image_at (device_of b) story) (image_at device.Nv story) s.accepts a recovery bytes f refl in
+      let f = found_in old new within p.moved in
+      let r = recovery_found b (image_at (device_of b) story) (image_at device.Nv story) s.accepts a bytes f in
       record {
         traced = Traced-ran (IsGood s) (brought_up s.accepts b story) old new p (
           refl,
@@ -132,8 +136,9 @@ module _ (s : Setting) (b : Bank) where
 
   pub bank_faulted : (old new : World) → Between s old new → Faults (bank_stretch s.accepts b) old new → Brought old new
   bank_faulted old new within p =
-      let first = bank_stopped old p.at p.stopped.moved p.early in
-      let rose = rose_between s p.which old p.at (between_front s old p.at new p.noted.moved within) p.stopped.cause.0 in
+      let front = between_front s old p.at new p.noted.moved within in
+      let first = bank_stopped old p.at front p.stopped.moved p.early in
+      let rose = rose_between s p.which old p.at front p.stopped.cause.0 in
       record {
         traced = Traced-then (IsGood s) old p.at new first.traced
             (Traced-ran (IsGood s) (Says (what.Locked b (fault_of p.which)) ∷ []) p.at new p.noted (lock_good s b p.which (story_of p.at) p.called rose));
@@ -142,8 +147,9 @@ module _ (s : Setting) (b : Bank) where
 
   pub bank_lost : (old new : World) → Between s old new → LosesPower (bank_stretch s.accepts b) old new → Traced (IsGood s) old new
   bank_lost old new within p =
-      let first = bank_stopped old p.at p.stopped.moved p.early in
-      let fell = lost_between s p.which old p.at (between_front s old p.at new p.noted.moved within) p.stopped.cause.0 in
+      let front = between_front s old p.at new p.noted.moved within in
+      let first = bank_stopped old p.at front p.stopped.moved p.early in
+      let fell = lost_between s p.which old p.at front p.stopped.cause.0 in
       Traced-then (IsGood s) old p.at new first.traced (Traced-ran (IsGood s) (lost p.which) p.at new p.noted (lost_good s p.which (story_of p.at) fell))
 
 -- ---- the fuses are migrated
