@@ -56,7 +56,7 @@ IsGood s (Does which op) story = s.Works story.notes
 pub good_torn : (s : Setting) → KnowsNoOperation (IsGood s)
 good_torn s which op done story g = g
 
-notes_operated : (which : Device) (op : Operation) (story : Story) → (operated which op story).notes ≡ story.notes
+pub notes_operated : (which : Device) (op : Operation) (story : Story) → (operated which op story).notes ≡ story.notes
 notes_operated device.Bmc op story = refl
 notes_operated device.Pch op story = refl
 notes_operated device.Nv op story = refl

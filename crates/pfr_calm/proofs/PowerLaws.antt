@@ -35,6 +35,7 @@ use Rattle.pfr_calm.specs.declared.authentication.Authentication.{Authentication
 use Rattle.pfr_calm.specs.declared.authentication.Authentication.TheVariants.{Unprovisioned, SlotsSpent, BadLayout, Untrusted, Trusted}
 use Rattle.pfr_calm.proofs.Sequence.{AllMoved-trans}
 use Rattle.pfr_calm.proofs.StepTraces.{Steps-moved}
+use Rattle.pfr_calm.proofs.Saying.{Steps-traced}
 use Rattle.pfr_calm.proofs.Bytes.{HaveBytes, have_before, image_bytes}
 use Rattle.pfr_calm.proofs.Findings.{Found, distrusted, trusted, found, found_is, recovery_found, lock_in, LockIsDue, found_due, due_lock, noted_append, noted_left, noted_right, AllNotes, noted_all}
 
@@ -419,12 +420,7 @@ module _ (accepts : Acceptance) (old new : World) (held : HaveBytes new) where
       (extends_trans old.notes.list mid.notes.list l.at.notes.list before (extends_by l.stopped.trace mid l.at l.stopped.is)) l.noted calm)
 
   extends_steps : (mid : World) → Steps (bank_stretch accepts bank.Pch ∷ []) mid new → Extends mid.notes.list new.notes.list
-  extends_steps mid (inl (end, d, e)) =
-      extends_trans mid.notes.list end.notes.list new.notes.list (extends_by (brought_up accepts bank.Pch (story_of mid)) mid end d.is) (extends_by [] end new e.is)
-  extends_steps mid (inr (inl (end, f, e))) =
-      extends_trans mid.notes.list end.notes.list new.notes.list (extends_stands bank.Pch (story_of mid) (story_of end) (stands_faulted accepts bank.Pch mid end f)) (extends_by [] end new e.is)
-  extends_steps mid (inr (inr l)) =
-      extends_trans mid.notes.list l.at.notes.list new.notes.list (extends_by l.stopped.trace mid l.at l.stopped.is) (extends_by (lost l.which) l.at new l.noted.is)
+  extends_steps mid p = let t = Steps-traced (bank_stretch accepts bank.Pch ∷ []) mid new p in extends_by t.trace mid new t.is
 
   bmc_up : (w : World) (k : Woken w) → Steps (bank_stretches accepts) w new → IsCalm bank.Bmc (added old new)
       → BringsUp bank.Bmc (now new.bmc) (now new.nv) accepts (counts_in new) (added old new)

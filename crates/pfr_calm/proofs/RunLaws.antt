@@ -48,6 +48,7 @@ use Rattle.pfr_calm.specs.Turn.{Course, Turn, course, next_item, fuse_stretch}
 use Rattle.pfr_calm.specs.Run.{takes_arm, with_arm, with_arm_at, armed, Did, Reached, CanRun}
 use Rattle.pfr_calm.specs.Promises.{added, IsDue, IsFaultLock, IsTrustedWith, ReleasesTrusted, LocksHaveCauses, FaultsHaveCauses}
 use Rattle.pfr_calm.proofs.Traces.{Traced-keeps, Precedes}
+use Rattle.pfr_calm.proofs.Saying.{Follows-traced}
 use Rattle.pfr_calm.proofs.Facts.{Setting, Fact, IsGood, IsLater, IsLater-refl, IsLater-trans}
 use Rattle.pfr_calm.proofs.StretchLaws.{Between, IsLater-moved, MayProvision, works, refused}
 use Rattle.pfr_calm.proofs.StepTraces.{MayTurn, Turn-moved, Turn-traced, Known, Known-none, Known-moves}
@@ -390,29 +391,11 @@ after_item (Does device.Bmc op ∷ trace) story = after_item trace (operated dev
 after_item (Does device.Pch op ∷ trace) story = after_item trace (operated device.Pch op story)
 after_item (Does device.Nv op ∷ trace) story = after_item trace (operated device.Nv op story)
 
-ran_item : (moves : List Move) (old new : World) → Ran moves old new → new.item ≡ old.item
-ran_item moves old new p = ap (λ (s : Story). s.item) p.is ∙ after_item moves (story_of old)
-
-stopped_item : (moves : List Move) (which : Device) (fail : FlashFail) (old new : World) → Stopped moves which fail old new → new.item ≡ old.item
-stopped_item moves which fail old new p = ap (λ (s : Story). s.item) p.is ∙ after_item p.trace (story_of old)
-
-on_item : (on : Bool) (steps : World → World → Type 0) (mid new : World) → (steps mid new → new.item ≡ mid.item) → goes_on_if on steps mid new → new.item ≡ mid.item
-on_item true steps mid new f r = f r
-on_item false steps mid new f r = ran_item [] mid new r
-
-steps_item : (ss : List Stretch) (old new : World) → Steps ss old new → new.item ≡ old.item
-steps_item [] old new p = ran_item [] old new p
-steps_item (s ∷ ss) old new (inl (mid, c, rest)) = steps_item ss mid new rest ∙ ran_item (s.plan (story_of old)) old mid c
-steps_item (s ∷ ss) old new (inr (inl (mid, f, rest))) =
-    on_item s.goes_on (Steps ss) mid new (λ r. steps_item ss mid new r) rest ∙ ran_item (s.on_fault f.which) f.at mid f.noted
-    ∙ stopped_item (s.plan (story_of old)) f.which Fault old f.at f.stopped
-steps_item (s ∷ ss) old new (inr (inr l)) = ran_item (lost l.which) l.at new l.noted ∙ stopped_item (s.plan (story_of old)) l.which Loses old l.at l.stopped
-
 module _ (accepts : Acceptance) where
   pub Turn-item : (e : Event) (old new : World) → Turn accepts e old new → new.item ≡ old.item + 1
-  Turn-item e old new (mid, first, rest) =
-      let c : Course = course accepts e (story_of old) in
-      steps_item c.stretches mid new rest ∙ ran_item c.first (next_item old) mid first
+  Turn-item e old new t =
+      let traced = Follows-traced (course accepts e (story_of old)) (next_item old) new t in
+      ap (λ (s : Story). s.item) traced.is ∙ after_item traced.trace (story_of (next_item old))
 
   pub CanRun-did : (tears : List (List ℕ)) (n : ℕ) (i : Item) (items : List Item) (old new : World) → CanRun n (i ∷ items) old → Did accepts tears i old new → CanRun n items new
   CanRun-did tears n (item.Event e) items old new p t = record {
