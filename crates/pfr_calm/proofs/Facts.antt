@@ -101,11 +101,8 @@ AllSay (Says w ∷ moves) = AllSay moves
 AllSay (Does which op ∷ moves) = ⊥
 
 pub concluded_says : (b : Bank) (recovery : Option CapsuleFail) (a : Authentication) → AllSay (concluded b recovery a)
-concluded_says b recovery Unprovisioned = tt
-concluded_says b recovery SlotsSpent = tt
-concluded_says b recovery (BadLayout rule) = tt
 concluded_says b recovery (Untrusted cause) = tt
-concluded_says b recovery (Trusted svn) = tt
+concluded_says b recovery _ = tt
 
 pub distrusted_says : (b : Bank) (a : Authentication) → AllSay (distrusted b a)
 distrusted_says b (Untrusted cause) = tt

@@ -45,11 +45,7 @@ AllTell (s ∷ ss) = ((which : Device) → TellsFault (s.on_fault which)) × All
 no_fault_lock : (notes : List Note) (b : Bank) (cause : LockWhy) (at : Counts) → IsFaultLock cause → IsUndisturbed notes → ¬ IsNoted notes (what.Locked b cause at)
 no_fault_lock notes b why.FlashFault at f u n = u.flash b at n
 no_fault_lock notes b why.StoreFault at f u n = u.store b at n
-no_fault_lock notes b why.Unprovisioned at f u n = f
-no_fault_lock notes b why.SlotsSpent at f u n = f
-no_fault_lock notes b (why.Layout rule) at f u n = f
-no_fault_lock notes b why.NotRestored at f u n = f
-no_fault_lock notes b (why.NoGoodImage active recovery) at f u n = f
+no_fault_lock notes b _ at f u n = f
 
 module _ (base last : List Note) (calm : IsUndisturbed (drop (length base) last)) where
   not_told : (moves : List Move) (story : Story) → TellsFault moves → Extends base story.notes → Extends (after moves story).notes last → ⊥

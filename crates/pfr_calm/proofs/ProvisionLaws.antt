@@ -39,7 +39,7 @@ use Rattle.pfr_calm.specs.Plans.{provisioned_in, refusal_of}
 use Rattle.pfr_calm.specs.Course.{Faults, LosesPower, Steps, lost}
 use Rattle.pfr_calm.specs.Standing.{standing_of, is_off}
 use Rattle.pfr_calm.specs.Turn.{provision_stretch, ignored, provision_course, where_off, Follows as FollowsCourse, next_item, Turn}
-use Rattle.pfr_calm.specs.Promises.{added, AreOff, IsCalm, sizes_judged, TriesProvision, ProvisionsSo}
+use Rattle.pfr_calm.specs.Promises.{added, AreOff, IsKnownSlot, IsCalm, sizes_judged, TriesProvision, ProvisionsSo}
 use Rattle.pfr_calm.proofs.Sequence.{after-append}
 use Rattle.pfr_calm.proofs.Lift.{after_did}
 use Rattle.pfr_calm.proofs.Traces.{AllGood, Traced-ran}
@@ -47,7 +47,6 @@ use Rattle.pfr_calm.proofs.Findings.{noted_all}
 use Rattle.pfr_calm.proofs.Saying.{stopped_good, first_good, Saying, saying_torn, outcome_of, provisioned_says, AddsOnly, adds_none, adds_then, adds_traced, added_is}
 use Rattle.pfr_calm.proofs.Facts.{notes_operated}
 use Rattle.pfr_calm.proofs.StoreLaws.{judged_here}
-use Rattle.pfr_calm.proofs.GrowthLaws.{IsKnownSlot}
 use Rattle.pfr_calm.proofs.PowerLaws.{Extends, extends_trans, extends_by, in_between, shows_loss}
 
 -- ---- a store where the plan was done is provisioned so
@@ -267,14 +266,14 @@ module _ (root : RootSlot) where
     }
 
 -- A provision is noted as done exactly where a slot was found for it, and is refused by the first cause.
-pub Turn-provisions : (accepts : Acceptance) (e : Event) (old new : World) → size_of old.nv ≡ 32768 → IsKnownSlot e → Turn accepts e old new → ProvisionsSo e old new
+pub Turn-provisions : (accepts : Acceptance) (e : Event) (old new : World) → size_of old.nv ≡ 32768 → (¬ AreOff old → IsKnownSlot e) → Turn accepts e old new → ProvisionsSo e old new
 Turn-provisions accepts event.Power old new size slot t = tt
 Turn-provisions accepts event.Off old new size slot t = tt
 Turn-provisions accepts (event.Provision root) old new size slot t = λ on. by_off on (cases_Bool (is_off (standing_of bank.Bmc old.notes.list)))
   where
-    go : FollowsCourse (provision_course root) (next_item old) new → TriesProvision root old new
-    go (mid, first, rest) = tries root accepts old new size slot mid first.is rest
+    go : ¬ AreOff old → FollowsCourse (provision_course root) (next_item old) new → TriesProvision root old new
+    go on (mid, first, rest) = tries root accepts old new size (slot on) mid first.is rest
 
     by_off : ¬ AreOff old → ((is_off (standing_of bank.Bmc old.notes.list) ≡ true) ⊎ (is_off (standing_of bank.Bmc old.notes.list) ≡ false)) → TriesProvision root old new
     by_off on (inl off) = absurd (on off)
-    by_off on (inr off) = go (subst (λ (b : Bool). FollowsCourse (where_off b ignored (provision_course root)) (next_item old) new) off t)
+    by_off on (inr off) = go on (subst (λ (b : Bool). FollowsCourse (where_off b ignored (provision_course root)) (next_item old) new) off t)

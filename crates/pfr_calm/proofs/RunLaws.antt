@@ -37,7 +37,7 @@ use Rattle.pfr_report.specs.declared.note.Note.{Note}
 use Rattle.pfr_report.specs.declared.note.What.{What}
 use Rattle.pfr_report.specs.declared.note.What.TheVariants as what
 use Rattle.pfr_calm.specs.Story.{Story, Move, Says, Does, after, noted, operated, device_of, image_at, all_do}
-use Rattle.pfr_calm.specs.World.{World, NoneFailed, story_of, state_at, AllMoved}
+use Rattle.pfr_calm.specs.World.{World, NoneFailed, NoneLost, story_of, state_at, AllMoved}
 use Rattle.pfr_flash.specs.declared.flash.FlashFail.{FlashFail}
 use Rattle.pfr_flash.specs.declared.flash.FlashFail.TheVariants.{Fault, Lost as Loses}
 use Rattle.pfr_calm.specs.Goes.{Ran, Stopped}
@@ -47,6 +47,7 @@ use Rattle.pfr_calm.specs.Spans.{count_at, ReleasedSpans, opens_from}
 use Rattle.pfr_calm.specs.Turn.{Course, Turn, course, next_item, fuse_stretch}
 use Rattle.pfr_calm.specs.Run.{takes_arm, with_arm, with_arm_at, armed, Did, Reached, CanRun}
 use Rattle.pfr_calm.specs.Promises.{added, IsDue, IsFaultLock, IsTrustedWith, ReleasesTrusted, LocksHaveCauses, FaultsHaveCauses}
+use Rattle.pfr_calm.proofs.Sequence.{NoneLost-at, NoneFailed-at}
 use Rattle.pfr_calm.proofs.Traces.{Traced-keeps, Precedes}
 use Rattle.pfr_calm.proofs.Saying.{Follows-traced}
 use Rattle.pfr_calm.proofs.Facts.{Setting, Fact, IsGood, IsLater, IsLater-refl, IsLater-trans}
@@ -78,23 +79,14 @@ arm_counts armed_what.Cut nth tear d = (refl, refl)
 arm_counts armed_what.Fault nth tear d = (refl, refl)
 arm_counts armed_what.ReadFault nth tear d = (refl, refl)
 
-counts_armed : (d : Device) (w : ArmWhat) (nth : ℕ) (tear : List ℕ) (old : World) (which : Device)
-    → ((state_at which (next_item (with_arm_at d w nth tear old))).faults ≡ (state_at which old).faults) × ((state_at which (next_item (with_arm_at d w nth tear old))).losses ≡ (state_at which old).losses)
-counts_armed device.Bmc w nth tear old device.Bmc = arm_counts w nth tear old.bmc
-counts_armed device.Bmc w nth tear old device.Pch = (refl, refl)
-counts_armed device.Bmc w nth tear old device.Nv = (refl, refl)
-counts_armed device.Pch w nth tear old device.Bmc = (refl, refl)
-counts_armed device.Pch w nth tear old device.Pch = arm_counts w nth tear old.pch
-counts_armed device.Pch w nth tear old device.Nv = (refl, refl)
-counts_armed device.Nv w nth tear old device.Bmc = (refl, refl)
-counts_armed device.Nv w nth tear old device.Pch = (refl, refl)
-counts_armed device.Nv w nth tear old device.Nv = arm_counts w nth tear old.nv
+-- nor does one let a call fail, or a device lose its power
+counts_armed : (d : Device) (w : ArmWhat) (nth : ℕ) (tear : List ℕ) (old : World) → NoneFailed old (next_item (with_arm_at d w nth tear old)) × NoneLost old (next_item (with_arm_at d w nth tear old))
+counts_armed device.Bmc w nth tear old = let e = arm_counts w nth tear old.bmc in (record { bmc = e.0; pch = refl; nv = refl }, record { bmc = e.1; pch = refl; nv = refl })
+counts_armed device.Pch w nth tear old = let e = arm_counts w nth tear old.pch in (record { bmc = refl; pch = e.0; nv = refl }, record { bmc = refl; pch = e.1; nv = refl })
+counts_armed device.Nv w nth tear old = let e = arm_counts w nth tear old.nv in (record { bmc = refl; pch = refl; nv = e.0 }, record { bmc = refl; pch = refl; nv = e.1 })
 
--- nor does one let a call fail
 pub failed_armed : (arm : Arm) (tear : List ℕ) (w : World) → NoneFailed w (armed arm tear w)
-failed_armed arm tear w =
-    let each : (which : Device) → (state_at which (armed arm tear w)).faults ≡ (state_at which w).faults = λ which. (counts_armed arm.device arm.what arm.nth tear w which).0 in
-    record { bmc = each device.Bmc; pch = each device.Pch; nv = each device.Nv }
+failed_armed arm tear w = (counts_armed arm.device arm.what arm.nth tear w).0
 
 had_armed : (w : ArmWhat) (nth : ℕ) (tear : List ℕ) (d : FlashState) → HadBytes (with_arm w nth tear d) → HadBytes d
 had_armed armed_what.Cut nth tear d h = record { start = h.start; ops = h.ops }
@@ -108,8 +100,8 @@ bytes_armed device.Nv w nth tear old h = record { bmc = h.bmc; pch = h.pch; nv =
 
 IsLater-armed : (arm : Arm) (tear : List ℕ) (w : World) → IsLater w (armed arm tear w)
 IsLater-armed arm tear w = record {
-  faults = λ which. let e = (counts_armed arm.device arm.what arm.nth tear w which).0 in omega (arith, e);
-  losses = λ which. let e = (counts_armed arm.device arm.what arm.nth tear w which).1 in omega (arith, e);
+  faults = λ which. let e = NoneFailed-at which w (armed arm tear w) (counts_armed arm.device arm.what arm.nth tear w).0 in omega (arith, e);
+  losses = λ which. let e = NoneLost-at which w (armed arm tear w) (counts_armed arm.device arm.what arm.nth tear w).1 in omega (arith, e);
   bytes = λ h. bytes_armed arm.device arm.what arm.nth tear w h;
 }
 

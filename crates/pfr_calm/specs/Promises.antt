@@ -10,7 +10,7 @@ use Rattle.pfr_flash.specs.declared.names.Device.{Device}
 use Rattle.pfr_engine.specs.Acceptance.{Acceptance}
 use Rattle.pfr_fuses.specs.FusesState.{FusesState}
 use Rattle.pfr_fuses.specs.FusesOf.{fuses_of}
-use Rattle.pfr_fuses.specs.RootSlot.{layout_of, provision_in}
+use Rattle.pfr_fuses.specs.RootSlot.{IsSlot, layout_of, provision_in}
 use Rattle.pfr_fuses.specs.Slots.{IsUnset, HasBlank, IsProvisionedBy, slot_at}
 use Rattle.pfr_fuses.specs.Provisioning.{judge_provision}
 use Rattle.pfr_fuses.specs.declared.fuse_fail.FuseFail.{FuseFail}
@@ -127,6 +127,11 @@ HasPower w = ¬ AreOff w → IsOn w
 abbrev pub IsProvision : Event → Type 0
 IsProvision (event.Provision what) = Unit {0}
 IsProvision e = ⊥
+
+-- what a script provisions is a slot
+abbrev pub IsKnownSlot : Event → Type 0
+IsKnownSlot (event.Provision what) = IsSlot what
+IsKnownSlot e = Unit {0}
 
 -- An event is noted to be ignored only where the banks are off, and isn't a power-on; what a provision comes to is noted only at
 -- a provision of banks that aren't off.
