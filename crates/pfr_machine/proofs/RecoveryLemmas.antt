@@ -33,11 +33,8 @@ pub layout_there : (which : Bank) (fuses : FusesState) (d : FlashState) → judg
 layout_there which fuses d j = subst (λ (n : ℕ). IsValidLayout (layout_of fuses.provision which) n) (sym (length-now d)) (judged_valid _ _ j)
 
 pub placed_by : (a : Authentication) (which : Bank) (image : List ℕ) (found : Result FusesState FuseFail) → HasLayout which image found → IsPlaced a which image found
-placed_by Unprovisioned which image found h = tt
-placed_by SlotsSpent which image found h = tt
-placed_by (BadLayout rule) which image found h = tt
 placed_by (Untrusted why) which image found h = h
-placed_by (Trusted svn) which image found h = tt
+placed_by _ which image found h = tt
 
 pub placed_if : {E : Type 0} (r : Result Authentication E) (which : Bank) (image : List ℕ) (found : Result FusesState FuseFail) → HasLayout which image found
     → IfOk r (λ a. IsPlaced a which image found)
@@ -46,10 +43,7 @@ placed_if (Err e) which image found h = tt
 
 without_placed : (which : Bank) (image : List ℕ) (found : Result FusesState FuseFail) (cause : FuseFail) → IsPlaced (without_fuses cause) which image found
 without_placed which image found fuse.SlotsSpent = tt
-without_placed which image found fuse.NotProvisioned = tt
-without_placed which image found fuse.AlreadyProvisioned = tt
-without_placed which image found (fuse.LayoutBad b rule) = tt
-without_placed which image found (fuse.Flash fail) = tt
+without_placed which image found _ = tt
 
 pub without_placed_at : (which : Bank) (image : List ℕ) (found : Result FusesState FuseFail) (cause : FuseFail) (a : Authentication) → a ≡ without_fuses cause → IsPlaced a which image found
 without_placed_at which image found cause a h = subst (λ (b : Authentication). IsPlaced b which image found) (sym h) (without_placed which image found cause)

@@ -1,5 +1,5 @@
 -- A whole step, from what was done at its event.
-use Rattle.std.proofs.Common.{◌≡◌, ◌∙◌, refl, sym, ap, subst, ◌≤◌, ◌*◌, ◌+◌, true, List, [], ◌∷◌, length, inl, inr, Option, arith, Result, Ok, Err, OnOk}
+use Rattle.std.proofs.Common.{◌≡◌, ◌∙◌, refl, sym, ap, subst, ℕ, ◌≤◌, ◌*◌, ◌+◌, true, List, [], ◌∷◌, length, inl, inr, Option, arith, Result, Ok, Err, OnOk}
 use Rattle.std.specs.Prelude.{◌≢◌}
 use Rattle.pfr_flash.specs.FlashState.{FlashState}
 use Rattle.pfr_flash.specs.Moved.{Moved}
@@ -29,7 +29,7 @@ use Rattle.pfr_fuses.specs.Growth.{KeepsProvision}
 use Rattle.pfr_calm.proofs.GrowthLaws.{Turn-keeps_provision}
 use Rattle.pfr_calm.proofs.RunLaws.{Turn-item}
 use Rattle.pfr_calm.proofs.ProvisionLaws.{Turn-provisions}
-use Rattle.pfr_machine.specs.Checks.{HasSlot, IsTaken}
+use Rattle.pfr_machine.specs.Checks.{IsTaken}
 
 -- a step that only notes something
 pub only_noted : (moves : List Move) (old new : World) → Ran moves old new → Follows (record { first = moves; stretches = [] }) old new
@@ -61,24 +61,14 @@ module _ (old begun : World) (b : Begun old begun) where
   story_begun = ap story_of b.is ∙ ap (λ (l : List Note). record (story_of (next_item old)) { notes = l }) b.list
 
   ran_begun : (moves : List Move) (mid : World) → Ran moves begun mid → Ran moves (next_item old) mid
-  ran_begun moves mid p = record {
-    is = p.is ∙ ap (λ (s : Story). after moves s) story_begun;
-    moved = record {
-      bmc = subst (λ (d : FlashState). Moved d mid.bmc) (ap (λ (w : World). w.bmc) b.is) p.moved.bmc;
-      pch = subst (λ (d : FlashState). Moved d mid.pch) (ap (λ (w : World). w.pch) b.is) p.moved.pch;
-      nv = subst (λ (d : FlashState). Moved d mid.nv) (ap (λ (w : World). w.nv) b.is) p.moved.nv;
-    };
-    none_lost = record {
-      bmc = p.none_lost.bmc ∙ ap (λ (w : World). w.bmc.losses) b.is;
-      pch = p.none_lost.pch ∙ ap (λ (w : World). w.pch.losses) b.is;
-      nv = p.none_lost.nv ∙ ap (λ (w : World). w.nv.losses) b.is;
-    };
-    none_failed = record {
-      bmc = p.none_failed.bmc ∙ ap (λ (w : World). w.bmc.faults) b.is;
-      pch = p.none_failed.pch ∙ ap (λ (w : World). w.pch.faults) b.is;
-      nv = p.none_failed.nv ∙ ap (λ (w : World). w.nv.faults) b.is;
-    };
-  }
+  ran_begun moves mid p =
+      let q = subst (λ (w : World). Ran moves w mid) b.is p in
+      record {
+        is = p.is ∙ ap (λ (s : Story). after moves s) story_begun;
+        moved = record { bmc = q.moved.bmc; pch = q.moved.pch; nv = q.moved.nv };
+        none_lost = record { bmc = q.none_lost.bmc; pch = q.none_lost.pch; nv = q.none_lost.nv };
+        none_failed = record { bmc = q.none_failed.bmc; pch = q.none_failed.pch; nv = q.none_failed.nv };
+      }
 
   course_of : (accepts : Acceptance) (e : Event) (notes other : List Note) (s t : Story) → s.notes ≡ notes → t.notes ≡ other → notes ≡ other → course accepts e s ≡ course accepts e t
   course_of accepts event.Power notes other s t p q r = refl
@@ -131,11 +121,6 @@ pub by_three : {A B C D : Type 0} {T U : Type 0} (r : Result T U) → OnOk r A �
 by_three (Ok x) a b c f = f a b c
 by_three (Err e) a b c f = tt
 
-pub provisions_so : (accepts : Acceptance) (e : Event) (old new : World) → size_of old.nv ≡ 32768 → (¬ AreOff old → HasSlot e) → Turn accepts e old new → ProvisionsSo e old new
-provisions_so accepts event.Power old new size slot t = tt
-provisions_so accepts event.Off old new size slot t = tt
-provisions_so accepts (event.Provision what) old new size slot t = λ on. Turn-provisions accepts (event.Provision what) old new size (slot on) t on
-
 -- ---- no device has power where banks went off
 -- an event that is taken by how the banks stand is taken by the lines
 pub taken_by_line : (e : Event) (lines : Lines) (w : World) → AreLines lines w → (AreOff w → IsPower e) → IsTaken e lines
@@ -151,24 +136,16 @@ line_off line.Running e = cc
 pub off_line : (lines : Lines) (w : World) → AreLines lines w → AreOff w → lines.bmc ≡ line.Off
 off_line lines w h e = line_off lines.bmc (sym (ap is_off h.bmc) ∙ e)
 
+no_loss : (item : ℕ) (notes : List Note) (device : Option Device) (at : Counts) → notes ≡ record { item = item + 1; what = Ignored } ∷ [] → ¬ IsNoted notes (Lost device at)
+no_loss item notes device at e n = elim (subst (λ (ns : List Note). IsNoted ns (Lost device at)) e n) [ inl same ↦ absurd cc | inr x ↦ x ]
+
 pub lost_taken : (e : Event) (old new : World) (device : Option Device) (at : Counts) → StaysQuiet e old new → IsNoted (added old new) (Lost device at) → AreOff old → IsPower e
 lost_taken event.Power old new device at q n off = tt
-lost_taken event.Off old new device at q n off = never (added old new) (q off (λ p. p)).notes n
-  where
-    never : (notes : List Note) → notes ≡ record { item = old.item + 1; what = Ignored } ∷ [] → IsNoted notes (Lost device at) → ⊥
-    never notes e n = elim (subst (λ (ns : List Note). IsNoted ns (Lost device at)) e n) [ inl same ↦ absurd cc | inr x ↦ x ]
-lost_taken (event.Provision what) old new device at q n off = never (added old new) (q off (λ p. p)).notes n
-  where
-    never : (notes : List Note) → notes ≡ record { item = old.item + 1; what = Ignored } ∷ [] → IsNoted notes (Lost device at) → ⊥
-    never notes e n = elim (subst (λ (ns : List Note). IsNoted ns (Lost device at)) e n) [ inl same ↦ absurd cc | inr x ↦ x ]
+lost_taken event.Off old new device at q n off = no_loss old.item (added old new) device at (q off (λ p. p)).notes n
+lost_taken (event.Provision what) old new device at q n off = no_loss old.item (added old new) device at (q off (λ p. p)).notes n
 
 pub lost_is_dark : (e : Event) (old new : World) → StaysQuiet e old new → LostEnds old new → ((AreOff old → IsPower e) → AreOff new → IsDark new) → LostIsDark old new
 lost_is_dark e old new quiet ends dark device at n = dark (λ off. lost_taken e old new device at quiet n off) (ap is_off (ends device at n).bmc)
-
-pub keeps_so : (accepts : Acceptance) (e : Event) (old new : World) → size_of old.nv ≡ 32768 → (¬ AreOff old → HasSlot e) → Turn accepts e old new → KeepsProvision old.nv new.nv
-keeps_so accepts event.Power old new size slot t = Turn-keeps_provision accepts event.Power old new size (λ on. tt) t
-keeps_so accepts event.Off old new size slot t = Turn-keeps_provision accepts event.Off old new size (λ on. tt) t
-keeps_so accepts (event.Provision what) old new size slot t = Turn-keeps_provision accepts (event.Provision what) old new size slot t
 
 -- the devices have power where the lines aren't off
 pub on_by_line : (lines : Lines) (w : World) → AreLines lines w → HasPower w

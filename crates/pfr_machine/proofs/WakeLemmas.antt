@@ -19,6 +19,7 @@ use Rattle.pfr_report.specs.declared.note.What.TheVariants.{Power, Held, Locked,
 use Rattle.pfr_calm.specs.Story.{Story, Move, Says, Does, after, noted, image_at}
 use Rattle.pfr_calm.specs.World.{World, story_of}
 use Rattle.pfr_calm.specs.Goes.{Ran, Stopped, Goes}
+use Rattle.pfr_calm.specs.Authentication.{authentication_of, recovery_of}
 use Rattle.pfr_calm.specs.Plans.{authentication_at, recovery_at, lock_of, brought_up, concluded, distrusted}
 use Rattle.pfr_calm.specs.declared.authentication.Authentication.TheVariants.{Untrusted}
 use Rattle.pfr_calm.specs.declared.stop.Stop.{Stop}
@@ -31,24 +32,19 @@ use Rattle.pfr_calm.specs.Story.{device_of}
 use Rattle.pfr_calm.specs.Turn.{StopsInCheck, bank_or_store, is_store, bank_stretch, bank_stretches, power_stretches, fuse_stretch, fault_of, unreadable, power_course, Follows}
 use Rattle.pfr_calm.proofs.Sequence.{Ran-append, Stopped-append, Stopped-more}
 use Rattle.pfr_calm.proofs.Courses.{Steps-none, Steps-next, Steps-crossed, Steps-ended, Faults-stopped, Halts-first, Halts-next, Halts-crossed, Halts-noted}
+use Rattle.pfr_calm.proofs.Traces.{image_noted}
 use Rattle.pfr_machine.specs.Checks.{HasLayout}
+use Rattle.pfr_machine.proofs.WorldLemmas.{stopped_as}
 
 abbrev pub store : Device
 store = device.Nv
 
 -- ---- what was noted changes nothing that a check finds
 noted_same : (accepts : Acceptance) (which : Bank) (says : Counts → What) (story : Story) → authentication_at accepts which (noted says story) ≡ authentication_at accepts which story
-noted_same accepts bank.Bmc says story = refl
-noted_same accepts bank.Pch says story = refl
+noted_same accepts which says story = ap (λ (image : List ℕ). authentication_of which image (image_at store story) accepts) (image_noted (device_of which) says story)
 
 recovery_same : (accepts : Acceptance) (which : Bank) (says : Counts → What) (story : Story) → recovery_at accepts which (noted says story) ≡ recovery_at accepts which story
-recovery_same accepts bank.Bmc says story = refl
-recovery_same accepts bank.Pch says story = refl
-
-placed_same : (which : Bank) (found : Result FusesState FuseFail) (says : Counts → What) (story : Story) → HasLayout which (image_at (device_of which) story) found
-    → HasLayout which (image_at (device_of which) (noted says story)) found
-placed_same bank.Bmc found says story h = h
-placed_same bank.Pch found says story h = h
+recovery_same accepts which says story = ap (λ (image : List ℕ). recovery_of which image (image_at store story) accepts) (image_noted (device_of which) says story)
 
 -- nothing was done where a plan of nothing stopped
 none_before : (front left : List Move) → [] ≡ front ++ left → (front ≡ []) × (left ≡ [])
@@ -111,7 +107,7 @@ module _ (accepts : Acceptance) (which : Bank) (why : ActiveFail) (old mid : Wor
   against_noted = ap (λ (s : Story). recovery_at accepts which s) p.is ∙ recovery_same accepts which (λ at. NotTrusted which why) (story_of old)
 
   pub placed_noted : (found : Result FusesState FuseFail) → HasLayout which (image_at (device_of which) (story_of old)) found → HasLayout which (image_at (device_of which) (story_of mid)) found
-  placed_noted found h = subst (λ (s : Story). HasLayout which (image_at (device_of which) s) found) (sym p.is) (placed_same which found (λ at. NotTrusted which why) (story_of old) h)
+  placed_noted found h = rw (p.is, image_noted (device_of which) (λ at. NotTrusted which why) (story_of old)) h
 
   pub doubted : (against : Option CapsuleFail) (lock : LockWhy) (judged new : World) → Ran [] mid judged → against ≡ recovery_at accepts which (story_of mid) → lock ≡ lock_of why against
       → Ran (Says (Locked which lock) ∷ []) judged new → Ran (concluded which (recovery_at accepts which (story_of old)) (Untrusted why)) old new
@@ -150,8 +146,7 @@ pub faulted : (accepts : Acceptance) (which : Bank) (device found_device : Devic
     → why ≡ fault_of device → Ran (Says (Locked which why) ∷ []) mid new → CrossesOrFaults (bank_stretch accepts which) old new
 faulted accepts which device found_device fail why old mid new f d s c n w r =
     inr (Faults-stopped (bank_stretch accepts which) device old mid new (calls which device (sym d ∙ c))
-    (subst (λ (x : FlashFail). Stopped (brought_up accepts which (story_of old)) device x old mid) f
-    (subst (λ (x : Device). Stopped (brought_up accepts which (story_of old)) x fail old mid) d s))
+    (stopped_as (brought_up accepts which (story_of old)) f d s)
     n (subst (λ (x : LockWhy). Ran (Says (Locked which x) ∷ []) mid new) w r))
 
 -- ---- both banks, one after the other
@@ -165,28 +160,19 @@ module _ (accepts : Acceptance) (old mid new : World) where
   pub second_halts : (device : Device) → CrossesOrFaults (bank_stretch accepts bank.Bmc) old mid → Halt (bank_stretch accepts bank.Pch) device mid new → Halts (bank_stretches accepts) device old new
   second_halts device p q = Halts-next (bank_stretch accepts bank.Bmc) (bank_stretch accepts bank.Pch ∷ []) device old mid new refl p (inl q)
 
-  -- the fuses were read and migrated
-  pub woken : Ran (migrated (story_of old)) old mid → Steps (bank_stretches accepts) mid new → Steps (power_stretches accepts) old new
-  woken p q = Steps-crossed fuse_stretch (bank_stretches accepts) old mid new p q
-
-  pub woken_halts : (device : Device) → Ran (migrated (story_of old)) old mid → Halts (bank_stretches accepts) device mid new → Halts (power_stretches accepts) device old new
-  woken_halts device p q = Halts-crossed fuse_stretch (bank_stretches accepts) device old mid new p q
-
   -- they could not be
   pub unread : (device : Device) (fail : FlashFail) → fail ≡ Fault → device ≡ store → Stopped (migrated (story_of old)) device fail old mid → mid.notes ≡ old.notes
       → Ran unreadable mid new → Steps (power_stretches accepts) old new
   unread device fail f d s n r =
       Steps-ended fuse_stretch (bank_stretches accepts) old new refl
       (Faults-stopped fuse_stretch store old mid new refl
-      (subst (λ (x : FlashFail). Stopped (migrated (story_of old)) store x old mid) f
-      (subst (λ (x : Device). Stopped (migrated (story_of old)) x fail old mid) d s)) (ap (λ (x : NotesState). x.list) n) r)
+      (stopped_as (migrated (story_of old)) f d s) (ap (λ (x : NotesState). x.list) n) r)
 
 pub unread_halts : (accepts : Acceptance) (old new : World) (device found_device : Device) (fail : FlashFail) → fail ≡ Lost → found_device ≡ device → found_device ≡ store
     → Stopped (migrated (story_of old)) found_device fail old new → new.notes ≡ old.notes → Halts (power_stretches accepts) device old new
 unread_halts accepts old new device found_device fail f e d s n =
     Halts-first fuse_stretch (bank_stretches accepts) device old new (ap is_store (sym e ∙ d))
-    (subst (λ (x : FlashFail). Stopped (migrated (story_of old)) device x old new) f
-    (subst (λ (x : Device). Stopped (migrated (story_of old)) x fail old new) e s)) (ap (λ (x : NotesState). x.list) n)
+    (stopped_as (migrated (story_of old)) f e s) (ap (λ (x : NotesState). x.list) n)
 
 -- ---- the fuses are read, and then migrated
 pub prepared : (old mid new : World) → Ran [] old mid → Ran (migrated (story_of mid)) mid new → Ran (migrated (story_of old)) old new
@@ -201,13 +187,13 @@ unprepared device fail old new p = Stopped-more [] (migrated (story_of old)) dev
 -- ---- the answer of bringing up both, after the fuses were prepared
 pub woken_ok : {T : Type 0} (accepts : Acceptance) (old mid new : World) (r : Result T Device) → Ran (migrated (story_of old)) old mid
     → OnOk r (Steps (bank_stretches accepts) mid new) → OnOk r (Steps (power_stretches accepts) old new)
-woken_ok accepts old mid new (Ok x) p q = woken accepts old mid new p q
+woken_ok accepts old mid new (Ok x) p q = Steps-crossed fuse_stretch (bank_stretches accepts) old mid new p q
 woken_ok accepts old mid new (Err device) p q = tt
 
 pub woken_err : {T : Type 0} (accepts : Acceptance) (old mid new : World) (r : Result T Device) → Ran (migrated (story_of old)) old mid
     → IfErr r (λ device. Halts (bank_stretches accepts) device mid new) → IfErr r (λ device. Halts (power_stretches accepts) device old new)
 woken_err accepts old mid new (Ok x) p q = tt
-woken_err accepts old mid new (Err device) p q = woken_halts accepts old mid new device p q
+woken_err accepts old mid new (Err device) p q = Halts-crossed fuse_stretch (bank_stretches accepts) device old mid new p q
 
 -- ---- the whole step
 pub powered_on : (accepts : Acceptance) (old up noted new : World) → Ran [] old up → Ran (Says (λ at. Power) ∷ []) up noted → Steps (power_stretches accepts) noted new → Follows (power_course accepts) old new

@@ -63,11 +63,6 @@ abbrev pub without_fuses : FuseFail → Authentication
 without_fuses SlotsSpent = NoSlot
 without_fuses cause = Unprovisioned
 
--- what an event provisions is of numbers that a slot holds
-abbrev pub HasSlot : Event → Type 0
-HasSlot (event.Provision what) = IsSlot what
-HasSlot other = Unit {0}
-
 -- the event is taken: it is a power-on, or the banks aren't off
 abbrev pub IsTaken : Event → Lines → Type 0
 IsTaken event.Power lines = Unit {0}
