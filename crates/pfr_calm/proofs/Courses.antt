@@ -33,10 +33,6 @@ Steps-crossed s ss old mid new c q = inl (mid, c, q)
 pub Steps-ended : (s : Stretch) (ss : List Stretch) (old new : World) → s.goes_on ≡ false → Faults s old new → Steps (s ∷ ss) old new
 Steps-ended s ss old new g f = inr (inl (new, f, goes_on_false s.goes_on (Steps ss) new new g (Ran-refl new)))
 
--- the power was lost on the first stretch
-pub Steps-lost : (s : Stretch) (ss : List Stretch) (old new : World) → LosesPower s old new → Steps (s ∷ ss) old new
-Steps-lost s ss old new p = inr (inr p)
-
 -- ---- stretches from where their work stopped
 pub Faults-stopped : (s : Stretch) (which : Device) (old mid new : World) → s.calls which ≡ true
     → Stopped (s.plan (story_of old)) which Fault old mid → s.stops (story_of old) (story_of mid)

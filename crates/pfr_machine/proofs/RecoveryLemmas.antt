@@ -24,6 +24,7 @@ use Rattle.pfr_calm.specs.World.{World, story_of, state_at}
 use Rattle.pfr_calm.specs.declared.authentication.Authentication.{Authentication}
 use Rattle.pfr_calm.specs.declared.authentication.Authentication.TheVariants.{Unprovisioned, SlotsSpent, BadLayout, Untrusted, Trusted}
 use Rattle.pfr_machine.specs.Checks.{HasLayout, IsPlaced, without_fuses}
+use Rattle.pfr_machine.proofs.ReadLemmas.{image_is}
 
 pub stands_bank : (nv : List ℕ) (fuses : FusesState) (which : Bank) → fuses_of nv ≡ Ok fuses → StandForBank nv fuses which
 stands_bank nv fuses which p = record { all = fuses; provisioned = p; provision = refl; floor = refl; capsule_row = refl; manifest_row = refl }
@@ -60,9 +61,7 @@ not_without which cause found image e h = subst (λ (f : Result FusesState FuseF
 pub recovery_found_at : (accepts : Acceptance) (which : Bank) (w : World) (found : Result FusesState FuseFail) (against : Option CapsuleFail)
     → against ≡ recovery_with which (now (state_at (device_of which) w)) accepts found → found ≡ fuses_of (now w.nv) → against ≡ recovery_at accepts which (story_of w)
 unfolding recovery_of
-recovery_found_at accepts bank.Bmc w found against h f = h ∙ ap (λ (x : Result FusesState FuseFail). recovery_with bank.Bmc (now w.bmc) accepts x) f
-recovery_found_at accepts bank.Pch w found against h f = h ∙ ap (λ (x : Result FusesState FuseFail). recovery_with bank.Pch (now w.pch) accepts x) f
+recovery_found_at accepts which w found against h f = h ∙ rw (f, image_is which w) refl
 
 pub layout_in_story : (which : Bank) (w : World) (found : Result FusesState FuseFail) → HasLayout which (image_at (device_of which) (story_of w)) found → HasLayout which (now (state_at (device_of which) w)) found
-layout_in_story bank.Bmc w found h = h
-layout_in_story bank.Pch w found h = h
+layout_in_story which w found h = rw (image_is which w) h

@@ -35,21 +35,14 @@ use Rattle.pfr_machine.specs.Checks.{IsTaken}
 pub only_noted : (moves : List Move) (old new : World) → Ran moves old new → Follows (record { first = moves; stretches = [] }) old new
 only_noted moves old new p = (new, p, Steps-none new)
 
-where_is_off : (s : Standing) (how : Line) (off on : Course) → s ≡ standing_by how → how ≡ line.Off → where_off (is_off s) off on ≡ off
-where_is_off s how off on e f = ap (λ (x : Standing). where_off (is_off x) off on) (e ∙ ap standing_by f)
-
-where_is_on : (how : Line) (off on : Course) → how ≢ line.Off → where_off (is_off (standing_by how)) off on ≡ on
-where_is_on line.Off off on n = absurd (n refl)
-where_is_on line.Locked off on n = refl
-where_is_on line.Running off on n = refl
-
 -- by how the banks stand
 pub at_off : (s : Standing) (how : Line) (off on : Course) (old new : World) → s ≡ standing_by how → how ≡ line.Off → Follows off old new → Follows (where_off (is_off s) off on) old new
-at_off s how off on old new e f p = subst (λ (c : Course). Follows c old new) (sym (where_is_off s how off on e f)) p
+at_off s how off on old new e f p = rw (e, f) p
 
 pub at_on : (s : Standing) (how : Line) (off on : Course) (old new : World) → s ≡ standing_by how → how ≢ line.Off → Follows on old new → Follows (where_off (is_off s) off on) old new
-at_on s how off on old new e n p =
-    subst (λ (c : Course). Follows c old new) (sym (ap (λ (x : Standing). where_off (is_off x) off on) e ∙ where_is_on how off on n)) p
+at_on s line.Off off on old new e n p = absurd (n refl)
+at_on s line.Locked off on old new e n p = rw e p
+at_on s line.Running off on old new e n p = rw e p
 
 -- ---- an item was begun
 pub record Begun (old begun : World) : Type 0 where
@@ -82,11 +75,7 @@ module _ (old begun : World) (b : Begun old begun) where
       subst (λ (c : Course). Follows c (next_item old) new) same (mid, ran_begun _ mid p, q)
 
   on_begun : IsOn old → IsOn begun
-  on_begun on = record {
-    bmc = ap (λ (w : World). w.bmc.powered) b.is ∙ on.bmc;
-    pch = ap (λ (w : World). w.pch.powered) b.is ∙ on.pch;
-    nv = ap (λ (w : World). w.nv.powered) b.is ∙ on.nv;
-  }
+  on_begun on = subst (λ (w : World). IsOn w) (sym b.is) (record { bmc = on.bmc; pch = on.pch; nv = on.nv })
 
   pub lines_begun : (lines : Lines) → AreLines lines old → AreLines lines begun
   lines_begun lines h = record {
@@ -153,11 +142,8 @@ on_by_line lines w h n = h.powered (λ e. n (ap is_off (h.bmc ∙ ap standing_by
 
 -- no device was called where none was since the item was begun
 pub untouched_begun : (old begun : World) → Begun old begun → (new : World) → SameDevices begun new → SameDevices old new
-untouched_begun old begun b new s = record {
-  bmc = s.bmc ∙ ap (λ (w : World). w.bmc) b.is;
-  pch = s.pch ∙ ap (λ (w : World). w.pch) b.is;
-  nv = s.nv ∙ ap (λ (w : World). w.nv) b.is;
-}
+untouched_begun old begun b new s =
+    let q = subst (λ (w : World). SameDevices w new) b.is s in record { bmc = q.bmc; pch = q.pch; nv = q.nv }
 
 -- banks are off where the line says so
 pub off_by_line : (lines : Lines) (w : World) → AreLines lines w → ¬ AreOff w → ¬ (lines.bmc ≡ line.Off)

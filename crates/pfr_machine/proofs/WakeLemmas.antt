@@ -16,7 +16,7 @@ use Rattle.pfr_auth.specs.declared.fail.ActiveFail.{ActiveFail}
 use Rattle.pfr_report.specs.NotesState.{NotesState}
 use Rattle.pfr_report.specs.declared.note.What.{What}
 use Rattle.pfr_report.specs.declared.note.What.TheVariants.{Power, Held, Locked, Untrusted as NotTrusted}
-use Rattle.pfr_calm.specs.Story.{Story, Move, Says, Does, after, noted, image_at}
+use Rattle.pfr_calm.specs.Story.{Story, Move, Says, Does, Plan, after, noted, image_at, says, then}
 use Rattle.pfr_calm.specs.World.{World, story_of}
 use Rattle.pfr_calm.specs.Goes.{Ran, Stopped, Goes}
 use Rattle.pfr_calm.specs.Authentication.{authentication_of, recovery_of}
@@ -30,7 +30,7 @@ use Rattle.pfr_calm.specs.Course.{CrossesOrFaults, Halt, Halts, Steps, lost}
 use Rattle.pfr_calm.specs.Plans.{migrated}
 use Rattle.pfr_calm.specs.Story.{device_of}
 use Rattle.pfr_calm.specs.Turn.{StopsInCheck, bank_or_store, is_store, bank_stretch, bank_stretches, power_stretches, fuse_stretch, fault_of, unreadable, power_course, Follows}
-use Rattle.pfr_calm.proofs.Sequence.{Ran-append, Stopped-append, Stopped-more}
+use Rattle.pfr_calm.proofs.Sequence.{Ran-append, Stopped-append, Stopped-more, Goes-then, Goes-same, Goes-read}
 use Rattle.pfr_calm.proofs.Courses.{Steps-none, Steps-next, Steps-crossed, Steps-ended, Faults-stopped, Halts-first, Halts-next, Halts-crossed, Halts-noted}
 use Rattle.pfr_calm.proofs.Traces.{image_noted}
 use Rattle.pfr_machine.specs.Checks.{HasLayout}
@@ -67,23 +67,16 @@ module _ (accepts : Acceptance) (which : Bank) (a : Authentication) (old held ju
   judged_is : story_of judged ≡ noted (Held which) (story_of old)
   judged_is = q.is ∙ p.is
 
-  against_same : recovery_at accepts which (story_of judged) ≡ recovery_at accepts which (story_of old)
-  against_same = ap (λ (s : Story). recovery_at accepts which s) judged_is ∙ recovery_same accepts which (Held which) (story_of old)
-
   found_same : a ≡ authentication_at accepts which (story_of old)
   found_same = e ∙ held_same accepts which old held p
 
-  plan_is : Says (Held which) ∷ concluded which (recovery_at accepts which (story_of judged)) a ≡ brought_up accepts which (story_of old)
-  plan_is = rw (against_same, found_same) refl
+  plan_is : Says (Held which) ∷ concluded which (recovery_at accepts which (noted (Held which) (story_of old))) a ≡ brought_up accepts which (story_of old)
+  plan_is = rw (recovery_same accepts which (Held which) (story_of old), found_same) refl
 
   pub brought : {T : Type 0} (new : World) (r : Result T Stop) → Goes (λ s. concluded which (recovery_at accepts which s) a) judged new r → Goes (brought_up accepts which) old new r
-  brought new (Ok x) g =
-      subst (λ (moves : List Move). Ran moves old new) plan_is
-      (Ran-append (Says (Held which) ∷ []) (concluded which (recovery_at accepts which (story_of judged)) a) old held new p (Ran-append [] (concluded which (recovery_at accepts which (story_of judged)) a) held judged new q g))
-  brought new (Err stop) g =
-      subst (λ (moves : List Move). Stopped moves stop.device stop.fail old new) plan_is
-      (Stopped-append (Says (Held which) ∷ []) (concluded which (recovery_at accepts which (story_of judged)) a) stop.device stop.fail old held new p
-      (Stopped-append [] (concluded which (recovery_at accepts which (story_of judged)) a) stop.device stop.fail held judged new q g))
+  brought new r g =
+      let rest : Plan = λ s. concluded which (recovery_at accepts which s) a in
+      Goes-same ((then) (says (Held which)) rest) (brought_up accepts which) old new r plan_is (Goes-then (says (Held which)) rest old held new r p (Goes-read rest held judged new r q g))
 
   pub brought_early : {T : Type 0} (new : World) (r : Result T Stop) → IfErr r (λ stop. story_of new ≡ after (distrusted which a) (story_of judged))
       → IfErr r (λ stop. StopsInCheck accepts which (story_of old) (story_of new))
@@ -173,16 +166,6 @@ pub unread_halts : (accepts : Acceptance) (old new : World) (device found_device
 unread_halts accepts old new device found_device fail f e d s n =
     Halts-first fuse_stretch (bank_stretches accepts) device old new (ap is_store (sym e ∙ d))
     (stopped_as (migrated (story_of old)) f e s) (ap (λ (x : NotesState). x.list) n)
-
--- ---- the fuses are read, and then migrated
-pub prepared : (old mid new : World) → Ran [] old mid → Ran (migrated (story_of mid)) mid new → Ran (migrated (story_of old)) old new
-prepared old mid new p q = subst (λ (s : Story). Ran (migrated s) old new) p.is (Ran-append [] (migrated (story_of mid)) old mid new p q)
-
-pub prepared_short : (device : Device) (fail : FlashFail) (old mid new : World) → Ran [] old mid → Stopped (migrated (story_of mid)) device fail mid new → Stopped (migrated (story_of old)) device fail old new
-prepared_short device fail old mid new p q = subst (λ (s : Story). Stopped (migrated s) device fail old new) p.is (Stopped-append [] (migrated (story_of mid)) device fail old mid new p q)
-
-pub unprepared : (device : Device) (fail : FlashFail) (old new : World) → Stopped [] device fail old new → Stopped (migrated (story_of old)) device fail old new
-unprepared device fail old new p = Stopped-more [] (migrated (story_of old)) device fail old new p
 
 -- ---- the answer of bringing up both, after the fuses were prepared
 pub woken_ok : {T : Type 0} (accepts : Acceptance) (old mid new : World) (r : Result T Device) → Ran (migrated (story_of old)) old mid
