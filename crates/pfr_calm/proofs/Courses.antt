@@ -4,7 +4,7 @@ use Rattle.pfr_flash.specs.declared.flash.FlashFail.TheVariants.{Fault, Lost}
 use Rattle.pfr_flash.specs.declared.names.Device.{Device}
 use Rattle.pfr_calm.specs.World.{World, story_of}
 use Rattle.pfr_calm.specs.Goes.{Ran, Stopped}
-use Rattle.pfr_calm.specs.Course.{Stretch, Crosses, Faults, LosesPower, CrossesOrFaults, Ends, goes_on_if, Steps, Halts, lost}
+use Rattle.pfr_calm.specs.Course.{Stretch, Crosses, Faults, CrossesOrFaults, Ends, goes_on_if, Steps, Halts, lost}
 use Rattle.pfr_calm.proofs.Sequence.{Ran-refl}
 
 -- nothing is left
