@@ -1,10 +1,8 @@
 -- What is found in the recovery area of a bank.
-use Rattle.std.proofs.Common.{◌≡◌, ◌∙◌, refl, sym, ap, subst, ℕ, List, Option, Result, Ok, Err, IfOk}
+use Rattle.std.proofs.Common.{◌≡◌, ◌∙◌, refl, sym, subst, ℕ, List, Option, Result, Ok, Err, IfOk}
 use Rattle.pfr_flash.specs.FlashState.{FlashState, now, size_of}
 use Rattle.pfr_flash.specs.Layout.{IsValidLayout, judge_layout}
-use Rattle.pfr_flash.specs.declared.layout.Layout.{Layout}
 use Rattle.pfr_flash.specs.declared.names.Bank.{Bank}
-use Rattle.pfr_flash.specs.declared.names.Bank.TheVariants as bank
 use Rattle.pfr_flash.proofs.LayoutLemmas.{judged_valid}
 use Rattle.pfr_flash.proofs.RangeLemmas.{length-now}
 use Rattle.pfr_engine.specs.Acceptance.{Acceptance}
@@ -13,16 +11,14 @@ use Rattle.pfr_fuses.specs.FusesState.{FusesState}
 use Rattle.pfr_fuses.specs.RootSlot.{layout_of}
 use Rattle.pfr_fuses.specs.declared.fuse_fail.FuseFail.{FuseFail}
 use Rattle.pfr_fuses.specs.declared.fuse_fail.FuseFail.TheVariants as fuse
-use Rattle.pfr_capsule.specs.Good.{IsGood, StandForBank}
+use Rattle.pfr_capsule.specs.Good.{StandForBank}
 use Rattle.pfr_capsule.specs.declared.fail.CapsuleFail.{CapsuleFail}
-use Rattle.pfr_auth.specs.Areas.{place_of}
-use Rattle.pfr_auth.specs.declared.areas.Area.TheVariants.{Recovery}
 use Rattle.pfr_calm.specs.Authentication.{recovery_with, recovery_of}
 use Rattle.pfr_calm.specs.Plans.{recovery_at}
 use Rattle.pfr_calm.specs.Story.{device_of, image_at}
 use Rattle.pfr_calm.specs.World.{World, story_of, state_at}
 use Rattle.pfr_calm.specs.declared.authentication.Authentication.{Authentication}
-use Rattle.pfr_calm.specs.declared.authentication.Authentication.TheVariants.{Unprovisioned, SlotsSpent, BadLayout, Untrusted, Trusted}
+use Rattle.pfr_calm.specs.declared.authentication.Authentication.TheVariants.{Untrusted}
 use Rattle.pfr_machine.specs.Checks.{HasLayout, IsPlaced, without_fuses}
 use Rattle.pfr_machine.proofs.ReadLemmas.{image_is}
 

@@ -1,7 +1,7 @@
 -- What is done in the store, in a row.
-use Rattle.std.proofs.Common.{◌≡◌, ◌∙◌, sym, ap, subst, ℕ, ◌≤◌, List, [], ◌++◌, length, arith, append-nil, append_assoc}
+use Rattle.std.proofs.Common.{◌≡◌, ◌∙◌, sym, ap, subst, ℕ, ◌≤◌, List, [], length, arith, append-nil}
 use Rattle.pfr_flash.specs.FlashState.{FlashState, upto, op_count_of}
-use Rattle.pfr_flash.specs.Moved.{Extends, Worked}
+use Rattle.pfr_flash.specs.Moved.{Worked}
 use Rattle.pfr_flash.specs.Operation.{Operation}
 use Rattle.pfr_flash.specs.Reading.{OnlyReads}
 use Rattle.pfr_flash.proofs.MovedLemmas.{Extends-trans}

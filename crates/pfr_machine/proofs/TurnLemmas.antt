@@ -1,8 +1,6 @@
 -- A whole step, from what was done at its event.
 use Rattle.std.proofs.Common.{◌≡◌, ◌∙◌, refl, sym, ap, subst, ℕ, ◌≤◌, ◌*◌, ◌+◌, true, List, [], ◌∷◌, length, inl, inr, Option, arith, Result, Ok, Err, OnOk}
 use Rattle.std.specs.Prelude.{◌≢◌}
-use Rattle.pfr_flash.specs.FlashState.{FlashState}
-use Rattle.pfr_flash.specs.Moved.{Moved}
 use Rattle.pfr_flash.specs.declared.names.Bank.TheVariants as bank
 use Rattle.pfr_engine.specs.Acceptance.{Acceptance}
 use Rattle.pfr_report.specs.declared.note.Note.{Note}
@@ -19,16 +17,12 @@ use Rattle.pfr_calm.proofs.Courses.{Steps-none}
 use Rattle.pfr_machine.specs.PlatformState.{PlatformState, AddsNotes}
 use Rattle.pfr_machine.specs.WorksInside.{AreLines, IsPlatform}
 use Rattle.pfr_machine.specs.declared.lines.Lines.{Lines}
-use Rattle.pfr_flash.specs.FlashState.{size_of}
 use Rattle.pfr_flash.specs.declared.names.Counts.{Counts}
 use Rattle.pfr_flash.specs.declared.names.Device.{Device}
 use Rattle.pfr_report.specs.Texts.{IsNoted}
 use Rattle.pfr_report.specs.declared.note.What.TheVariants.{Lost, Ignored}
-use Rattle.pfr_calm.specs.Promises.{AreOff, IsPower, ProvisionsSo, StaysQuiet, LostEnds, LostIsDark, HasPower, added}
-use Rattle.pfr_fuses.specs.Growth.{KeepsProvision}
-use Rattle.pfr_calm.proofs.GrowthLaws.{Turn-keeps_provision}
+use Rattle.pfr_calm.specs.Promises.{AreOff, IsPower, StaysQuiet, LostEnds, LostIsDark, HasPower, added}
 use Rattle.pfr_calm.proofs.RunLaws.{Turn-item}
-use Rattle.pfr_calm.proofs.ProvisionLaws.{Turn-provisions}
 use Rattle.pfr_machine.specs.Checks.{IsTaken}
 
 -- a step that only notes something

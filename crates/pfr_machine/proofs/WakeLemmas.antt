@@ -1,5 +1,5 @@
 -- How a bank is brought up, part by part.
-use Rattle.std.proofs.Common.{◌≡◌, ◌∙◌, refl, sym, ap, subst, ℕ, List, [], ◌∷◌, ◌++◌, true, false, Bool, inl, inr, Option, Some, None, Result, Ok, Err, OnOk, IfErr}
+use Rattle.std.proofs.Common.{◌≡◌, ◌∙◌, refl, sym, ap, subst, ℕ, List, [], ◌∷◌, ◌++◌, true, false, Bool, inl, inr, Option, Result, Ok, Err, OnOk, IfErr}
 use Rattle.std.specs.Prelude.{if◌then◌else◌}
 use Rattle.pfr_flash.specs.declared.flash.FlashFail.{FlashFail}
 use Rattle.pfr_flash.specs.declared.names.Bank.{Bank}
