@@ -72,20 +72,13 @@ module _ (base last : List Note) (calm : IsUndisturbed (drop (length base) last)
       (extends_trans base old.notes.list f.at.notes.list p (extends_by f.stopped.trace old f.at f.stopped.is))
       (subst (λ (x : Story). Extends x.notes last) f.noted.is behind)
 
-  loss_told : (s : Stretch) (old new : World) → LosesPower s old new → Extends base old.notes.list → Extends new.notes.list last → ⊥
-  loss_told s old new l p q =
-      let note : Note = record { item = l.at.item; what = what.Lost (Some l.which) (counts_of (story_of l.at)) } in
-      calm.on l.which (counts_of (story_of l.at)) (in_between base l.at.notes.list last note
-      (extends_trans base old.notes.list l.at.notes.list p (extends_by l.stopped.trace old l.at l.stopped.is))
-      (subst (λ (xs : List Note). Extends xs last) (ap (λ (x : Story). x.notes) l.noted.is) q))
-
   steps_told : (ss : List Stretch) (old new : World) → AllTell ss → Steps ss old new → Extends base old.notes.list → Extends new.notes.list last → NoneFailed old new
   steps_told [] old new tells r p q = r.none_failed
   steps_told (s ∷ ss) old new tells (inl (mid, c, rest)) p q =
       NoneFailed-trans old mid new c.none_failed
       (steps_told ss mid new tells.1 rest (extends_trans base old.notes.list mid.notes.list p (extends_by (s.plan (story_of old)) old mid c.is)) q)
   steps_told (s ∷ ss) old new tells (inr (inl (mid, f, rest))) p q = absurd (fault_told s ss old mid new tells.0 f rest p q)
-  steps_told (s ∷ ss) old new tells (inr (inr l)) p q = absurd (loss_told s old new l p q)
+  steps_told (s ∷ ss) old new tells (inr (inr l)) p q = NoneFailed-trans old l.at new l.stopped.cause.1 l.noted.none_failed
 
   -- ---- a step
   bank_tells : (accepts : Acceptance) (b : Bank) (which : Device) → TellsFault ((bank_stretch accepts b).on_fault which)

@@ -90,11 +90,10 @@ pub record FaultsHaveCauses (old new : World) : Type 0 where
       → Rose (state_at (device_of which) old).faults (state_at (device_of which) new).faults
   pub store : (which : Bank) (at : Counts) → IsNoted (added old new) (Locked which why.StoreFault at) → Rose old.nv.faults new.nv.faults
 
--- no bank is locked for a fault, and no device's loss of power is noted
+-- no bank is locked for a fault
 pub record IsUndisturbed (notes : List Note) : Type 0 where
   pub flash : (which : Bank) (at : Counts) → ¬ IsNoted notes (Locked which why.FlashFault at)
   pub store : (which : Bank) (at : Counts) → ¬ IsNoted notes (Locked which why.StoreFault at)
-  pub on : (which : Device) (at : Counts) → ¬ IsNoted notes (Lost (Some which) at)
 
 -- No fault of a device is passed over: where none of these is noted, no call of a device answered one.
 abbrev pub FaultsAreNoted : World → World → Type 0

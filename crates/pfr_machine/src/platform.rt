@@ -92,7 +92,7 @@ impl<F: Flash, E: Engine + Drop> Platform<F, E> {
 
         // A fault is noted only where it was counted, and a loss of power exactly where it was.
         ensures faults { OnOk result (FaultsHaveCauses self.old.world self.new.world) }
-        // No fault of a device is passed over: where neither is noted, no device's count of faults rose.
+        // No fault of a device is passed over: where none is noted, no device's count of faults rose.
         ensures told { OnOk result (FaultsAreNoted self.old.world self.new.world) }
         ensures losses { OnOk result (LossesAreNoted self.old.world self.new.world) }
         ensures lost { OnOk result (LostEnds self.old.world self.new.world) }
