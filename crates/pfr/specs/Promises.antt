@@ -26,8 +26,7 @@ pub record HasDueLocks (bench : Bench) : Type 0 where
   pub contents : LocksHaveCauses (acceptance bench.engine) (fresh_of bench) (end_of bench)
   pub faults : FaultsHaveCauses (fresh_of bench) (end_of bench)
 
--- No fault of a device was passed over: where no bank was locked for one, and no device's loss of power noted, no call of a
--- device answered one.
+-- No fault of a device was passed over: where no bank was locked for one, no call of a device answered one.
 abbrev pub TellsOfFaults : Bench → Type 0
 TellsOfFaults bench = FaultsAreNoted (fresh_of bench) (end_of bench)
 
