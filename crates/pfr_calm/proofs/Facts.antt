@@ -16,12 +16,11 @@ use Rattle.pfr_calm.specs.Story.{Story, Move, Says, Does, after, noted, operated
 use Rattle.pfr_calm.specs.World.{World, state_at}
 use Rattle.pfr_calm.specs.Plans.{concluded, distrusted}
 use Rattle.pfr_calm.specs.Promises.{IsDue, IsAgainst, IsTrustedWith}
-use Rattle.pfr_calm.specs.Authentication.{authentication_of}
 use Rattle.pfr_calm.specs.declared.authentication.Authentication.{Authentication}
 use Rattle.pfr_calm.specs.declared.authentication.Authentication.TheVariants.{Unprovisioned, SlotsSpent, BadLayout, Untrusted, Trusted}
 use Rattle.pfr_calm.proofs.Bytes.{HaveBytes}
 use Rattle.pfr_calm.proofs.Traces.{AllGood, KnowsNoOperation, image_noted}
-use Rattle.pfr_calm.proofs.Findings.{Found, unset, spent, misplaced, distrusted as called_untrusted, trusted, RecoveryFound, against_of, not_trusted}
+use Rattle.pfr_calm.proofs.Findings.{Found, unset, spent, misplaced, distrusted as called_untrusted, trusted, RecoveryFound, not_trusted}
 
 -- What is looked at: the worlds at the two ends, the engine, what is known of the store where a bank is released, of
 -- the notes where an operation is done, and where the power is switched off.
@@ -57,7 +56,7 @@ IsGood s (Does which op) story = s.Works story.notes
 pub good_torn : (s : Setting) → KnowsNoOperation (IsGood s)
 good_torn s which op done story g = g
 
-notes_operated : (which : Device) (op : Operation) (story : Story) → (operated which op story).notes ≡ story.notes
+pub notes_operated : (which : Device) (op : Operation) (story : Story) → (operated which op story).notes ≡ story.notes
 notes_operated device.Bmc op story = refl
 notes_operated device.Pch op story = refl
 notes_operated device.Nv op story = refl
@@ -80,7 +79,7 @@ module _ (s : Setting) (b : Bank) (mine nv : List ℕ) where
       (
         refl,
         rw (image_noted (device_of b) (λ _. what.Untrusted b cause) story, e, f)
-            (not_trusted cause b mine nv s.accepts a, good),
+            (not_trusted b mine nv s.accepts cause a, good),
       ),
       tt,
     ),
@@ -90,9 +89,9 @@ module _ (s : Setting) (b : Bank) (mine nv : List ℕ) where
   conclusion_good recovery (Trusted svn) story (trusted t is) r fits e f = ((refl, rw (e, f) (t, is), rw f fits), tt)
 
   -- it is called untrusted, before its recovery area is looked at
-  pub distrust_good : (a : Authentication) (story : Story) → authentication_of b mine nv s.accepts ≡ a
+  pub distrust_good : (a : Authentication) (story : Story) → Found b mine nv s.accepts a
       → image_at (device_of b) story ≡ mine → image_at device.Nv story ≡ nv → AllGood (IsGood s) (distrusted b a) story
-  distrust_good (Untrusted cause) story is e f = (rw (e, f) (against_of cause b mine nv s.accepts is), tt)
+  distrust_good (Untrusted cause) story (called_untrusted a) e f = (rw (e, f) a, tt)
   distrust_good _ story is e f = tt
 
 -- ---- plans that only note
@@ -102,11 +101,8 @@ AllSay (Says w ∷ moves) = AllSay moves
 AllSay (Does which op ∷ moves) = ⊥
 
 pub concluded_says : (b : Bank) (recovery : Option CapsuleFail) (a : Authentication) → AllSay (concluded b recovery a)
-concluded_says b recovery Unprovisioned = tt
-concluded_says b recovery SlotsSpent = tt
-concluded_says b recovery (BadLayout rule) = tt
 concluded_says b recovery (Untrusted cause) = tt
-concluded_says b recovery (Trusted svn) = tt
+concluded_says b recovery _ = tt
 
 pub distrusted_says : (b : Bank) (a : Authentication) → AllSay (distrusted b a)
 distrusted_says b (Untrusted cause) = tt

@@ -26,6 +26,7 @@ use Rattle.pfr_calm.specs.Turn.{Course, Turn, Follows, bank_stretch, course, nex
 use Rattle.pfr_calm.specs.Promises.{IsFaultLock, IsUndisturbed, FaultsAreNoted}
 use Rattle.pfr_calm.specs.Run.{armed, Did, Reached}
 use Rattle.pfr_calm.proofs.Sequence.{NoneFailed-refl, NoneFailed-trans}
+use Rattle.pfr_calm.proofs.Saying.{Steps-traced, Follows-traced}
 use Rattle.pfr_calm.proofs.PowerLaws.{Extends, extends_by, extends_refl, extends_trans, in_between, extends_after}
 use Rattle.pfr_calm.proofs.RunLaws.{armed_story, failed_armed}
 
@@ -44,11 +45,7 @@ AllTell (s ∷ ss) = ((which : Device) → TellsFault (s.on_fault which)) × All
 no_fault_lock : (notes : List Note) (b : Bank) (cause : LockWhy) (at : Counts) → IsFaultLock cause → IsUndisturbed notes → ¬ IsNoted notes (what.Locked b cause at)
 no_fault_lock notes b why.FlashFault at f u n = u.flash b at n
 no_fault_lock notes b why.StoreFault at f u n = u.store b at n
-no_fault_lock notes b why.Unprovisioned at f u n = f
-no_fault_lock notes b why.SlotsSpent at f u n = f
-no_fault_lock notes b (why.Layout rule) at f u n = f
-no_fault_lock notes b why.NotRestored at f u n = f
-no_fault_lock notes b (why.NoGoodImage active recovery) at f u n = f
+no_fault_lock notes b _ at f u n = f
 
 module _ (base last : List Note) (calm : IsUndisturbed (drop (length base) last)) where
   not_told : (moves : List Move) (story : Story) → TellsFault moves → Extends base story.notes → Extends (after moves story).notes last → ⊥
@@ -63,26 +60,14 @@ module _ (base last : List Note) (calm : IsUndisturbed (drop (length base) last)
   not_told (Does which op ∷ moves) story t p q = t
 
   -- ---- stretch by stretch
-  extends_on : (on : Bool) (steps : World → World → Type 0) (mid new : World) → (steps mid new → Extends mid.notes.list new.notes.list) → goes_on_if on steps mid new
-      → Extends mid.notes.list new.notes.list
-  extends_on true steps mid new f r = f r
-  extends_on false steps mid new f r = extends_by [] mid new r.is
-
-  pub steps_extend : (ss : List Stretch) (old new : World) → Steps ss old new → Extends old.notes.list new.notes.list
-  steps_extend [] old new p = extends_by [] old new p.is
-  steps_extend (s ∷ ss) old new (inl (mid, c, rest)) =
-      extends_trans old.notes.list mid.notes.list new.notes.list (extends_by (s.plan (story_of old)) old mid c.is) (steps_extend ss mid new rest)
-  steps_extend (s ∷ ss) old new (inr (inl (mid, f, rest))) =
-      extends_trans old.notes.list f.at.notes.list new.notes.list (extends_by f.stopped.trace old f.at f.stopped.is)
-      (extends_trans f.at.notes.list mid.notes.list new.notes.list (extends_by (s.on_fault f.which) f.at mid f.noted.is)
-      (extends_on s.goes_on (Steps ss) mid new (λ r. steps_extend ss mid new r) rest))
-  steps_extend (s ∷ ss) old new (inr (inr l)) =
-      extends_trans old.notes.list l.at.notes.list new.notes.list (extends_by l.stopped.trace old l.at l.stopped.is) (extends_by (lost l.which) l.at new l.noted.is)
+  extends_on : (on : Bool) (ss : List Stretch) (mid new : World) → goes_on_if on (Steps ss) mid new → Extends mid.notes.list new.notes.list
+  extends_on true ss mid new p = let t = Steps-traced ss mid new p in extends_by t.trace mid new t.is
+  extends_on false ss mid new p = extends_by [] mid new p.is
 
   fault_told : (s : Stretch) (ss : List Stretch) (old mid new : World) → ((which : Device) → TellsFault (s.on_fault which)) → Faults s old mid → goes_on_if s.goes_on (Steps ss) mid new
       → Extends base old.notes.list → Extends new.notes.list last → ⊥
   fault_told s ss old mid new tells f rest p q =
-      let behind : Extends mid.notes.list last = extends_trans mid.notes.list new.notes.list last (extends_on s.goes_on (Steps ss) mid new (λ r. steps_extend ss mid new r) rest) q in
+      let behind : Extends mid.notes.list last = extends_trans mid.notes.list new.notes.list last (extends_on s.goes_on ss mid new rest) q in
       not_told (s.on_fault f.which) (story_of f.at) (tells f.which)
       (extends_trans base old.notes.list f.at.notes.list p (extends_by f.stopped.trace old f.at f.stopped.is))
       (subst (λ (x : Story). Extends x.notes last) f.noted.is behind)
@@ -134,9 +119,7 @@ module _ (base last : List Note) (calm : IsUndisturbed (drop (length base) last)
 
   -- ---- a run
   turn_extends : (accepts : Acceptance) (e : Event) (old new : World) → Turn accepts e old new → Extends old.notes.list new.notes.list
-  turn_extends accepts e old new (mid, first, rest) =
-      let c : Course = course accepts e (story_of old) in
-      extends_trans old.notes.list mid.notes.list new.notes.list (extends_by c.first (next_item old) mid first.is) (steps_extend c.stretches mid new rest)
+  turn_extends accepts e old new t = let traced = Follows-traced (course accepts e (story_of old)) (next_item old) new t in extends_by traced.trace (next_item old) new traced.is
 
   arm_extends : (arm : Arm) (tear : List ℕ) (old : World) → Extends old.notes.list (armed arm tear old).notes.list
   arm_extends arm tear old = subst (λ (x : Story). Extends old.notes.list x.notes) (sym (armed_story arm tear old)) (extends_refl old.notes.list)

@@ -30,7 +30,7 @@ use Rattle.pfr_fuses.specs.declared.profile.Profile.TheVariants.{One, Two}
 use Rattle.pfr_fuses.specs.declared.root_slot.RootSlot.{RootSlot}
 use Rattle.pfr_fuses.proofs.BlankLemmas.{judged-ok}
 use Rattle.pfr_fuses.proofs.GrowthLemmas.{KeepsProvision-plan, KeepsProvision-none, KeepsProvision-trans, NeverGoesBack-programs, NeverGoesBack-trans}
-use Rattle.pfr_fuses.proofs.MigrationLemmas.{Holds, migration-part, first_holds, Grows-holds}
+use Rattle.pfr_fuses.proofs.MigrationLemmas.{Holds, migration_within, migration-part, first_holds, Grows-holds}
 use Rattle.pfr_fuses.proofs.ProvisionLemmas.{KeepsProvision-slot}
 use Rattle.pfr_fuses.proofs.RootSlotLemmas.{length-slot}
 use Rattle.pfr_fuses.proofs.StandsLemmas.{fuses_of-ok, fuses_of-stands}
@@ -45,7 +45,7 @@ use Rattle.pfr_calm.specs.Plans.{migration_in, migration_by}
 use Rattle.pfr_calm.specs.Goes.{Ran}
 use Rattle.pfr_calm.specs.Course.{Steps}
 use Rattle.pfr_calm.specs.Standing.{standing_of, is_off}
-use Rattle.pfr_calm.specs.Promises.{AreOff}
+use Rattle.pfr_calm.specs.Promises.{AreOff, IsKnownSlot}
 use Rattle.pfr_calm.specs.Turn.{ignored, provision_course, where_off, Follows, next_item, Turn}
 use Rattle.pfr_calm.specs.Run.{Did, Reached, armed}
 use Rattle.pfr_calm.proofs.StepTraces.{Turn-moved}
@@ -56,15 +56,6 @@ use Rattle.pfr_calm.proofs.RunLaws.{IsLater-did, Reached-later, armed_story}
 -- ---- a step
 did_part : (plan : List Operation) (old new : World) → Stored plan (story_of old) (story_of new) → DoesPart plan old.nv new.nv
 did_part plan old new p = record { added = p.added; is = p.is; part = p.part }
-
-migration_within : (fuses : FusesState) → AreRows fuses → AllWithin 2048 30720 (migration fuses)
-migration_within fuses rows = (
-  record { low = omega arith; high = omega arith },
-  (record { low = omega arith; high = omega (arith, length_migrated fuses rows) }, (record { low = omega arith; high = omega arith }, tt)),
-)
-  where
-    length_migrated : (fuses : FusesState) → AreRows fuses → length (migrated fuses) ≡ 160
-    length_migrated fuses rows = simp (length-append, rows.bmc_floor, rows.pch_floor, rows.pch_manifest, rows.pch_capsule, rows.bmc_manifest, rows.bmc_capsule) (omega arith)
 
 by_within : (p : Profile) (fuses : FusesState) → AreRows fuses → AllWithin 2048 30720 (migration_by p fuses)
 by_within One fuses rows = migration_within fuses rows
@@ -79,11 +70,6 @@ provision_keeps : (root : RootSlot) (old new : FlashState) (m n : ℕ) (r : Resu
 provision_keeps root old new m n (Ok number) j size start slot did =
     let can = judged-ok (now old) root m n number j in KeepsProvision-slot old new root number size start slot can.unset can.slot did
 provision_keeps root old new m n (Err cause) j size start slot did = KeepsProvision-plan 2048 0 [] old new size start did (omega arith) tt
-
--- what a script provisions is a slot
-abbrev pub IsKnownSlot : Event → Type 0
-IsKnownSlot (event.Provision root) = IsSlot root
-IsKnownSlot e = Unit {0}
 
 ignored_keeps : (old mid new : World) → Ran ignored.first (next_item old) mid → Steps ignored.stretches mid new → KeepsProvision old.nv new.nv
 ignored_keeps old mid new first rest = KeepsProvision-none old.nv new.nv (ap (λ (s : Story). s.nv.ops) (rest.is ∙ first.is))
@@ -110,14 +96,11 @@ Turn-keeps_provision accepts (event.Provision root) old new size slot t = by_off
 bytes_row : (nv : List ℕ) (at count n : ℕ) → AreBytes nv → AreBytes (continued (bytes_at nv at count) n)
 bytes_row nv at count n p = AreBytes-continued (bytes_at nv at count) n (AreBytes-bytes_at nv at count p)
 
-both_bytes : (xs ys : List ℕ) → AreBytes xs → AreBytes ys → AreBytes (xs ++ ys)
-both_bytes xs ys p q = AreBytes-append xs ys p q
-
 bytes_with : (nv slot : List ℕ) → AreBytes nv → AreBytes (migrated (fuses_with nv slot))
 unfolding floor_fuses row_fuses
 bytes_with nv slot p =
-    both_bytes _ _ (bytes_row nv _ _ 16 p) (both_bytes _ _ (bytes_row nv _ _ 16 p) (both_bytes _ _ (bytes_row nv _ _ 32 p)
-    (both_bytes _ _ (bytes_row nv _ _ 32 p) (both_bytes _ _ (bytes_row nv _ _ 32 p) (bytes_row nv _ _ 32 p)))))
+    AreBytes-append _ _ (bytes_row nv _ _ 16 p) (AreBytes-append _ _ (bytes_row nv _ _ 16 p) (AreBytes-append _ _ (bytes_row nv _ _ 32 p)
+    (AreBytes-append _ _ (bytes_row nv _ _ 32 p) (AreBytes-append _ _ (bytes_row nv _ _ 32 p) (bytes_row nv _ _ 32 p)))))
 
 bytes_migrated : (nv : List ℕ) (fuses : FusesState) → fuses_of nv ≡ Ok fuses → AreBytes nv → AreBytes (migrated fuses)
 bytes_migrated nv fuses f p = let found = fuses_of-ok nv fuses f in subst (λ (x : FusesState). AreBytes (migrated x)) (sym found.2) (bytes_with nv (slot_at nv found.0) p)

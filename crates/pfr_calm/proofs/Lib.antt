@@ -4,6 +4,7 @@ pub mod Lift
 pub mod Courses
 pub mod Traces
 pub mod Findings
+pub mod Saying
 pub mod Facts
 pub mod StretchLaws
 pub mod StepTraces

@@ -6,7 +6,7 @@ use Rattle.pfr_flash.specs.Operation.{Operation, applied, IsTorn}
 use Rattle.pfr_flash.specs.FlashState.{FlashState, now}
 use Rattle.pfr_flash.specs.Moved.{Moved, Worked, was_done}
 use Rattle.pfr_flash.specs.Reading.{OnlyReads, EndsAt, failed_by}
-use Rattle.pfr_flash.proofs.EndsLemmas.{ends_reads, ends_fails}
+use Rattle.pfr_flash.proofs.EndsLemmas.{ends_reads}
 use Rattle.pfr_flash.specs.Plan.{IsPart, FailsWorking, Follows}
 use Rattle.pfr_flash.specs.declared.flash.FlashFail.{FlashFail}
 use Rattle.pfr_flash.specs.declared.flash.FlashFail.TheVariants.{Fault, Lost}
@@ -15,7 +15,7 @@ use Rattle.pfr_flash.specs.declared.names.Device.TheVariants as device
 use Rattle.pfr_flash.proofs.MovedLemmas.{Moved-refl}
 use Rattle.pfr_flash.proofs.PlayLemmas.{play-append}
 use Rattle.pfr_flash.proofs.StateLemmas.{Worked-lost}
-use Rattle.pfr_flash.proofs.FollowsLemmas.{Follows-failed}
+use Rattle.pfr_flash.proofs.FollowsLemmas.{Follows-reads}
 use Rattle.pfr_calm.specs.Story.{Story, Move, Does, after, operated, image_at, all_do, IsCut}
 use Rattle.pfr_calm.specs.World.{World, story_of, state_at, AllMoved, NoneFailed, NoneLost, Caused}
 use Rattle.pfr_calm.specs.Goes.{Ran, Stopped, Goes}
@@ -195,12 +195,17 @@ StillOn Lost d = Unit {0}
 cause_of : (which : Device) (fail : FlashFail) (old new : World) → OnlyAt which old new → (state_at which old).powered ≡ true
     → Worked (state_at which old) (state_at which new) → StillOn fail (state_at which new)
     → FailsWorking fail (state_at which old) (state_at which new) → Caused which fail old new
-cause_of which Fault old new only on w still f =
-    (f, NoneLost-only which old new only (Worked-kept (state_at which old) (state_at which new) w on (still ∙ sym on)))
-cause_of which Lost old new only on w still f = record {
-  once = Worked-lost (state_at which old) (state_at which new) w on f;
-  others = λ other apart. ap (λ (d : FlashState). d.losses) (only.others other apart);
-}
+cause_of which Fault old new only on w still f = (
+  record { once = f; others = λ other apart. ap (λ (d : FlashState). d.faults) (only.others other apart) },
+  NoneLost-only which old new only (Worked-kept (state_at which old) (state_at which new) w on (still ∙ sym on)),
+)
+cause_of which Lost old new only on w still f = (
+  record {
+    once = Worked-lost (state_at which old) (state_at which new) w on f.0;
+    others = λ other apart. ap (λ (d : FlashState). d.losses) (only.others other apart);
+  },
+  NoneFailed-only which old new only f.1,
+)
 
 -- a front of the device's plan was done
 pub Stopped-follows : (A : Type 0) (which : Device) (plan : List Operation) (fail : FlashFail) (old new : World) → OnlyAt which old new
@@ -252,7 +257,7 @@ Goes-reads which old new (Ok x) only on ends = Ran-reads which old new only ends
 Goes-reads {A} which old new (Err f) only on ends =
     let reads : OnlyReads (state_at which old) (state_at which new) = ends_reads ends in
     Goes-follows {A = A} which [] old new (Err f) only on (still_reading f (state_at which old) (state_at which new) on reads)
-    (Follows-failed {A = A} (state_at which old) (state_at which new) f reads (ends_fails f (state_at which old) (state_at which new) ends))
+    (Follows-reads {A = A} (state_at which old) (state_at which new) (Err f) ends)
 
 -- and which is on yet
 pub on_after_follows : (A : Type 0) (which : Device) (plan : List Operation) (old new : World) (x : A)

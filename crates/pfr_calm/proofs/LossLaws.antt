@@ -1,8 +1,7 @@
 -- Each step keeps its promises about losses of power, and about banks that are off.
 use Rattle.std.proofs.Common.{◌≡◌, ◌∙◌, refl, sym, ap, subst, ℕ, ◌+◌, ◌<◌, arith, Bool, true, false, List, [], ◌∷◌, ◌++◌, length, drop, append_assoc, Option, Some, None, Result, Ok, Err, ◌⊎◌, inl, inr}
 use Rattle.std.proofs.lemmas.List.{append-nil}
-use Rattle.std.proofs.lemmas.Bool.{cases_Bool}
-use Rattle.std.proofs.Math.Seq.{drop-append_seam}
+use Rattle.std.proofs.lemmas.Bool.{false≢true}
 use Rattle.pfr_flash.specs.Operation.{Operation}
 use Rattle.pfr_flash.specs.declared.flash.FlashFail.TheVariants.{Fault, Lost as Loses}
 use Rattle.pfr_flash.specs.declared.flash.FlashFail.{FlashFail}
@@ -32,8 +31,10 @@ use Rattle.pfr_calm.specs.Turn.{bank_stretch, fuse_stretch, provision_stretch, p
 use Rattle.pfr_calm.specs.Promises.{added, counts_in, LossesAreNoted, IsLast, LostEnds, IsSwitchedOff, NotesOff, IsIgnored, StaysQuiet}
 use Rattle.pfr_calm.specs.declared.authentication.Authentication.{Authentication}
 use Rattle.pfr_calm.specs.declared.authentication.Authentication.TheVariants.{Unprovisioned, SlotsSpent, BadLayout, Untrusted, Trusted}
-use Rattle.pfr_calm.proofs.Sequence.{after-append, NoneLost-trans, NoneLost-at, LostAt-later, LostAt-on}
-use Rattle.pfr_calm.proofs.Findings.{noted_append, noted_right}
+use Rattle.pfr_calm.proofs.Sequence.{NoneLost-trans, NoneLost-at, LostAt-later, LostAt-on}
+use Rattle.pfr_calm.proofs.Traces.{AllGood, Traced, Traced-then, Traced-ran}
+use Rattle.pfr_calm.proofs.Findings.{noted_append, noted_right, AllNotes, noted_all}
+use Rattle.pfr_calm.proofs.Saying.{IsGoodStretch, AreGoodStretches, stopped_good, Saying, saying_torn, outcome_of, HoldsOfBanks, power_says, provision_says, adds_traced, added_is}
 use Rattle.pfr_calm.proofs.Lift.{each_at}
 
 -- ---- moves that note no loss of power
@@ -41,85 +42,22 @@ abbrev pub IsNoLoss : What → Type 0
 IsNoLoss (what.Lost which at) = ⊥
 IsNoLoss _ = Unit {0}
 
-abbrev pub AreQuiet : List Move → Type 0
-AreQuiet [] = Unit {0}
-AreQuiet (Says w ∷ moves) = ((at : Counts) → IsNoLoss (w at)) × AreQuiet moves
-AreQuiet (Does which op ∷ moves) = AreQuiet moves
+banks_quiet : HoldsOfBanks IsNoLoss
+banks_quiet = record { held = λ b at. tt; released = λ b svn at. tt; locked = λ b cause at. tt; distrusted = λ b cause. tt }
 
-AreQuiet-append : (a b : List Move) → AreQuiet a → AreQuiet b → AreQuiet (a ++ b)
-AreQuiet-append [] b p q = q
-AreQuiet-append (Says w ∷ a) b p q = (p.0, AreQuiet-append a b p.1 q)
-AreQuiet-append (Does which op ∷ a) b p q = AreQuiet-append a b p q
-
-AreQuiet-front : (a b : List Move) → AreQuiet (a ++ b) → AreQuiet a
-AreQuiet-front [] b p = tt
-AreQuiet-front (Says w ∷ a) b p = (p.0, AreQuiet-front a b p.1)
-AreQuiet-front (Does which op ∷ a) b p = AreQuiet-front a b p
-
-AreQuiet-cut : (which : Device) (moves trace : List Move) (story : Story) → AreQuiet moves → IsCut which moves story trace → AreQuiet trace
-AreQuiet-cut which moves trace story p cut =
-    let front = AreQuiet-front cut.front cut.left (subst AreQuiet cut.plan p) in
-    subst AreQuiet (sym cut.is) (AreQuiet-append cut.front cut.last front (elim cut.end [ inl e ↦ subst AreQuiet (sym e) tt | inr t ↦ subst AreQuiet (sym t.is) tt ]))
-
-ops_quiet : (which : Device) (ops : List Operation) → AreQuiet (all_do which ops)
-ops_quiet which [] = tt
-ops_quiet which (op ∷ ops) = ops_quiet which ops
-
-pub record IsQuiet (stretch : Stretch) : Type 0 where
-  pub plan : (story : Story) → AreQuiet (stretch.plan story)
-  pub fault : (which : Device) → AreQuiet (stretch.on_fault which)
-
-abbrev pub AllQuiet : List Stretch → Type 0
-AllQuiet [] = Unit {0}
-AllQuiet (s ∷ ss) = IsQuiet s × AllQuiet ss
-
-concluded_quiet : (b : Bank) (recovery : Option CapsuleFail) (a : Authentication) → AreQuiet (concluded b recovery a)
-concluded_quiet b recovery Unprovisioned = (λ at. tt, tt)
-concluded_quiet b recovery SlotsSpent = (λ at. tt, tt)
-concluded_quiet b recovery (BadLayout rule) = (λ at. tt, tt)
-concluded_quiet b recovery (Untrusted cause) = (λ at. tt, (λ at. tt, tt))
-concluded_quiet b recovery (Trusted svn) = (λ at. tt, tt)
-
-bank_quiet : (accepts : Acceptance) (b : Bank) → IsQuiet (bank_stretch accepts b)
-bank_quiet accepts b = record {
-  plan = λ story. (λ at. tt, concluded_quiet b (recovery_at accepts b story) (authentication_at accepts b story));
-  fault = λ which. (λ at. tt, tt);
-}
-
-fuses_quiet : IsQuiet fuse_stretch
-fuses_quiet = record {
-  plan = λ story. ops_quiet device.Nv (migration_in _);
-  fault = λ which. (λ at. tt, (λ at. tt, (λ at. tt, (λ at. tt, tt))));
-}
-
-provisioned_quiet : (root : RootSlot) (r : Result ℕ FuseFail) → AreQuiet (provisioned_in root r)
-provisioned_quiet root (Ok number) = AreQuiet-append (all_do device.Nv (provision_plan number root)) (Says (λ _. what.Provisioned) ∷ []) (ops_quiet device.Nv (provision_plan number root)) (λ at. tt, tt)
-provisioned_quiet root (Err cause) = (λ at. tt, tt)
-
-provision_quiet : (root : RootSlot) → IsQuiet (provision_stretch root)
-provision_quiet root = record { plan = λ story. provisioned_quiet root _; fault = λ which. (λ at. tt, (λ at. tt, tt)) }
-
-power_quiet : (accepts : Acceptance) → AllQuiet (power_stretches accepts)
-power_quiet accepts = (fuses_quiet, (bank_quiet accepts bank.Bmc, (bank_quiet accepts bank.Pch, tt)))
+provision_quiet : (root : RootSlot) → AreGoodStretches (Saying IsNoLoss) (provision_stretch root ∷ [])
+provision_quiet root = provision_says IsNoLoss banks_quiet root outcome
+  where
+    outcome : (r : Result ℕ FuseFail) → IsNoLoss (outcome_of r)
+    outcome (Ok number) = tt
+    outcome (Err cause) = tt
 
 -- ---- how stretches end
-pub record Quietly (old new : World) : Type 0 where
-  pub trace : List Move
-  pub is : story_of new ≡ after trace (story_of old)
-  pub quiet : AreQuiet trace
+abbrev pub Quietly : World → World → Type 0
+Quietly old new = Traced (Saying IsNoLoss) old new
 
-Quietly-then : (a b c : World) → Quietly a b → Quietly b c → Quietly a c
-Quietly-then a b c p q = record {
-  trace = p.trace ++ q.trace;
-  is = q.is ∙ ap (λ (s : Story). after q.trace s) p.is ∙ sym (after-append p.trace q.trace (story_of a));
-  quiet = AreQuiet-append p.trace q.trace p.quiet q.quiet;
-}
-
-Quietly-ran : (moves : List Move) (a b : World) → Ran moves a b → AreQuiet moves → Quietly a b
-Quietly-ran moves a b p q = record { trace = moves; is = p.is; quiet = q }
-
-Quietly-stopped : (moves : List Move) (which : Device) (fail : FlashFail) (a b : World) → Stopped moves which fail a b → AreQuiet moves → Quietly a b
-Quietly-stopped moves which fail a b p q = record { trace = p.trace; is = p.is; quiet = AreQuiet-cut which moves p.trace (story_of a) q p.cut }
+Quietly-stopped : (s : Stretch) (which : Device) (fail : FlashFail) (old at : World) → IsGoodStretch (Saying IsNoLoss) s → Stopped (s.plan (story_of old)) which fail old at → Quietly old at
+Quietly-stopped s which fail old at good p = stopped_good (Saying IsNoLoss) (saying_torn IsNoLoss) (s.plan (story_of old)) which fail old at (good.plan (story_of old)) p
 
 -- the power was lost at this device, which is the last that was noted
 pub record Losing (old new : World) : Type 0 where
@@ -135,39 +73,39 @@ pub data Outcome (old new : World) : Type 0 where
   losing : Losing old new → Outcome old new
 
 Outcome-later : (a b c : World) → Quietly a b → NoneLost a b → Outcome b c → Outcome a c
-Outcome-later a b c p n (calm q m) = calm (Quietly-then a b c p q) (NoneLost-trans a b c n m)
+Outcome-later a b c p n (calm q m) = calm (Traced-then (Saying IsNoLoss) a b c p q) (NoneLost-trans a b c n m)
 Outcome-later a b c p n (losing l) = losing (record {
   which = l.which;
   before = l.before;
-  quietly = Quietly-then a b l.before p l.quietly;
+  quietly = Traced-then (Saying IsNoLoss) a b l.before p l.quietly;
   lost_at = LostAt-later l.which a b c n l.lost_at;
   noted = l.noted;
 })
 
-outcome_ran : (moves : List Move) (a b : World) → Ran moves a b → AreQuiet moves → Outcome a b
-outcome_ran moves a b p q = calm (Quietly-ran moves a b p q) p.none_lost
+outcome_ran : (moves : List Move) (a b : World) → Ran moves a b → AllGood (Saying IsNoLoss) moves (story_of a) → Outcome a b
+outcome_ran moves a b p q = calm (Traced-ran (Saying IsNoLoss) moves a b p q) p.none_lost
 
 outcome_on : (on : Bool) (steps : World → World → Type 0) (mid new : World) → (steps mid new → Outcome mid new) → goes_on_if on steps mid new → Outcome mid new
 outcome_on true steps mid new f r = f r
 outcome_on false steps mid new f r = outcome_ran [] mid new r tt
 
-outcome_lost : (s : Stretch) (old new : World) → IsQuiet s → LosesPower s old new → Outcome old new
+outcome_lost : (s : Stretch) (old new : World) → IsGoodStretch (Saying IsNoLoss) s → LosesPower s old new → Outcome old new
 outcome_lost s old new quiet l = losing (record {
   which = l.which;
   before = l.at;
-  quietly = Quietly-stopped (s.plan (story_of old)) l.which Loses old l.at l.stopped (quiet.plan (story_of old));
-  lost_at = LostAt-on l.which old l.at new l.stopped.cause l.noted.none_lost;
+  quietly = Quietly-stopped s l.which Loses old l.at quiet l.stopped;
+  lost_at = LostAt-on l.which old l.at new l.stopped.cause.0 l.noted.none_lost;
   noted = l.noted;
 })
 
-pub Steps-outcome : (ss : List Stretch) (old new : World) → AllQuiet ss → Steps ss old new → Outcome old new
+pub Steps-outcome : (ss : List Stretch) (old new : World) → AreGoodStretches (Saying IsNoLoss) ss → Steps ss old new → Outcome old new
 Steps-outcome [] old new quiet p = outcome_ran [] old new p tt
 Steps-outcome (s ∷ ss) old new quiet (inl (mid, c, rest)) =
-    Outcome-later old mid new (Quietly-ran (s.plan (story_of old)) old mid c (quiet.0.plan (story_of old))) c.none_lost (Steps-outcome ss mid new quiet.1 rest)
+    Outcome-later old mid new (Traced-ran (Saying IsNoLoss) (s.plan (story_of old)) old mid c (quiet.0.plan (story_of old))) c.none_lost (Steps-outcome ss mid new quiet.1 rest)
 Steps-outcome (s ∷ ss) old new quiet (inr (inl (mid, f, rest))) =
     Outcome-later old mid new
-    (Quietly-then old f.at mid (Quietly-stopped (s.plan (story_of old)) f.which Fault old f.at f.stopped (quiet.0.plan (story_of old)))
-    (Quietly-ran (s.on_fault f.which) f.at mid f.noted (quiet.0.fault f.which)))
+    (Traced-then (Saying IsNoLoss) old f.at mid (Quietly-stopped s f.which Fault old f.at quiet.0 f.stopped)
+    (Traced-ran (Saying IsNoLoss) (s.on_fault f.which) f.at mid f.noted (quiet.0.fault f.which (story_of f.at))))
     (NoneLost-trans old f.at mid f.stopped.cause.1 f.noted.none_lost)
     (outcome_on s.goes_on (Steps ss) mid new (λ r. Steps-outcome ss mid new quiet.1 r) rest)
 Steps-outcome (s ∷ ss) old new quiet (inr (inr l)) = outcome_lost s old new quiet.0 l
@@ -175,35 +113,10 @@ Steps-outcome (s ∷ ss) old new quiet (inr (inr l)) = outcome_lost s old new qu
 -- ---- the notes that were added
 -- none of them is of a loss of power
 abbrev pub HasNoLoss : List Note → Type 0
-HasNoLoss [] = Unit {0}
-HasNoLoss (note ∷ notes) = IsNoLoss note.what × HasNoLoss notes
-
-HasNoLoss-append : (a b : List Note) → HasNoLoss a → HasNoLoss b → HasNoLoss (a ++ b)
-HasNoLoss-append [] b p q = q
-HasNoLoss-append (note ∷ a) b p q = (p.0, HasNoLoss-append a b p.1 q)
-
-pub record Adds (old new : Story) : Type 0 where
-  pub more : List Note
-  pub is : new.notes ≡ old.notes ++ more
-  pub quiet : HasNoLoss more
-
-adds_more : (trace : List Move) (old : Story) → AreQuiet trace → Adds old (after trace old)
-adds_more [] old q = record { more = []; is = sym (append-nil old.notes); quiet = tt }
-adds_more (Says w ∷ trace) old q =
-    let note : Note = record { item = old.item; what = w (counts_of old) } in
-    let rest = adds_more trace (noted w old) q.1 in
-    record { more = note ∷ rest.more; is = rest.is ∙ append_assoc old.notes (note ∷ []) rest.more; quiet = (q.0 (counts_of old), rest.quiet) }
-adds_more (Does device.Bmc op ∷ trace) old q = let rest = adds_more trace (operated device.Bmc op old) q in record { more = rest.more; is = rest.is; quiet = rest.quiet }
-adds_more (Does device.Pch op ∷ trace) old q = let rest = adds_more trace (operated device.Pch op old) q in record { more = rest.more; is = rest.is; quiet = rest.quiet }
-adds_more (Does device.Nv op ∷ trace) old q = let rest = adds_more trace (operated device.Nv op old) q in record { more = rest.more; is = rest.is; quiet = rest.quiet }
-
-adds_quietly : (old new : World) → Quietly old new → Adds (story_of old) (story_of new)
-adds_quietly old new p = subst (λ (s : Story). Adds (story_of old) s) (sym p.is) (adds_more p.trace (story_of old) p.quiet)
+HasNoLoss notes = AllNotes IsNoLoss notes
 
 no_loss : (notes : List Note) (which : Option Device) (at : Counts) → HasNoLoss notes → ¬ IsNoted notes (what.Lost which at)
-no_loss [] which at q n = n
-no_loss (note ∷ notes) which at q (inl e) = subst IsNoLoss e q.0
-no_loss (note ∷ notes) which at q (inr n) = no_loss notes which at q.1 n
+no_loss notes which at q n = noted_all IsNoLoss notes (what.Lost which at) q n
 
 -- How a step ends, by the notes that it added.
 pub data Shape (e : Event) (old new : World) : Type 0 where
@@ -215,26 +128,22 @@ pub data Shape (e : Event) (old new : World) : Type 0 where
 none_from_next : (old new : World) → NoneLost (next_item old) new → NoneLost old new
 none_from_next old new p = record { bmc = p.bmc; pch = p.pch; nv = p.nv }
 
-lost_from_next : (which : Device) (old new : World) → LostAt which (next_item old) new → LostAt which old new
-lost_from_next which old new p = record { once = p.once ∙ ap (λ (n : ℕ). n + 1) (NoneLost-at which old (next_item old) (record { bmc = refl; pch = refl; nv = refl })); others = λ other apart. p.others other apart ∙ NoneLost-at other old (next_item old) (record { bmc = refl; pch = refl; nv = refl }) }
-
 shape_of : (e : Event) (old new : World) → ¬ IsSwitchedOff e old → Outcome (next_item old) new → Shape e old new
 shape_of e old new n (calm q none) =
-    let a = adds_quietly (next_item old) new q in
-    let same : added old new ≡ a.more = ap (λ (notes : List Note). drop (length old.notes.list) notes) a.is ∙ drop-append_seam old.notes.list a.more in
-    plainly (subst HasNoLoss (sym same) a.quiet) (none_from_next old new none) n
+    let a = adds_traced IsNoLoss (next_item old) new q in
+    plainly (subst HasNoLoss (sym (added_is old new a.more a.is)) a.all) (none_from_next old new none) n
 shape_of e old new n (losing l) =
-    let a = adds_quietly (next_item old) l.before l.quietly in
+    let a = adds_traced IsNoLoss (next_item old) l.before l.quietly in
     let note : Note = record { item = l.before.item; what = what.Lost (Some l.which) (counts_of (story_of l.before)) } in
     let noted_is : new.notes.list ≡ l.before.notes.list ++ note ∷ [] = ap (λ (s : Story). s.notes) l.noted.is in
     let counts : counts_in new ≡ counts_of (story_of l.before) = ap (λ (s : Story). counts_of s) l.noted.is in
     let item : new.item ≡ l.before.item = ap (λ (s : Story). s.item) l.noted.is in
-    at_loss l.which a.more a.quiet (lost_from_next l.which old new l.lost_at)
+    at_loss l.which a.more a.all (LostAt-later l.which old (next_item old) new (record { bmc = refl; pch = refl; nv = refl }) l.lost_at)
     (rw (item, counts) (noted_is ∙ ap (λ (notes : List Note). notes ++ note ∷ []) a.is)) n
 
 ignored_outcome : (old new : World) → Follows ignored old new → Outcome old new
 ignored_outcome old new (mid, first, rest) =
-    Outcome-later old mid new (Quietly-ran (Says (λ _. what.Ignored) ∷ []) old mid first (λ at. tt, tt)) first.none_lost (outcome_ran [] mid new rest tt)
+    Outcome-later old mid new (Traced-ran (Saying IsNoLoss) (Says (λ _. what.Ignored) ∷ []) old mid first (tt, tt)) first.none_lost (outcome_ran [] mid new rest tt)
 
 off_shape : (old new : World) → IsSwitchedOff event.Off old → Follows off_course (next_item old) new → Shape event.Off old new
 off_shape old new is (mid, first, rest) =
@@ -247,30 +156,23 @@ off_shape old new is (mid, first, rest) =
 pub Turn-shape : (accepts : Acceptance) (e : Event) (old new : World) → Turn accepts e old new → Shape e old new
 Turn-shape accepts event.Power old new (mid, first, rest) =
     shape_of event.Power old new (λ no. no) (Outcome-later (next_item old) mid new
-    (Quietly-ran (Says (λ _. what.Power) ∷ []) (next_item old) mid first (λ at. tt, tt)) first.none_lost
-    (Steps-outcome (power_stretches accepts) mid new (power_quiet accepts) rest))
-Turn-shape accepts event.Off old new t = by_off (cases_Bool (is_off (standing_of bank.Bmc old.notes.list)))
+    (Traced-ran (Saying IsNoLoss) (Says (λ _. what.Power) ∷ []) (next_item old) mid first (tt, tt)) first.none_lost
+    (Steps-outcome (power_stretches accepts) mid new (power_says IsNoLoss banks_quiet accepts) rest))
+Turn-shape accepts event.Off old new t = by_off (is_off (standing_of bank.Bmc old.notes.list)) refl t
   where
-    by_off : ((is_off (standing_of bank.Bmc old.notes.list) ≡ true) ⊎ (is_off (standing_of bank.Bmc old.notes.list) ≡ false)) → Shape event.Off old new
-    by_off (inl off) =
-        let f : Follows ignored (next_item old) new = subst (λ (b : Bool). Follows (where_off b ignored off_course) (next_item old) new) off t in
-        shape_of event.Off old new (λ on. on off) (ignored_outcome (next_item old) new f)
-    by_off (inr on) =
-        let f : Follows off_course (next_item old) new = subst (λ (b : Bool). Follows (where_off b ignored off_course) (next_item old) new) on t in
-        off_shape old new (λ off. let never : true ≡ false = sym off ∙ on in cc) f
+    by_off : (b : Bool) → is_off (standing_of bank.Bmc old.notes.list) ≡ b → Follows (where_off b ignored off_course) (next_item old) new → Shape event.Off old new
+    by_off true off f = shape_of event.Off old new (λ on. on off) (ignored_outcome (next_item old) new f)
+    by_off false on f = off_shape old new (λ off. false≢true (sym on ∙ off)) f
 Turn-shape accepts (event.Provision root) old new t = by_off (is_off (standing_of bank.Bmc old.notes.list)) t
   where
     by_off : (b : Bool) → Follows (where_off b ignored (provision_course root)) (next_item old) new → Shape (event.Provision root) old new
     by_off true f = shape_of (event.Provision root) old new (λ no. no) (ignored_outcome (next_item old) new f)
     by_off false (mid, first, rest) =
         shape_of (event.Provision root) old new (λ no. no) (Outcome-later (next_item old) mid new
-        (Quietly-ran [] (next_item old) mid first tt) first.none_lost
-        (Steps-outcome (provision_stretch root ∷ []) mid new (provision_quiet root, tt) rest))
+        (Traced-ran (Saying IsNoLoss) [] (next_item old) mid first tt) first.none_lost
+        (Steps-outcome (provision_stretch root ∷ []) mid new (provision_quiet root) rest))
 
 -- ---- promises
-added_is : (old new : World) (more : List Note) → new.notes.list ≡ old.notes.list ++ more → added old new ≡ more
-added_is old new more e = ap (λ (notes : List Note). drop (length old.notes.list) notes) e ∙ drop-append_seam old.notes.list more
-
 -- of notes with none of a loss and one of it at the end, it is that one
 lost_note : (front : List Note) (note : Note) (which : Option Device) (at : Counts) → HasNoLoss front → IsNoted (front ++ note ∷ []) (what.Lost which at) → note.what ≡ what.Lost which at
 lost_note front note which at q n = elim (noted_append front (note ∷ []) (what.Lost which at) n) [

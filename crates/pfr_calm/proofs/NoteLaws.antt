@@ -24,6 +24,7 @@ use Rattle.pfr_calm.specs.Spans.{count_at}
 use Rattle.pfr_calm.specs.Turn.{next_item, Turn}
 use Rattle.pfr_calm.specs.Promises.{added, IsDue, IsFaultLock, FaultsHaveCauses, ReleasesTrusted, LocksHaveCauses, DistrustsWithCause}
 use Rattle.pfr_calm.proofs.Bytes.{HaveBytes}
+use Rattle.pfr_calm.proofs.Sequence.{NoneLost-at, NoneFailed-at}
 use Rattle.pfr_calm.proofs.Traces.{Begins, Precedes}
 use Rattle.pfr_calm.proofs.Facts.{Setting, Fact, LockFact, IsLater, IsLater-refl}
 use Rattle.pfr_calm.proofs.StretchLaws.{Between, MayProvision, works, refused}
@@ -55,13 +56,9 @@ past_state bank.Pch w k = refl
 
 pub lock_due : (s : Setting) (cause : LockWhy) (which : Bank) (at : Story) → ¬ IsFaultLock cause → LockFact s cause which at
     → IsDue cause which (image_at (device_of which) at) (image_at device.Nv at) s.accepts
-lock_due s why.Unprovisioned which at n p = p
-lock_due s why.SlotsSpent which at n p = p
-lock_due s (why.Layout rule) which at n p = p
 lock_due s why.FlashFault which at n p = absurd (n tt)
 lock_due s why.StoreFault which at n p = absurd (n tt)
-lock_due s why.NotRestored which at n p = p
-lock_due s (why.NoGoodImage active recovery) which at n p = p
+lock_due s _ which at n p = p
 
 -- ---- a step
 -- nothing is asked of the store
@@ -69,17 +66,11 @@ unfoldable pub plain : Acceptance → (old new : World) → HaveBytes new → Se
 plain accepts old new held = record { accepts = accepts; first = old; last = new; Fits = λ nv. Unit {0}; Works = λ notes. Unit {0}; IsSwitched = Unit {0}; held = held }
 
 pub IsLater-next : (w : World) → IsLater w (next_item w)
-IsLater-next w = record { faults = by_faults; losses = by_losses; bytes = λ h. record { bmc = h.bmc; pch = h.pch; nv = h.nv } }
-  where
-    by_faults : (which : Device) → (state_at which w).faults ≤ (state_at which (next_item w)).faults
-    by_faults device.Bmc = omega arith
-    by_faults device.Pch = omega arith
-    by_faults device.Nv = omega arith
-
-    by_losses : (which : Device) → (state_at which w).losses ≤ (state_at which (next_item w)).losses
-    by_losses device.Bmc = omega arith
-    by_losses device.Pch = omega arith
-    by_losses device.Nv = omega arith
+IsLater-next w = record {
+  faults = λ which. let same = NoneFailed-at which w (next_item w) (record { bmc = refl; pch = refl; nv = refl }) in omega (arith, same);
+  losses = λ which. let same = NoneLost-at which w (next_item w) (record { bmc = refl; pch = refl; nv = refl }) in omega (arith, same);
+  bytes = λ h. record { bmc = h.bmc; pch = h.pch; nv = h.nv };
+}
 
 plain_provision : (accepts : Acceptance) (old new : World) (held : HaveBytes new) (notes : List Note) (r : Result ℕ FuseFail) → MayProvision (plain accepts old new held) notes r
 unfolding plain

@@ -2,6 +2,7 @@
 use Rattle.std.proofs.Common.{◌≡◌, ◌≢◌, ◌∙◌, refl, sym, ap, subst, ℕ, ◌+◌, true, List, [], ◌∷◌, ◌++◌, length, drop, append_assoc, Option, Some, None, inl, inr}
 use Rattle.std.proofs.lemmas.List.{append-nil}
 use Rattle.std.proofs.Math.Seq.{drop-append_seam}
+use Rattle.pfr_flash.specs.Bytes.{AreBytes}
 use Rattle.pfr_flash.specs.Operation.{Operation}
 use Rattle.pfr_flash.specs.FlashState.{now}
 use Rattle.pfr_flash.specs.declared.layout.LayoutRule.{LayoutRule}
@@ -11,10 +12,8 @@ use Rattle.pfr_flash.specs.declared.names.Counts.{Counts}
 use Rattle.pfr_flash.specs.declared.names.Device.{Device}
 use Rattle.pfr_flash.specs.declared.names.Device.TheVariants as device
 use Rattle.pfr_engine.specs.Acceptance.{Acceptance}
-use Rattle.pfr_fuses.specs.Slots.{IsUnset, HasBlank}
 use Rattle.pfr_fuses.specs.FusesOf.{fuses_of}
 use Rattle.pfr_capsule.specs.declared.fail.CapsuleFail.{CapsuleFail}
-use Rattle.pfr_auth.specs.Trusted.{IsTrusted}
 use Rattle.pfr_auth.specs.declared.fail.ActiveFail.{ActiveFail}
 use Rattle.pfr_script.specs.declared.event.Event.{Event}
 use Rattle.pfr_script.specs.declared.event.Event.TheVariants as event
@@ -30,14 +29,15 @@ use Rattle.pfr_calm.specs.Goes.{Ran}
 use Rattle.pfr_calm.specs.Plans.{concluded, distrusted as untrusted_moves, authentication_at, recovery_at, lock_of, brought_up, migration_in}
 use Rattle.pfr_calm.specs.Course.{Crosses, Faults, Ends, Steps, lost}
 use Rattle.pfr_calm.specs.Turn.{fault_of, bank_or_store, StopsInCheck, bank_stretch, bank_stretches, power_stretches, unreadable, next_item, Turn}
-use Rattle.pfr_calm.specs.Promises.{added, counts_in, IsCalm, IsDue, IsAgainst, IsMisplaced, BringsUp, BringsUpCalm}
-use Rattle.pfr_calm.specs.Authentication.{HasGoodRecovery, HasBadRecovery}
+use Rattle.pfr_calm.specs.Promises.{added, counts_in, IsCalm, IsAgainst, IsTrustedWith, BringsUp, BringsUpCalm}
+use Rattle.pfr_calm.specs.Authentication.{authentication_of, recovery_of}
 use Rattle.pfr_calm.specs.declared.authentication.Authentication.{Authentication}
 use Rattle.pfr_calm.specs.declared.authentication.Authentication.TheVariants.{Unprovisioned, SlotsSpent, BadLayout, Untrusted, Trusted}
 use Rattle.pfr_calm.proofs.Sequence.{AllMoved-trans}
 use Rattle.pfr_calm.proofs.StepTraces.{Steps-moved}
+use Rattle.pfr_calm.proofs.Saying.{Steps-traced}
 use Rattle.pfr_calm.proofs.Bytes.{HaveBytes, have_before, image_bytes}
-use Rattle.pfr_calm.proofs.Findings.{Found, unset, spent, misplaced, distrusted, trusted, found, RecoveryFound, recovery_found, good_bad, bad_once, not_unset, noted_append, noted_left, noted_right, same_lock, same_release, same_cause, misplaced_valid, misplaced_once, against_trusted, against_once, trusted_once, not_trusted}
+use Rattle.pfr_calm.proofs.Findings.{Found, distrusted, trusted, found, found_is, recovery_found, lock_in, LockIsDue, found_due, due_lock, noted_append, noted_left, noted_right, AllNotes, noted_all}
 
 -- ---- what is noted of a bank that was found so
 abbrev pub found_notes : ℕ → Bank → Counts → Option CapsuleFail → Authentication → List Note
@@ -55,19 +55,29 @@ decided (what.Locked bank why counts) = Some bank
 decided (what.Untrusted bank why) = Some bank
 decided _ = None
 
-of_bank : (item : ℕ) (bank : Bank) (counts : Counts) (recovery : Option CapsuleFail) (authentication : Authentication) (that : What)
-    → IsNoted (found_notes item bank counts recovery authentication) that → decided that ≡ Some bank
-of_bank item bank counts recovery Unprovisioned that (inl e) = ap decided (sym e)
-of_bank item bank counts recovery Unprovisioned that (inr n) = absurd n
-of_bank item bank counts recovery SlotsSpent that (inl e) = ap decided (sym e)
-of_bank item bank counts recovery SlotsSpent that (inr n) = absurd n
-of_bank item bank counts recovery (BadLayout rule) that (inl e) = ap decided (sym e)
-of_bank item bank counts recovery (BadLayout rule) that (inr n) = absurd n
-of_bank item bank counts recovery (Untrusted why) that (inl e) = ap decided (sym e)
-of_bank item bank counts recovery (Untrusted why) that (inr (inl e)) = ap decided (sym e)
-of_bank item bank counts recovery (Untrusted why) that (inr (inr n)) = absurd n
-of_bank item bank counts recovery (Trusted svn) that (inl e) = ap decided (sym e)
-of_bank item bank counts recovery (Trusted svn) that (inr n) = absurd n
+-- what each note of a bank says of what was found
+abbrev Tells : Bank → Counts → Option CapsuleFail → Authentication → What → Type 0
+Tells bank counts recovery a (what.Released b svn at) = (b ≡ bank) × (at ≡ counts) × (a ≡ Trusted svn)
+Tells bank counts recovery a (what.Locked b cause at) = (b ≡ bank) × (at ≡ counts) × (lock_in a recovery ≡ Some cause)
+Tells bank counts recovery a (what.Untrusted b cause) = (b ≡ bank) × (a ≡ Untrusted cause)
+Tells bank counts recovery a _ = ⊥
+
+all_tell : (item : ℕ) (bank : Bank) (counts : Counts) (recovery : Option CapsuleFail) (a : Authentication) → AllNotes (Tells bank counts recovery a) (found_notes item bank counts recovery a)
+all_tell item bank counts recovery Unprovisioned = ((refl, refl, refl), tt)
+all_tell item bank counts recovery SlotsSpent = ((refl, refl, refl), tt)
+all_tell item bank counts recovery (BadLayout rule) = ((refl, refl, refl), tt)
+all_tell item bank counts recovery (Untrusted cause) = ((refl, refl), ((refl, refl, refl), tt))
+all_tell item bank counts recovery (Trusted svn) = ((refl, refl, refl), tt)
+
+tell : (item : ℕ) (bank : Bank) (counts : Counts) (recovery : Option CapsuleFail) (a : Authentication) (that : What)
+    → IsNoted (found_notes item bank counts recovery a) that → Tells bank counts recovery a that
+tell item bank counts recovery a that n = noted_all (Tells bank counts recovery a) (found_notes item bank counts recovery a) that (all_tell item bank counts recovery a) n
+
+of_bank : (bank one : Bank) (counts : Counts) (recovery : Option CapsuleFail) (a : Authentication) (that : What) → Tells bank counts recovery a that → decided that ≡ Some one → one ≡ bank
+of_bank bank one counts recovery a (what.Released b svn at) t d = let same = t.0 in cc
+of_bank bank one counts recovery a (what.Locked b cause at) t d = let same = t.0 in cc
+of_bank bank one counts recovery a (what.Untrusted b cause) t d = let same = t.0 in cc
+of_bank bank one counts recovery a _ t d = absurd t
 
 -- Notes have a bank's own notes, and no others that decide of it.
 record HasOwn (item : ℕ) (bank : Bank) (counts : Counts) (recovery : Option CapsuleFail) (a : Authentication) (notes : List Note) : Type 0 where
@@ -75,174 +85,41 @@ record HasOwn (item : ℕ) (bank : Bank) (counts : Counts) (recovery : Option Ca
   pub all : (that : What) → IsNoted (found_notes item bank counts recovery a) that → IsNoted notes that
   pub held : IsNoted notes (what.Held bank counts)
 
--- ---- the lock of a bank that isn't trusted, by what is found of its recovery image
-module _ (bank : Bank) (image nv : List ℕ) (accepts : Acceptance) where
-  lock_due : (recovery : Option CapsuleFail) (cause : ActiveFail) → IsAgainst cause bank image nv accepts
-      → RecoveryFound (Untrusted cause) recovery bank image nv accepts → IsDue (lock_of cause recovery) bank image nv accepts
-  lock_due None cause a good = (not_trusted cause bank image nv accepts a, good)
-  lock_due (Some bad) cause a judged = (a, judged)
-
-  -- no other is due
-  lock_restored : (recovery : Option CapsuleFail) (cause : ActiveFail) → RecoveryFound (Untrusted cause) recovery bank image nv accepts
-      → HasGoodRecovery bank image nv accepts → lock_of cause recovery ≡ why.NotRestored
-  lock_restored None cause r good = refl
-  lock_restored (Some bad) cause r good = absurd (good_bad bad bank image nv accepts good r)
-
-  lock_named : (recovery : Option CapsuleFail) (cause active : ActiveFail) (bad : CapsuleFail)
-      → RecoveryFound (Untrusted cause) recovery bank image nv accepts
-      → IsAgainst cause bank image nv accepts → IsAgainst active bank image nv accepts → HasBadRecovery bad bank image nv accepts
-      → lock_of cause recovery ≡ why.NoGoodImage active bad
-  lock_named None cause active bad good a b judged = absurd (good_bad bad bank image nv accepts good judged)
-  lock_named (Some known) cause active bad r a b judged =
-      let one : cause ≡ active = against_once cause active bank image nv accepts a b in
-      let other : known ≡ bad = bad_once known bad bank image nv accepts r judged in
-      ap (λ (x : ActiveFail). why.NoGoodImage x known) one ∙ ap (λ (x : CapsuleFail). why.NoGoodImage active x) other
+lock_noted : (item : ℕ) (bank : Bank) (counts : Counts) (recovery : Option CapsuleFail) (a : Authentication) (cause : LockWhy)
+    → lock_in a recovery ≡ Some cause → IsNoted (found_notes item bank counts recovery a) (what.Locked bank cause counts)
+lock_noted item bank counts recovery Unprovisioned cause e = inl cc
+lock_noted item bank counts recovery SlotsSpent cause e = inl cc
+lock_noted item bank counts recovery (BadLayout rule) cause e = inl cc
+lock_noted item bank counts recovery (Untrusted active) cause e = inr (inl cc)
+lock_noted item bank counts recovery (Trusted svn) cause e = absurd cc
 
 -- ---- what was noted, by what was found
-module _ (item : ℕ) (bank : Bank) (image nv : List ℕ) (accepts : Acceptance) (counts : Counts) (recovery : Option CapsuleFail) (notes : List Note) where
-  abbrev Own : Authentication → Type 0
-  Own a = HasOwn item bank counts recovery a notes
+module _ (bank : Bank) (image nv : List ℕ) (accepts : Acceptance) where
+  found_svn : (svn : ℕ) → Found bank image nv accepts (Trusted svn) → IsTrustedWith svn image nv bank accepts
+  found_svn svn (trusted t is) = (t, is)
 
-  due_unset : IsUnset nv → HasBlank nv → Own Unprovisioned → (cause : LockWhy)
-      → IsDue cause bank image nv accepts → IsNoted notes (what.Locked bank cause counts)
-  due_unset u b own why.Unprovisioned h = own.all _ (inl refl)
-  due_unset u b own why.SlotsSpent h = absurd (h.1 b)
-  due_unset u b own (why.Layout rule) h = absurd (not_unset nv h.fuses h.provisioned u)
-  due_unset u b own why.FlashFault h = absurd h
-  due_unset u b own why.StoreFault h = absurd h
-  due_unset u b own why.NotRestored h = absurd (not_unset nv h.0.fuses h.0.provisioned u)
-  due_unset u b own (why.NoGoodImage active bad) h = absurd (not_unset nv h.0.fuses h.0.provisioned u)
+  found_cause : (cause : ActiveFail) → Found bank image nv accepts (Untrusted cause) → IsAgainst cause bank image nv accepts
+  found_cause cause (distrusted a) = a
 
-  due_spent : IsUnset nv → ¬ HasBlank nv → Own SlotsSpent → (cause : LockWhy)
-      → IsDue cause bank image nv accepts → IsNoted notes (what.Locked bank cause counts)
-  due_spent u b own why.Unprovisioned h = absurd (b h.1)
-  due_spent u b own why.SlotsSpent h = own.all _ (inl refl)
-  due_spent u b own (why.Layout rule) h = absurd (not_unset nv h.fuses h.provisioned u)
-  due_spent u b own why.FlashFault h = absurd h
-  due_spent u b own why.StoreFault h = absurd h
-  due_spent u b own why.NotRestored h = absurd (not_unset nv h.0.fuses h.0.provisioned u)
-  due_spent u b own (why.NoGoodImage active bad) h = absurd (not_unset nv h.0.fuses h.0.provisioned u)
-
-  when_unset : IsUnset nv → HasBlank nv → Own Unprovisioned → BringsUp bank image nv accepts counts notes
-  when_unset u b own = record {
-    held = own.held;
-    released = λ svn at n. elim (own.only (what.Released bank svn at) refl n) [ inl e ↦ absurd cc | inr x ↦ absurd x ];
-    trusted = λ t. absurd (not_unset nv t.fuses t.provisioned u);
-    locked = λ cause at n. elim (own.only (what.Locked bank cause at) refl n) [
-      | inl e ↦ (let s = same_lock bank why.Unprovisioned cause counts at e in (s.1, subst (λ (w : LockWhy). IsDue w bank image nv accepts) s.0 (u, b)))
-      | inr x ↦ absurd x
-    ];
-    due = due_unset u b own;
-    distrusted = λ cause n. elim (own.only (what.Untrusted bank cause) refl n) [ inl e ↦ absurd cc | inr x ↦ absurd x ];
-    named = λ cause a. absurd (not_unset nv a.fuses a.provisioned u);
-  }
-
-  when_spent : IsUnset nv → ¬ HasBlank nv → Own SlotsSpent → BringsUp bank image nv accepts counts notes
-  when_spent u b own = record {
-    held = own.held;
-    released = λ svn at n. elim (own.only (what.Released bank svn at) refl n) [ inl e ↦ absurd cc | inr x ↦ absurd x ];
-    trusted = λ t. absurd (not_unset nv t.fuses t.provisioned u);
-    locked = λ cause at n. elim (own.only (what.Locked bank cause at) refl n) [
-      | inl e ↦ (let s = same_lock bank why.SlotsSpent cause counts at e in (s.1, subst (λ (w : LockWhy). IsDue w bank image nv accepts) s.0 (u, b)))
-      | inr x ↦ absurd x
-    ];
-    due = due_spent u b own;
-    distrusted = λ cause n. elim (own.only (what.Untrusted bank cause) refl n) [ inl e ↦ absurd cc | inr x ↦ absurd x ];
-    named = λ cause a. absurd (not_unset nv a.fuses a.provisioned u);
-  }
-
-  due_misplaced : (rule : LayoutRule) (m : IsMisplaced rule bank image nv) → Own (BadLayout rule) → (cause : LockWhy)
-      → IsDue cause bank image nv accepts → IsNoted notes (what.Locked bank cause counts)
-  due_misplaced rule m own why.Unprovisioned h = absurd (not_unset nv m.fuses m.provisioned h.0)
-  due_misplaced rule m own why.SlotsSpent h = absurd (not_unset nv m.fuses m.provisioned h.0)
-  due_misplaced rule m own why.FlashFault h = absurd h
-  due_misplaced rule m own why.StoreFault h = absurd h
-  due_misplaced rule m own (why.Layout other) h =
-      own.all _ (inl (ap (λ (x : LayoutRule). what.Locked bank (why.Layout x) counts) (misplaced_once rule other bank image nv m h)))
-  due_misplaced rule m own why.NotRestored h = absurd (misplaced_valid rule bank image nv h.0.fuses m h.0.provisioned h.0.layout)
-  due_misplaced rule m own (why.NoGoodImage active bad) h = absurd (misplaced_valid rule bank image nv h.0.fuses m h.0.provisioned h.0.layout)
-
-  when_misplaced : (rule : LayoutRule) (m : IsMisplaced rule bank image nv) → Own (BadLayout rule) → BringsUp bank image nv accepts counts notes
-  when_misplaced rule m own = record {
-    held = own.held;
-    released = λ svn at n. elim (own.only (what.Released bank svn at) refl n) [ inl e ↦ absurd cc | inr x ↦ absurd x ];
-    trusted = λ t. absurd (misplaced_valid rule bank image nv t.fuses m t.provisioned t.layout);
-    locked = λ cause at n. elim (own.only (what.Locked bank cause at) refl n) [
-      | inl e ↦ (let s = same_lock bank (why.Layout rule) cause counts at e in (s.1, subst (λ (w : LockWhy). IsDue w bank image nv accepts) s.0 m))
-      | inr x ↦ absurd x
-    ];
-    due = due_misplaced rule m own;
-    distrusted = λ cause n. elim (own.only (what.Untrusted bank cause) refl n) [ inl e ↦ absurd cc | inr x ↦ absurd x ];
-    named = λ cause a. absurd (misplaced_valid rule bank image nv a.fuses m a.provisioned a.layout);
-  }
-
-  due_distrusted : (cause : ActiveFail) (a : IsAgainst cause bank image nv accepts)
-      → RecoveryFound (Untrusted cause) recovery bank image nv accepts → Own (Untrusted cause)
-      → (w : LockWhy) → IsDue w bank image nv accepts → IsNoted notes (what.Locked bank w counts)
-  due_distrusted cause a r own why.Unprovisioned h = absurd (not_unset nv a.fuses a.provisioned h.0)
-  due_distrusted cause a r own why.SlotsSpent h = absurd (not_unset nv a.fuses a.provisioned h.0)
-  due_distrusted cause a r own why.FlashFault h = absurd h
-  due_distrusted cause a r own why.StoreFault h = absurd h
-  due_distrusted cause a r own (why.Layout rule) h = absurd (misplaced_valid rule bank image nv a.fuses h a.provisioned a.layout)
-  due_distrusted cause a r own why.NotRestored h =
-      own.all _ (inr (inl (ap (λ (x : LockWhy). what.Locked bank x counts) (lock_restored bank image nv accepts recovery cause r h.1))))
-  due_distrusted cause a r own (why.NoGoodImage active bad) h =
-      own.all _ (inr (inl (ap (λ (x : LockWhy). what.Locked bank x counts) (lock_named bank image nv accepts recovery cause active bad r a h.0 h.1))))
-
-  when_distrusted : (cause : ActiveFail) (a : IsAgainst cause bank image nv accepts)
-      → RecoveryFound (Untrusted cause) recovery bank image nv accepts → Own (Untrusted cause)
-      → BringsUp bank image nv accepts counts notes
-  when_distrusted cause a r own = record {
-    held = own.held;
-    released = λ svn at n. elim (own.only (what.Released bank svn at) refl n) [ inl e ↦ absurd cc | inr x ↦ elim x [ inl e ↦ absurd cc | inr y ↦ absurd y ] ];
-    trusted = λ t. absurd (against_trusted cause bank image nv accepts a t);
-    locked = λ w at n. elim (own.only (what.Locked bank w at) refl n) [
-      | inl e ↦ absurd cc
-      | inr x ↦ elim x [
-        | inl e ↦ (let s = same_lock bank (lock_of cause recovery) w counts at e in
-            (s.1, subst (λ (v : LockWhy). IsDue v bank image nv accepts) s.0 (lock_due bank image nv accepts recovery cause a r)))
-        | inr y ↦ absurd y
-      ]
-    ];
-    due = due_distrusted cause a r own;
-    distrusted = λ other n. elim (own.only (what.Untrusted bank other) refl n) [
-      | inl e ↦ subst (λ (x : ActiveFail). IsAgainst x bank image nv accepts) (same_cause bank cause other e) a
-      | inr x ↦ elim x [ inl e ↦ absurd cc | inr y ↦ absurd y ]
-    ];
-    named = λ other b. own.all _ (inl (ap (λ (x : ActiveFail). what.Untrusted bank x) (against_once cause other bank image nv accepts a b)));
-  }
-
-  due_trusted : IsTrusted image nv bank accepts → (w : LockWhy) → ¬ IsDue w bank image nv accepts
-  due_trusted t why.Unprovisioned h = not_unset nv t.fuses t.provisioned h.0
-  due_trusted t why.SlotsSpent h = not_unset nv t.fuses t.provisioned h.0
-  due_trusted t why.FlashFault h = h
-  due_trusted t why.StoreFault h = h
-  due_trusted t (why.Layout rule) h = misplaced_valid rule bank image nv t.fuses h t.provisioned t.layout
-  due_trusted t why.NotRestored h = h.0.distrusted t
-  due_trusted t (why.NoGoodImage active bad) h = against_trusted active bank image nv accepts h.0 t
-
-  when_trusted : (svn : ℕ) (t : IsTrusted image nv bank accepts) → t.manifest.svn ≡ svn → Own (Trusted svn)
-      → BringsUp bank image nv accepts counts notes
-  when_trusted svn t is own = record {
-    held = own.held;
-    released = λ other at n. elim (own.only (what.Released bank other at) refl n) [
-      | inl e ↦ (let s = same_release bank svn other counts at e in (s.1, (t, is ∙ s.0)))
-      | inr x ↦ absurd x
-    ];
-    trusted = λ u. own.all _ (inl (ap (λ (n : ℕ). what.Released bank n counts) (sym is ∙ trusted_once bank image nv accepts t u)));
-    locked = λ w at n. elim (own.only (what.Locked bank w at) refl n) [ inl e ↦ absurd cc | inr x ↦ absurd x ];
-    due = λ w h. absurd (due_trusted t w h);
-    distrusted = λ cause n. elim (own.only (what.Untrusted bank cause) refl n) [ inl e ↦ absurd cc | inr x ↦ absurd x ];
-    named = λ cause a. absurd (against_trusted cause bank image nv accepts a t);
-  }
-
-  brings_up : (a : Authentication) → Found bank image nv accepts a → RecoveryFound a recovery bank image nv accepts → Own a
-      → BringsUp bank image nv accepts counts notes
-  brings_up Unprovisioned (unset u b) r own = when_unset u b own
-  brings_up SlotsSpent (spent u b) r own = when_spent u b own
-  brings_up (BadLayout rule) (misplaced m) r own = when_misplaced rule m own
-  brings_up (Untrusted cause) (distrusted a) r own = when_distrusted cause a r own
-  brings_up (Trusted svn) (trusted t is) r own = when_trusted svn t is own
+  brings_up : (item : ℕ) (counts : Counts) (notes : List Note) → AreBytes image
+      → HasOwn item bank counts (recovery_of bank image nv accepts) (authentication_of bank image nv accepts) notes → BringsUp bank image nv accepts counts notes
+  brings_up item counts notes bytes own =
+      let a = authentication_of bank image nv accepts in
+      let recovery = recovery_of bank image nv accepts in
+      let f = found bank image nv accepts bytes in
+      let told : (that : What) → decided that ≡ Some bank → IsNoted notes that → Tells bank counts recovery a that =
+      λ that d n. tell item bank counts recovery a that (own.only that d n) in
+      record {
+        held = own.held;
+        released = λ svn at n. let t = told (what.Released bank svn at) refl n in (t.1, found_svn svn (subst (λ (x : Authentication). Found bank image nv accepts x) t.2 f));
+        trusted = λ t. own.all _ (rw (found_is bank image nv accepts (Trusted t.manifest.svn) (trusted t refl)) (inl refl));
+        locked = λ cause at n.
+            let t = told (what.Locked bank cause at) refl n in
+            (t.1, subst (λ (x : Option LockWhy). LockIsDue x bank image nv accepts) t.2 (found_due bank image nv accepts a recovery f (recovery_found bank image nv accepts a bytes f)));
+        due = λ cause h. own.all _ (lock_noted item bank counts recovery a cause (due_lock bank image nv accepts cause bytes h));
+        distrusted = λ cause n. let t = told (what.Untrusted bank cause) refl n in found_cause cause (subst (λ (x : Authentication). Found bank image nv accepts x) t.1 f);
+        named = λ cause h. own.all _ (rw (found_is bank image nv accepts (Untrusted cause) (distrusted h)) (inl refl));
+      }
 
 -- ---- what a bank's part of a power-on adds
 conclusion_story : (b : Bank) (recovery : Option CapsuleFail) (a : Authentication) (story : Story)
@@ -268,11 +145,9 @@ own_notes accepts b story =
     record { item = story.item; what = what.Held b (counts_of story) } ∷
     found_notes story.item b (counts_of story) (recovery_at accepts b story) (authentication_at accepts b story)
 
--- what was found of the bank was noted, and nothing else changed
+-- what was found of the bank, which holds bytes, was noted, and nothing else changed
 pub record BroughtUp (accepts : Acceptance) (b : Bank) (old new : Story) : Type 0 where
-  pub found : Found b (image_at (device_of b) old) (image_at device.Nv old) accepts (authentication_at accepts b old)
-  pub recovery : RecoveryFound (authentication_at accepts b old) (recovery_at accepts b old) b
-      (image_at (device_of b) old) (image_at device.Nv old) accepts
+  pub bytes : AreBytes (image_at (device_of b) old)
   pub is : new ≡ record old { notes = old.notes ++ own_notes accepts b old }
 
 -- what crossing the stretch adds
@@ -287,15 +162,7 @@ crossed_is accepts b old new p =
     ∙ ap (λ (notes : List Note). record story { notes = notes }) (append_assoc story.notes (note ∷ []) (found_notes story.item b (counts_of story) recovery a))
 
 brought_crossed : (accepts : Acceptance) (b : Bank) (old new : World) → HaveBytes old → Crosses (bank_stretch accepts b) old new → BroughtUp accepts b (story_of old) (story_of new)
-brought_crossed accepts b old new held p =
-    let story = story_of old in
-    let bytes = image_bytes (device_of b) old held in
-    let f = found b (image_at (device_of b) story) (image_at device.Nv story) accepts bytes in
-    record {
-      found = f;
-      recovery = recovery_found b (image_at (device_of b) story) (image_at device.Nv story) accepts (authentication_at accepts b story) (recovery_at accepts b story) bytes f refl;
-      is = crossed_is accepts b old new p;
-    }
+brought_crossed accepts b old new held p = record { bytes = image_bytes (device_of b) old held; is = crossed_is accepts b old new p }
 
 same_some : (one other : Bank) → Some one ≡ Some other → one ≡ other
 same_some one other e = cc
@@ -306,7 +173,7 @@ stands_crossed accepts b old new is = record {
   is = is;
   own = λ that one d n. elim n [
     | inl e ↦ absurd (let never : None ≡ Some one = ap decided e ∙ d in cc)
-    | inr m ↦ same_some one b (sym d ∙ of_bank old.item b (counts_of old) (recovery_at accepts b old) (authentication_at accepts b old) that m)
+    | inr m ↦ of_bank b one (counts_of old) (recovery_at accepts b old) (authentication_at accepts b old) that (tell old.item b (counts_of old) (recovery_at accepts b old) (authentication_at accepts b old) that m) d
   ];
 }
 
@@ -483,7 +350,7 @@ comes accepts which base front back x y z p xs zs f g =
     let dropped : drop (length base) z.notes ≡ front ++ (mine ++ back) =
     ap (λ (ns : List Note). drop (length base) ns) notes ∙ drop-append_seam base (front ++ (mine ++ back)) in
     rw (image, nv, counts, dropped)
-    (brings_up x.item which (image_at (device_of which) x) (image_at device.Nv x) accepts (counts_of x) recovery (front ++ (mine ++ back)) a p.found p.recovery
+    (brings_up which (image_at (device_of which) x) (image_at device.Nv x) accepts x.item (counts_of x) (front ++ (mine ++ back)) p.bytes
     (middle_own which x.item (counts_of x) recovery a front back f g))
 
 ops_notes : (ops : List Operation) (story : Story) → (after (all_do device.Nv ops) story).notes ≡ story.notes
@@ -553,12 +420,7 @@ module _ (accepts : Acceptance) (old new : World) (held : HaveBytes new) where
       (extends_trans old.notes.list mid.notes.list l.at.notes.list before (extends_by l.stopped.trace mid l.at l.stopped.is)) l.noted calm)
 
   extends_steps : (mid : World) → Steps (bank_stretch accepts bank.Pch ∷ []) mid new → Extends mid.notes.list new.notes.list
-  extends_steps mid (inl (end, d, e)) =
-      extends_trans mid.notes.list end.notes.list new.notes.list (extends_by (brought_up accepts bank.Pch (story_of mid)) mid end d.is) (extends_by [] end new e.is)
-  extends_steps mid (inr (inl (end, f, e))) =
-      extends_trans mid.notes.list end.notes.list new.notes.list (extends_stands bank.Pch (story_of mid) (story_of end) (stands_faulted accepts bank.Pch mid end f)) (extends_by [] end new e.is)
-  extends_steps mid (inr (inr l)) =
-      extends_trans mid.notes.list l.at.notes.list new.notes.list (extends_by l.stopped.trace mid l.at l.stopped.is) (extends_by (lost l.which) l.at new l.noted.is)
+  extends_steps mid p = let t = Steps-traced (bank_stretch accepts bank.Pch ∷ []) mid new p in extends_by t.trace mid new t.is
 
   bmc_up : (w : World) (k : Woken w) → Steps (bank_stretches accepts) w new → IsCalm bank.Bmc (added old new)
       → BringsUp bank.Bmc (now new.bmc) (now new.nv) accepts (counts_in new) (added old new)

@@ -2,7 +2,6 @@
 use Rattle.std.proofs.Common.{◌≡◌, ◌∙◌, refl, sym, ap, subst, ℕ, ◌+◌, ◌*◌, arith, Bool, true, false, List, [], ◌∷◌, ◌++◌, length, drop, append_assoc, None, Result, Ok, Err, ◌⊎◌, inl, inr}
 use Rattle.std.proofs.lemmas.Bool.{cases_lt, cases_Bool}
 use Rattle.std.proofs.lemmas.List.{append-nil}
-use Rattle.std.proofs.Math.Seq.{drop-append_seam}
 use Rattle.pfr_flash.specs.Operation.{Operation, Program, play}
 use Rattle.pfr_flash.specs.FlashState.{FlashState, now, size_of, with_op}
 use Rattle.pfr_flash.specs.Moved.{Worked}
@@ -40,12 +39,14 @@ use Rattle.pfr_calm.specs.Plans.{provisioned_in, refusal_of}
 use Rattle.pfr_calm.specs.Course.{Faults, LosesPower, Steps, lost}
 use Rattle.pfr_calm.specs.Standing.{standing_of, is_off}
 use Rattle.pfr_calm.specs.Turn.{provision_stretch, ignored, provision_course, where_off, Follows as FollowsCourse, next_item, Turn}
-use Rattle.pfr_calm.specs.Promises.{added, AreOff, IsCalm, sizes_judged, TriesProvision, ProvisionsSo}
+use Rattle.pfr_calm.specs.Promises.{added, AreOff, IsKnownSlot, IsCalm, sizes_judged, TriesProvision, ProvisionsSo}
 use Rattle.pfr_calm.proofs.Sequence.{after-append}
 use Rattle.pfr_calm.proofs.Lift.{after_did}
-use Rattle.pfr_calm.proofs.Findings.{noted_append}
+use Rattle.pfr_calm.proofs.Traces.{AllGood, Traced-ran}
+use Rattle.pfr_calm.proofs.Findings.{noted_all}
+use Rattle.pfr_calm.proofs.Saying.{stopped_good, first_good, Saying, saying_torn, outcome_of, provisioned_says, AddsOnly, adds_none, adds_then, adds_traced, added_is}
+use Rattle.pfr_calm.proofs.Facts.{notes_operated}
 use Rattle.pfr_calm.proofs.StoreLaws.{judged_here}
-use Rattle.pfr_calm.proofs.GrowthLaws.{IsKnownSlot}
 use Rattle.pfr_calm.proofs.PowerLaws.{Extends, extends_trans, extends_by, in_between, shows_loss}
 
 -- ---- a store where the plan was done is provisioned so
@@ -86,68 +87,6 @@ provisioned_so nv root m n number size slot j =
     let by : IsProvisionedBy (now new) number = (provision-slot old new root m n (Ok tt) size slot exact number (judged-ok nv root m n number j)).1 in
     let same : with.number ≡ number = one_slot (now new) with.number number with.by by in
     (by, ap (λ (k : ℕ). provision_in (slot_at (now new) k)) (sym same) ∙ with.provision)
-
--- ---- notes that all say something
--- so does each note of these moves
-abbrev pub AllSay : (What → Type 0) → List Move → Type 0
-AllSay P [] = Unit {0}
-AllSay P (Says w ∷ moves) = ((at : Counts) → P (w at)) × AllSay P moves
-AllSay P (Does which op ∷ moves) = AllSay P moves
-
--- so do all notes that were added
-pub record AddsOnly (P : What → Type 0) (old new : Story) : Type 0 where
-  pub more : List Note
-  pub is : new.notes ≡ old.notes ++ more
-  pub all : (that : What) → IsNoted more that → P that
-
-only_none : (P : What → Type 0) (old new : Story) → new.notes ≡ old.notes → AddsOnly P old new
-only_none P old new e = record { more = []; is = e ∙ sym (append-nil old.notes); all = λ that n. absurd n }
-
-pub only_then : (P : What → Type 0) (a b c : Story) → AddsOnly P a b → AddsOnly P b c → AddsOnly P a c
-only_then P a b c p q = record {
-  more = p.more ++ q.more;
-  is = q.is ∙ ap (λ (ns : List Note). ns ++ q.more) p.is ∙ append_assoc a.notes p.more q.more;
-  all = λ that n. elim (noted_append p.more q.more that n) [ inl m ↦ p.all that m | inr m ↦ q.all that m ];
-}
-
-only_says : (P : What → Type 0) (w : Counts → What) (story : Story) → P (w (counts_of story)) → AddsOnly P story (noted w story)
-only_says P w story o = record {
-  more = record { item = story.item; what = w (counts_of story) } ∷ [];
-  is = refl;
-  all = λ that n. elim n [ inl e ↦ subst P e o | inr x ↦ absurd x ];
-}
-
-notes_operated : (which : Device) (op : Operation) (story : Story) → (operated which op story).notes ≡ story.notes
-notes_operated device.Bmc op story = refl
-notes_operated device.Pch op story = refl
-notes_operated device.Nv op story = refl
-
-pub only_after : (P : What → Type 0) (moves : List Move) (story : Story) → AllSay P moves → AddsOnly P story (after moves story)
-only_after P [] story o = only_none P story story refl
-only_after P (Says w ∷ moves) story o =
-    only_then P story (noted w story) (after moves (noted w story)) (only_says P w story (o.0 (counts_of story))) (only_after P moves (noted w story) o.1)
-only_after P (Does which op ∷ moves) story o =
-    only_then P story (operated which op story) (after moves (operated which op story)) (only_none P story (operated which op story) (notes_operated which op story))
-    (only_after P moves (operated which op story) o)
-
-say_front : (P : What → Type 0) (a b : List Move) → AllSay P (a ++ b) → AllSay P a
-say_front P [] b o = tt
-say_front P (Says w ∷ a) b o = (o.0, say_front P a b o.1)
-say_front P (Does which op ∷ a) b o = say_front P a b o
-
-pub say_append : (P : What → Type 0) (a b : List Move) → AllSay P a → AllSay P b → AllSay P (a ++ b)
-say_append P [] b o p = p
-say_append P (Says w ∷ a) b o p = (o.0, say_append P a b o.1 p)
-say_append P (Does which op ∷ a) b o p = say_append P a b o p
-
-pub say_cut : (P : What → Type 0) (which : Device) (moves trace : List Move) (story : Story) → AllSay P moves → IsCut which moves story trace → AllSay P trace
-say_cut P which moves trace story o cut =
-    subst (AllSay P) (sym cut.is) (say_append P cut.front cut.last (say_front P cut.front cut.left (subst (AllSay P) cut.plan o))
-    (elim cut.end [ inl e ↦ subst (AllSay P) (sym e) tt | inr t ↦ subst (AllSay P) (sym t.is) tt ]))
-
-pub say_done : (P : What → Type 0) (plan : List Operation) → AllSay P (all_do device.Nv plan)
-say_done P [] = tt
-say_done P (op ∷ plan) = say_done P plan
 
 -- nothing of a provision that was done
 abbrev IsOther : What → Type 0
@@ -193,11 +132,6 @@ whole_or_silent which (op ∷ plan) w (m ∷ front) left last story e end =
       | inr h ↦ inr (h ∙ ap (λ (s : Story). s.notes) moved)
     ]
 
--- what is noted of what was judged
-abbrev outcome_of : Result ℕ FuseFail → What
-outcome_of (Ok number) = what.Provisioned
-outcome_of (Err cause) = what.ProvisionRefused (refusal_of cause)
-
 -- ---- how a provision ends
 module _ (root : RootSlot) where
   -- all of the plan was done, by the slot that was judged
@@ -214,8 +148,7 @@ module _ (root : RootSlot) where
   stopped_by : (r : Result ℕ FuseFail) (which : Device) (fail : FlashFail) (old at : World) → judged_here root (story_of old) ≡ r → Stopped (provisioned_in root r) which fail old at
       → WentThrough (story_of old) (story_of at) ⊎ AddsOther (story_of old) (story_of at)
   stopped_by (Err cause) which fail old at j p =
-      inr (subst (λ (s : Story). AddsOther (story_of old) s) (sym p.is)
-      (only_after IsOther p.trace (story_of old) (say_cut IsOther which (provisioned_in root (Err cause)) p.trace (story_of old) (λ c. tt, tt) p.cut)))
+      inr (adds_traced IsOther old at (stopped_good (Saying IsOther) (saying_torn IsOther) (provisioned_in root (Err cause)) which fail old at (tt, tt) p))
   stopped_by (Ok number) which fail old at j p =
       let cut = p.cut in
       let same : story_of at ≡ after cut.last (after cut.front (story_of old)) = p.is ∙ ap (λ (ms : List Move). after ms (story_of old)) cut.is ∙ after-append cut.front cut.last (story_of old) in
@@ -225,69 +158,45 @@ module _ (root : RootSlot) where
           judged = j;
           store = ap (λ (s : Story). s.nv) p.is ∙ ap (λ (ms : List Move). (after ms (story_of old)).nv) (cut.is ∙ h) ∙ whole_nv number (story_of old);
         })
-        | inr h ↦ inr (only_none IsOther (story_of old) (story_of at) (ap (λ (s : Story). s.notes) same ∙ h))
+        | inr h ↦ inr (adds_none IsOther (story_of old) (story_of at) (ap (λ (s : Story). s.notes) same ∙ h))
       ]
 
-  then_says : (moves : List Move) (old at new : World) → AllSay IsOther moves → Ran moves at new → (story_of new).nv ≡ (story_of at).nv
+  then_says : (moves : List Move) (old at new : World) → AllGood (Saying IsOther) moves (story_of at) → Ran moves at new → (story_of new).nv ≡ (story_of at).nv
       → WentThrough (story_of old) (story_of at) ⊎ AddsOther (story_of old) (story_of at) → WentThrough (story_of old) (story_of new) ⊎ AddsOther (story_of old) (story_of new)
   then_says moves old at new o r e (inl t) = inl (record { number = t.number; judged = t.judged; store = e ∙ t.store })
   then_says moves old at new o r e (inr q) =
-      inr (only_then IsOther (story_of old) (story_of at) (story_of new) q (subst (λ (s : Story). AddsOther (story_of at) s) (sym r.is) (only_after IsOther moves (story_of at) o)))
+      inr (adds_then IsOther (story_of old) (story_of at) (story_of new) q (adds_traced IsOther at new (Traced-ran (Saying IsOther) moves at new r o)))
 
   crossed_by : (r : Result ℕ FuseFail) (old new : World) → judged_here root (story_of old) ≡ r → Ran (provisioned_in root r) old new
       → WentThrough (story_of old) (story_of new) ⊎ AddsOther (story_of old) (story_of new)
   crossed_by (Ok number) old new j p = inl (record { number = number; judged = j; store = ap (λ (s : Story). s.nv) p.is ∙ whole_nv number (story_of old) })
-  crossed_by (Err cause) old new j p =
-      inr (subst (λ (s : Story). AddsOther (story_of old) s) (sym p.is) (only_after IsOther (provisioned_in root (Err cause)) (story_of old) (λ c. tt, tt)))
-
-  locks_other : AllSay IsOther (Says (what.Locked bank.Bmc why.StoreFault) ∷ Says (what.Locked bank.Pch why.StoreFault) ∷ [])
-  locks_other = (λ c. tt, (λ c. tt, tt))
+  crossed_by (Err cause) old new j p = inr (adds_traced IsOther old new (Traced-ran (Saying IsOther) (provisioned_in root (Err cause)) old new p (tt, tt)))
 
   through_or_other : (old new : World) → Steps (provision_stretch root ∷ []) old new → WentThrough (story_of old) (story_of new) ⊎ AddsOther (story_of old) (story_of new)
   through_or_other old new (inl (mid, c, e)) =
       subst (λ (s : Story). WentThrough (story_of old) s ⊎ AddsOther (story_of old) s) (sym e.is) (crossed_by (judged_here root (story_of old)) old mid refl c)
   through_or_other old new (inr (inl (mid, f, e))) =
       subst (λ (s : Story). WentThrough (story_of old) s ⊎ AddsOther (story_of old) s) (sym e.is)
-      (then_says (Says (what.Locked bank.Bmc why.StoreFault) ∷ Says (what.Locked bank.Pch why.StoreFault) ∷ []) old f.at mid locks_other f.noted
+      (then_says (Says (what.Locked bank.Bmc why.StoreFault) ∷ Says (what.Locked bank.Pch why.StoreFault) ∷ []) old f.at mid (tt, (tt, tt)) f.noted
       (ap (λ (s : Story). s.nv) f.noted.is) (stopped_by (judged_here root (story_of old)) f.which Fault old f.at refl f.stopped))
   through_or_other old new (inr (inr l)) =
-      then_says (lost l.which) old l.at new (λ c. tt, tt) l.noted (ap (λ (s : Story). s.nv) l.noted.is)
+      then_says (lost l.which) old l.at new (tt, tt) l.noted (ap (λ (s : Story). s.nv) l.noted.is)
       (stopped_by (judged_here root (story_of old)) l.which Loses old l.at refl l.stopped)
 
   -- ---- a refusal that was noted was judged
-  plan_backed : (r : Result ℕ FuseFail) → AllSay (IsBacked r) (provisioned_in root r)
-  plan_backed (Ok number) = say_append (IsBacked (Ok number)) (all_do device.Nv (provision_plan number root)) (Says (λ _. what.Provisioned) ∷ [])
-      (say_done (IsBacked (Ok number)) (provision_plan number root)) (λ c. tt, tt)
-  plan_backed (Err cause) = (λ c. (cause, refl, refl), tt)
-
-  backed_stopped : (r : Result ℕ FuseFail) (which : Device) (fail : FlashFail) (old at : World) → Stopped (provisioned_in root r) which fail old at
-      → AddsOnly (IsBacked r) (story_of old) (story_of at)
-  backed_stopped r which fail old at p =
-      subst (λ (s : Story). AddsOnly (IsBacked r) (story_of old) s) (sym p.is)
-      (only_after (IsBacked r) p.trace (story_of old) (say_cut (IsBacked r) which (provisioned_in root r) p.trace (story_of old) (plan_backed r) p.cut))
-
-  backed_ran : (r : Result ℕ FuseFail) (moves : List Move) (old new : World) → AllSay (IsBacked r) moves → Ran moves old new → AddsOnly (IsBacked r) (story_of old) (story_of new)
-  backed_ran r moves old new o p = subst (λ (s : Story). AddsOnly (IsBacked r) (story_of old) s) (sym p.is) (only_after (IsBacked r) moves (story_of old) o)
+  outcome_backed : (r : Result ℕ FuseFail) → IsBacked r (outcome_of r)
+  outcome_backed (Ok number) = tt
+  outcome_backed (Err cause) = (cause, refl, refl)
 
   backed : (old new : World) → Steps (provision_stretch root ∷ []) old new → AddsOnly (IsBacked (judged_here root (story_of old))) (story_of old) (story_of new)
-  backed old new (inl (mid, c, e)) =
+  backed old new p =
       let r = judged_here root (story_of old) in
-      subst (λ (s : Story). AddsOnly (IsBacked r) (story_of old) s) (sym e.is) (backed_ran r (provisioned_in root r) old mid (plan_backed r) c)
-  backed old new (inr (inl (mid, f, e))) =
-      let r = judged_here root (story_of old) in
-      subst (λ (s : Story). AddsOnly (IsBacked r) (story_of old) s) (sym e.is)
-      (only_then (IsBacked r) (story_of old) (story_of f.at) (story_of mid) (backed_stopped r f.which Fault old f.at f.stopped)
-      (backed_ran r (Says (what.Locked bank.Bmc why.StoreFault) ∷ Says (what.Locked bank.Pch why.StoreFault) ∷ []) f.at mid (λ c. tt, (λ c. tt, tt)) f.noted))
-  backed old new (inr (inr l)) =
-      let r = judged_here root (story_of old) in
-      only_then (IsBacked r) (story_of old) (story_of l.at) (story_of new) (backed_stopped r l.which Loses old l.at l.stopped)
-      (backed_ran r (lost l.which) l.at new (λ c. tt, tt) l.noted)
+      adds_traced (IsBacked r) old new (first_good (Saying (IsBacked r)) (saying_torn (IsBacked r)) (provision_stretch root) [] old new
+      (provisioned_says (IsBacked r) root r (story_of old) (outcome_backed r)) (λ mid f behind. (tt, (tt, tt))) (λ l. (tt, tt))
+      (λ mid c q. Traced-ran (Saying (IsBacked r)) [] mid new q tt) p)
 
   -- ---- what was noted
   module _ (accepts : Acceptance) (old new : World) (size : size_of old.nv ≡ 32768) (slot : IsSlot root) where
-    added_more : (more : List Note) → new.notes.list ≡ old.notes.list ++ more → added old new ≡ more
-    added_more more e = ap (λ (ns : List Note). drop (length old.notes.list) ns) e ∙ drop-append_seam old.notes.list more
-
     was_done : (mid : World) → story_of mid ≡ story_of (next_item old) → WentThrough (story_of mid) (story_of new)
         → (number : ℕ) × (sizes_judged root old ≡ Ok number) × IsProvisionedBy (now new.nv) number × (provision_in (slot_at (now new.nv) number) ≡ root)
     was_done mid e t =
@@ -303,13 +212,13 @@ module _ (root : RootSlot) where
         → (number : ℕ) × (sizes_judged root old ≡ Ok number) × IsProvisionedBy (now new.nv) number × (provision_in (slot_at (now new.nv) number) ≡ root)
     done_by mid e (inl t) n = was_done mid e t
     done_by mid e (inr q) n =
-        absurd (q.all what.Provisioned (subst (λ (ns : List Note). IsNoted ns what.Provisioned) (added_more q.more (q.is ∙ ap (λ (s : Story). s.notes ++ q.more) e)) n))
+        absurd (noted_all IsOther q.more what.Provisioned q.all (subst (λ (ns : List Note). IsNoted ns what.Provisioned) (added_is old new q.more (q.is ∙ ap (λ (s : Story). s.notes ++ q.more) e)) n))
 
     refused_by : (mid : World) → story_of mid ≡ story_of (next_item old) → AddsOnly (IsBacked (judged_here root (story_of mid))) (story_of mid) (story_of new) → (w : ProvisionWhy)
         → IsNoted (added old new) (what.ProvisionRefused w) → (cause : FuseFail) × (sizes_judged root old ≡ Err cause) × (w ≡ refusal_of cause)
     refused_by mid e q w n =
-        let back = q.all (what.ProvisionRefused w)
-        (subst (λ (ns : List Note). IsNoted ns (what.ProvisionRefused w)) (added_more q.more (q.is ∙ ap (λ (s : Story). s.notes ++ q.more) e)) n) in
+        let back = noted_all (IsBacked (judged_here root (story_of mid))) q.more (what.ProvisionRefused w) q.all
+        (subst (λ (ns : List Note). IsNoted ns (what.ProvisionRefused w)) (added_is old new q.more (q.is ∙ ap (λ (s : Story). s.notes ++ q.more) e)) n) in
         (back.0, ap (λ (s : Story). judged_here root s) (sym e) ∙ back.1, back.2)
 
     -- a crossing notes what was judged
@@ -320,11 +229,11 @@ module _ (root : RootSlot) where
         let notes : new.notes.list ≡ mid.notes.list ++ note ∷ [] =
         ap (λ (s : Story). s.notes) (f ∙ p.is ∙ after-append (all_do device.Nv (provision_plan number root)) (Says (λ _. what.Provisioned) ∷ []) (story_of mid))
         ∙ ap (λ (s : Story). (noted (λ _. what.Provisioned) s).notes) (after_did device.Nv (provision_plan number root) (story_of mid)) in
-        subst (λ (ns : List Note). IsNoted ns what.Provisioned) (sym (added_more (note ∷ []) (notes ∙ ap (λ (s : Story). s.notes ++ note ∷ []) e))) (inl refl)
+        subst (λ (ns : List Note). IsNoted ns what.Provisioned) (sym (added_is old new (note ∷ []) (notes ∙ ap (λ (s : Story). s.notes ++ note ∷ []) e))) (inl refl)
     crossing_notes (Err cause) mid end e p f =
         let note : Note = record { item = mid.item; what = what.ProvisionRefused (refusal_of cause) } in
         let notes : new.notes.list ≡ mid.notes.list ++ note ∷ [] = ap (λ (s : Story). s.notes) (f ∙ p.is) in
-        subst (λ (ns : List Note). IsNoted ns (what.ProvisionRefused (refusal_of cause))) (sym (added_more (note ∷ []) (notes ∙ ap (λ (s : Story). s.notes ++ note ∷ []) e))) (inl refl)
+        subst (λ (ns : List Note). IsNoted ns (what.ProvisionRefused (refusal_of cause))) (sym (added_is old new (note ∷ []) (notes ∙ ap (λ (s : Story). s.notes ++ note ∷ []) e))) (inl refl)
 
     no_calm_loss : (mid : World) (l : LosesPower (provision_stretch root) mid new) → story_of mid ≡ story_of (next_item old) → ¬ IsCalm bank.Bmc (added old new)
     no_calm_loss mid l e =
@@ -357,14 +266,14 @@ module _ (root : RootSlot) where
     }
 
 -- A provision is noted as done exactly where a slot was found for it, and is refused by the first cause.
-pub Turn-provisions : (accepts : Acceptance) (e : Event) (old new : World) → size_of old.nv ≡ 32768 → IsKnownSlot e → Turn accepts e old new → ProvisionsSo e old new
+pub Turn-provisions : (accepts : Acceptance) (e : Event) (old new : World) → size_of old.nv ≡ 32768 → (¬ AreOff old → IsKnownSlot e) → Turn accepts e old new → ProvisionsSo e old new
 Turn-provisions accepts event.Power old new size slot t = tt
 Turn-provisions accepts event.Off old new size slot t = tt
 Turn-provisions accepts (event.Provision root) old new size slot t = λ on. by_off on (cases_Bool (is_off (standing_of bank.Bmc old.notes.list)))
   where
-    go : FollowsCourse (provision_course root) (next_item old) new → TriesProvision root old new
-    go (mid, first, rest) = tries root accepts old new size slot mid first.is rest
+    go : ¬ AreOff old → FollowsCourse (provision_course root) (next_item old) new → TriesProvision root old new
+    go on (mid, first, rest) = tries root accepts old new size (slot on) mid first.is rest
 
     by_off : ¬ AreOff old → ((is_off (standing_of bank.Bmc old.notes.list) ≡ true) ⊎ (is_off (standing_of bank.Bmc old.notes.list) ≡ false)) → TriesProvision root old new
     by_off on (inl off) = absurd (on off)
-    by_off on (inr off) = go (subst (λ (b : Bool). FollowsCourse (where_off b ignored (provision_course root)) (next_item old) new) off t)
+    by_off on (inr off) = go on (subst (λ (b : Bool). FollowsCourse (where_off b ignored (provision_course root)) (next_item old) new) off t)

@@ -37,7 +37,7 @@ use Rattle.pfr_report.specs.declared.note.Note.{Note}
 use Rattle.pfr_report.specs.declared.note.What.{What}
 use Rattle.pfr_report.specs.declared.note.What.TheVariants as what
 use Rattle.pfr_calm.specs.Story.{Story, Move, Says, Does, after, noted, operated, device_of, image_at, all_do}
-use Rattle.pfr_calm.specs.World.{World, NoneFailed, story_of, state_at, AllMoved}
+use Rattle.pfr_calm.specs.World.{World, NoneFailed, NoneLost, story_of, state_at, AllMoved}
 use Rattle.pfr_flash.specs.declared.flash.FlashFail.{FlashFail}
 use Rattle.pfr_flash.specs.declared.flash.FlashFail.TheVariants.{Fault, Lost as Loses}
 use Rattle.pfr_calm.specs.Goes.{Ran, Stopped}
@@ -47,7 +47,9 @@ use Rattle.pfr_calm.specs.Spans.{count_at, ReleasedSpans, opens_from}
 use Rattle.pfr_calm.specs.Turn.{Course, Turn, course, next_item, fuse_stretch}
 use Rattle.pfr_calm.specs.Run.{takes_arm, with_arm, with_arm_at, armed, Did, Reached, CanRun}
 use Rattle.pfr_calm.specs.Promises.{added, IsDue, IsFaultLock, IsTrustedWith, ReleasesTrusted, LocksHaveCauses, FaultsHaveCauses}
+use Rattle.pfr_calm.proofs.Sequence.{NoneLost-at, NoneFailed-at}
 use Rattle.pfr_calm.proofs.Traces.{Traced-keeps, Precedes}
+use Rattle.pfr_calm.proofs.Saying.{Follows-traced}
 use Rattle.pfr_calm.proofs.Facts.{Setting, Fact, IsGood, IsLater, IsLater-refl, IsLater-trans}
 use Rattle.pfr_calm.proofs.StretchLaws.{Between, IsLater-moved, MayProvision, works, refused}
 use Rattle.pfr_calm.proofs.StepTraces.{MayTurn, Turn-moved, Turn-traced, Known, Known-none, Known-moves}
@@ -77,23 +79,14 @@ arm_counts armed_what.Cut nth tear d = (refl, refl)
 arm_counts armed_what.Fault nth tear d = (refl, refl)
 arm_counts armed_what.ReadFault nth tear d = (refl, refl)
 
-counts_armed : (d : Device) (w : ArmWhat) (nth : ℕ) (tear : List ℕ) (old : World) (which : Device)
-    → ((state_at which (next_item (with_arm_at d w nth tear old))).faults ≡ (state_at which old).faults) × ((state_at which (next_item (with_arm_at d w nth tear old))).losses ≡ (state_at which old).losses)
-counts_armed device.Bmc w nth tear old device.Bmc = arm_counts w nth tear old.bmc
-counts_armed device.Bmc w nth tear old device.Pch = (refl, refl)
-counts_armed device.Bmc w nth tear old device.Nv = (refl, refl)
-counts_armed device.Pch w nth tear old device.Bmc = (refl, refl)
-counts_armed device.Pch w nth tear old device.Pch = arm_counts w nth tear old.pch
-counts_armed device.Pch w nth tear old device.Nv = (refl, refl)
-counts_armed device.Nv w nth tear old device.Bmc = (refl, refl)
-counts_armed device.Nv w nth tear old device.Pch = (refl, refl)
-counts_armed device.Nv w nth tear old device.Nv = arm_counts w nth tear old.nv
+-- nor does one let a call fail, or a device lose its power
+counts_armed : (d : Device) (w : ArmWhat) (nth : ℕ) (tear : List ℕ) (old : World) → NoneFailed old (next_item (with_arm_at d w nth tear old)) × NoneLost old (next_item (with_arm_at d w nth tear old))
+counts_armed device.Bmc w nth tear old = let e = arm_counts w nth tear old.bmc in (record { bmc = e.0; pch = refl; nv = refl }, record { bmc = e.1; pch = refl; nv = refl })
+counts_armed device.Pch w nth tear old = let e = arm_counts w nth tear old.pch in (record { bmc = refl; pch = e.0; nv = refl }, record { bmc = refl; pch = e.1; nv = refl })
+counts_armed device.Nv w nth tear old = let e = arm_counts w nth tear old.nv in (record { bmc = refl; pch = refl; nv = e.0 }, record { bmc = refl; pch = refl; nv = e.1 })
 
--- nor does one let a call fail
 pub failed_armed : (arm : Arm) (tear : List ℕ) (w : World) → NoneFailed w (armed arm tear w)
-failed_armed arm tear w =
-    let each : (which : Device) → (state_at which (armed arm tear w)).faults ≡ (state_at which w).faults = λ which. (counts_armed arm.device arm.what arm.nth tear w which).0 in
-    record { bmc = each device.Bmc; pch = each device.Pch; nv = each device.Nv }
+failed_armed arm tear w = (counts_armed arm.device arm.what arm.nth tear w).0
 
 had_armed : (w : ArmWhat) (nth : ℕ) (tear : List ℕ) (d : FlashState) → HadBytes (with_arm w nth tear d) → HadBytes d
 had_armed armed_what.Cut nth tear d h = record { start = h.start; ops = h.ops }
@@ -107,8 +100,8 @@ bytes_armed device.Nv w nth tear old h = record { bmc = h.bmc; pch = h.pch; nv =
 
 IsLater-armed : (arm : Arm) (tear : List ℕ) (w : World) → IsLater w (armed arm tear w)
 IsLater-armed arm tear w = record {
-  faults = λ which. let e = (counts_armed arm.device arm.what arm.nth tear w which).0 in omega (arith, e);
-  losses = λ which. let e = (counts_armed arm.device arm.what arm.nth tear w which).1 in omega (arith, e);
+  faults = λ which. let e = NoneFailed-at which w (armed arm tear w) (counts_armed arm.device arm.what arm.nth tear w).0 in omega (arith, e);
+  losses = λ which. let e = NoneLost-at which w (armed arm tear w) (counts_armed arm.device arm.what arm.nth tear w).1 in omega (arith, e);
   bytes = λ h. bytes_armed arm.device arm.what arm.nth tear w h;
 }
 
@@ -390,29 +383,11 @@ after_item (Does device.Bmc op ∷ trace) story = after_item trace (operated dev
 after_item (Does device.Pch op ∷ trace) story = after_item trace (operated device.Pch op story)
 after_item (Does device.Nv op ∷ trace) story = after_item trace (operated device.Nv op story)
 
-ran_item : (moves : List Move) (old new : World) → Ran moves old new → new.item ≡ old.item
-ran_item moves old new p = ap (λ (s : Story). s.item) p.is ∙ after_item moves (story_of old)
-
-stopped_item : (moves : List Move) (which : Device) (fail : FlashFail) (old new : World) → Stopped moves which fail old new → new.item ≡ old.item
-stopped_item moves which fail old new p = ap (λ (s : Story). s.item) p.is ∙ after_item p.trace (story_of old)
-
-on_item : (on : Bool) (steps : World → World → Type 0) (mid new : World) → (steps mid new → new.item ≡ mid.item) → goes_on_if on steps mid new → new.item ≡ mid.item
-on_item true steps mid new f r = f r
-on_item false steps mid new f r = ran_item [] mid new r
-
-steps_item : (ss : List Stretch) (old new : World) → Steps ss old new → new.item ≡ old.item
-steps_item [] old new p = ran_item [] old new p
-steps_item (s ∷ ss) old new (inl (mid, c, rest)) = steps_item ss mid new rest ∙ ran_item (s.plan (story_of old)) old mid c
-steps_item (s ∷ ss) old new (inr (inl (mid, f, rest))) =
-    on_item s.goes_on (Steps ss) mid new (λ r. steps_item ss mid new r) rest ∙ ran_item (s.on_fault f.which) f.at mid f.noted
-    ∙ stopped_item (s.plan (story_of old)) f.which Fault old f.at f.stopped
-steps_item (s ∷ ss) old new (inr (inr l)) = ran_item (lost l.which) l.at new l.noted ∙ stopped_item (s.plan (story_of old)) l.which Loses old l.at l.stopped
-
 module _ (accepts : Acceptance) where
   pub Turn-item : (e : Event) (old new : World) → Turn accepts e old new → new.item ≡ old.item + 1
-  Turn-item e old new (mid, first, rest) =
-      let c : Course = course accepts e (story_of old) in
-      steps_item c.stretches mid new rest ∙ ran_item c.first (next_item old) mid first
+  Turn-item e old new t =
+      let traced = Follows-traced (course accepts e (story_of old)) (next_item old) new t in
+      ap (λ (s : Story). s.item) traced.is ∙ after_item traced.trace (story_of (next_item old))
 
   pub CanRun-did : (tears : List (List ℕ)) (n : ℕ) (i : Item) (items : List Item) (old new : World) → CanRun n (i ∷ items) old → Did accepts tears i old new → CanRun n items new
   CanRun-did tears n (item.Event e) items old new p t = record {

@@ -1,6 +1,6 @@
 -- One plan after another.
-use Rattle.std.proofs.Common.{◌≡◌, ◌∙◌, ℕ, ◌+◌, ◌≤◌, refl, sym, ap, subst, Bool, List, [], ◌∷◌, ◌++◌, append_assoc, inl, inr, arith, Result, Ok, Err}
-use Rattle.pfr_flash.specs.FlashState.{FlashState, Rose}
+use Rattle.std.proofs.Common.{◌≡◌, ◌∙◌, ℕ, ◌+◌, refl, sym, ap, subst, Bool, List, [], ◌∷◌, ◌++◌, append_assoc, inl, inr, Result, Ok, Err}
+use Rattle.pfr_flash.specs.FlashState.{FlashState, raised_by}
 use Rattle.pfr_flash.specs.Moved.{Moved}
 use Rattle.pfr_flash.specs.declared.flash.FlashFail.{FlashFail}
 use Rattle.pfr_flash.specs.declared.flash.FlashFail.TheVariants.{Fault, Lost}
@@ -11,7 +11,7 @@ use Rattle.pfr_flash.proofs.MovedLemmas.{Moved-refl, Moved-trans}
 use Rattle.pfr_flash.proofs.StateLemmas.{Moved-power}
 use Rattle.pfr_report.specs.declared.note.What.{What}
 use Rattle.pfr_calm.specs.Story.{Story, Move, Says, Plan, after, moved_by, then, counts_of, IsCut}
-use Rattle.pfr_calm.specs.World.{World, story_of, state_at, AllMoved, NoneFailed, NoneLost, LostAt, Caused}
+use Rattle.pfr_calm.specs.World.{World, story_of, state_at, AllMoved, NoneFailed, NoneLost, LostAt, FaultedAt, Caused}
 use Rattle.pfr_calm.specs.Goes.{Ran, Stopped, Goes}
 use Rattle.pfr_calm.specs.declared.stop.Stop.{Stop}
 
@@ -49,16 +49,15 @@ NoneLost-at device.Nv a b p = p.nv
 pub NoneFailed-refl : (w : World) → NoneFailed w w
 NoneFailed-refl w = record { bmc = refl; pch = refl; nv = refl }
 
+pub NoneFailed-at : (which : Device) (a b : World) → NoneFailed a b → (state_at which b).faults ≡ (state_at which a).faults
+NoneFailed-at device.Bmc a b p = p.bmc
+NoneFailed-at device.Pch a b p = p.pch
+NoneFailed-at device.Nv a b p = p.nv
+
 pub NoneFailed-trans : (a b c : World) → NoneFailed a b → NoneFailed b c → NoneFailed a c
 NoneFailed-trans a b c p q = record { bmc = q.bmc ∙ p.bmc; pch = q.pch ∙ p.pch; nv = q.nv ∙ p.nv }
 
 -- ---- why a call failed
-pub Rose-later : (a b c : ℕ) → a ≤ b → Rose b c → Rose a c
-Rose-later a b c h k = omega (arith, h, k)
-
-pub Rose-on : (a b c : ℕ) → Rose a b → b ≤ c → Rose a c
-Rose-on a b c h k = omega (arith, h, k)
-
 pub LostAt-later : (which : Device) (a b c : World) → NoneLost a b → LostAt which b c → LostAt which a c
 LostAt-later which a b c p q = record {
   once = q.once ∙ ap (λ (n : ℕ). n + 1) (NoneLost-at which a b p);
@@ -71,10 +70,15 @@ LostAt-on which a b c p q = record {
   others = λ other no. NoneLost-at other b c q ∙ p.others other no;
 }
 
-pub Caused-later : (which : Device) (fail : FlashFail) (a b c : World) → AllMoved a b → NoneLost a b → Caused which fail b c → Caused which fail a c
-Caused-later which Fault a b c m n p =
-    (Rose-later (state_at which a).faults (state_at which b).faults (state_at which c).faults (Moved-at which a b m).faults p.0, NoneLost-trans a b c n p.1)
-Caused-later which Lost a b c m n p = LostAt-later which a b c n p
+FaultedAt-later : (which : Device) (a b c : World) → NoneFailed a b → FaultedAt which b c → FaultedAt which a c
+FaultedAt-later which a b c p q = record {
+  once = q.once ∙ ap (λ (n : ℕ). raised_by n 1) (NoneFailed-at which a b p);
+  others = λ other no. q.others other no ∙ NoneFailed-at other a b p;
+}
+
+Caused-later : (which : Device) (fail : FlashFail) (a b c : World) → NoneLost a b → NoneFailed a b → Caused which fail b c → Caused which fail a c
+Caused-later which Fault a b c n f p = (FaultedAt-later which a b c f p.0, NoneLost-trans a b c n p.1)
+Caused-later which Lost a b c n f p = (LostAt-later which a b c n p.0, NoneFailed-trans a b c f p.1)
 
 -- ---- a list of moves that was cut short
 -- in the first of two lists
@@ -203,7 +207,7 @@ Stopped-append first second which fail old mid new p q = record {
   trace = first ++ q.trace;
   cut = IsCut-second which first second (story_of old) q.trace (subst (λ (s : Story). IsCut which second s q.trace) p.is q.cut);
   is = q.is ∙ ap (λ (s : Story). after q.trace s) p.is ∙ sym (after-append first q.trace (story_of old));
-  cause = Caused-later which fail old mid new p.moved p.none_lost q.cause;
+  cause = Caused-later which fail old mid new p.none_lost p.none_failed q.cause;
   moved = AllMoved-trans old mid new p.moved q.moved;
 }
 

@@ -27,7 +27,7 @@ use Rattle.pfr_calm.proofs.Bytes.{HaveBytes}
 use Rattle.pfr_calm.proofs.NoteLaws.{past_upto}
 use Rattle.pfr_calm.specs.Spans.{opens_after, closes, ended, opens_from, ended_from, count_at, IsSpan, AllSpans, ReleasedSpans}
 use Rattle.pfr_calm.proofs.Traces.{Keeps}
-use Rattle.pfr_calm.proofs.Facts.{Setting, Fact, IsGood}
+use Rattle.pfr_calm.proofs.Facts.{Setting, Fact, IsGood, notes_operated}
 
 -- ---- spans of a run, in which no operation is done while a bank runs
 -- the store is provisioned, and of profile 2
@@ -275,14 +275,9 @@ noted_runs accepts first last held which (what.Released b svn counts) story open
     inr (record { fuses = k.fuses; provisioned = k.provisioned; two = t.2 k.fuses k.provisioned })
 noted_runs accepts first last held which _ story opens t p = p
 
-notes_same : (device : Device) (op : Operation) (story : Story) → (operated device op story).notes ≡ story.notes
-notes_same device.Bmc op story = refl
-notes_same device.Pch op story = refl
-notes_same device.Nv op story = refl
-
 pub Runs-moves : (accepts : Acceptance) (first last : World) (held : HaveBytes last) (which : Bank) → Keeps (IsGood (running accepts first last held)) (Runs which)
 unfolding running
 Runs-moves accepts first last held which (Says w) story g p =
     let note : Note = record { item = story.item; what = w (counts_of story) } in
     rw (opens_push accepts which [] story.notes note) (noted_runs accepts first last held which (w (counts_of story)) story (opens_from which [] story.notes) g p)
-Runs-moves accepts first last held which (Does device op) story g p = inl (ap (λ (notes : List Note). opens_from which [] notes) (notes_same device op story) ∙ g which)
+Runs-moves accepts first last held which (Does device op) story g p = inl (ap (λ (notes : List Note). opens_from which [] notes) (notes_operated device op story) ∙ g which)

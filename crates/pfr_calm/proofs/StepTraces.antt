@@ -1,7 +1,6 @@
 -- What is known of the notes and operations of a step.
 use Rattle.std.proofs.Common.{◌≡◌, ◌∙◌, refl, sym, ap, subst, Bool, true, false, List, [], ◌∷◌, ◌++◌, length, drop, append_assoc, None, inl, inr}
 use Rattle.std.proofs.lemmas.List.{append-nil}
-use Rattle.std.proofs.Math.Seq.{drop-append_seam}
 use Rattle.pfr_flash.specs.Operation.{Operation}
 use Rattle.pfr_flash.specs.declared.names.Bank.TheVariants as bank
 use Rattle.pfr_flash.specs.declared.names.Counts.{Counts}
@@ -25,33 +24,17 @@ use Rattle.pfr_calm.specs.Promises.{added}
 use Rattle.pfr_calm.proofs.Sequence.{AllMoved-trans}
 use Rattle.pfr_calm.proofs.Traces.{Keeps, Traced, Traced-then, Traced-ran, Traced-keeps, Precedes, Precedes-refl, Precedes-move}
 use Rattle.pfr_calm.proofs.Findings.{noted_append}
+use Rattle.pfr_calm.proofs.Saying.{Steps-traced, Follows-traced, added_is}
 use Rattle.pfr_calm.proofs.Facts.{Setting, Fact, IsGood}
-use Rattle.pfr_calm.proofs.StretchLaws.{Between, between_front, between_back, bank_crossed, bank_faulted, bank_lost, MayMigrate, fuses_crossed, fuses_faulted, fuses_lost, MayProvision, judged_in, provision_crossed, provision_faulted, provision_lost}
+use Rattle.pfr_calm.proofs.StretchLaws.{Between, between_front, between_back, bank_crossed, bank_faulted, bank_lost, unreadable_good, store_traced, MayMigrate, migrated_good, MayProvision, judged_in, provisioned_good}
 
 -- ---- what the devices did
-Faults-moved : (s : Stretch) (old new : World) → Faults s old new → AllMoved old new
-Faults-moved s old new p = AllMoved-trans old p.at new p.stopped.moved p.noted.moved
-
-Loses-moved : (s : Stretch) (old new : World) → LosesPower s old new → AllMoved old new
-Loses-moved s old new p = AllMoved-trans old p.at new p.stopped.moved p.noted.moved
-
-moved_on : (on : Bool) (steps : World → World → Type 0) (mid new : World) → (steps mid new → AllMoved mid new) → goes_on_if on steps mid new → AllMoved mid new
-moved_on true steps mid new f r = f r
-moved_on false steps mid new f r = r.moved
-
 pub Steps-moved : (ss : List Stretch) (old new : World) → Steps ss old new → AllMoved old new
-Steps-moved [] old new p = p.moved
-Steps-moved (s ∷ ss) old new (inl (mid, c, rest)) = AllMoved-trans old mid new c.moved (Steps-moved ss mid new rest)
-Steps-moved (s ∷ ss) old new (inr (inl (mid, f, rest))) =
-    AllMoved-trans old mid new (Faults-moved s old mid f) (moved_on s.goes_on (Steps ss) mid new (λ r. Steps-moved ss mid new r) rest)
-Steps-moved (s ∷ ss) old new (inr (inr l)) = Loses-moved s old new l
+Steps-moved ss old new p = let t = Steps-traced ss old new p in t.moved
 
 -- what a step does to the devices
-moved_along : (c : Course) (old new : World) → Follows c old new → AllMoved old new
-moved_along c old new (mid, first, rest) = AllMoved-trans old mid new first.moved (Steps-moved c.stretches mid new rest)
-
 pub Turn-moved : (accepts : Acceptance) (e : Event) (old new : World) → Turn accepts e old new → AllMoved (next_item old) new
-Turn-moved accepts e old new t = moved_along (course accepts e (story_of old)) (next_item old) new t
+Turn-moved accepts e old new t = let traced = Follows-traced (course accepts e (story_of old)) (next_item old) new t in traced.moved
 
 -- ---- a power-on
 module _ (s : Setting) where
@@ -84,19 +67,15 @@ module _ (s : Setting) where
   FitsThen old = (mid : World) → Crosses fuse_stretch old mid → s.Fits (image_at device.Nv (story_of mid))
 
   power_traced : (old new : World) → Between s old new → MayMigrate s (story_of old) → FitsThen old → Steps (power_stretches s.accepts) old new → Traced (IsGood s) old new
-  power_traced old new within may fits (inl (mid, c, rest)) =
-      Traced-then (IsGood s) old mid new (fuses_crossed s old mid may c)
-      (banks_traced mid new (between_back s old mid new c.moved within) (fits mid c) rest)
-  power_traced old new within may fits (inr (inl (mid, f, rest))) =
-      Traced-then (IsGood s) old mid new (fuses_faulted s old mid (between_front s old mid new rest.moved within) may f) (ended mid new rest)
-  power_traced old new within may fits (inr (inr l)) = fuses_lost s old new within may l
+  power_traced old new within may fits p =
+      store_traced s fuse_stretch (bank_stretches s.accepts) old new within refl (λ which e. e) (migrated_good s (story_of old) may) (λ which story rose. unreadable_good s story rose)
+      (λ mid c r. banks_traced mid new (between_back s old mid new c.moved within) (fits mid c) r) p
 
   provision_traced : (root : RootSlot) (old new : World) → Between s old new → MayProvision s old.notes.list (judged_in root (story_of old))
       → Steps (provision_stretch root ∷ []) old new → Traced (IsGood s) old new
-  provision_traced root old new within may (inl (mid, c, rest)) = Traced-then (IsGood s) old mid new (provision_crossed s root old mid may c) (ended mid new rest)
-  provision_traced root old new within may (inr (inl (mid, f, rest))) =
-      Traced-then (IsGood s) old mid new (provision_faulted s root old mid (between_front s old mid new rest.moved within) may f) (ended mid new rest)
-  provision_traced root old new within may (inr (inr l)) = provision_lost s root old new within may l
+  provision_traced root old new within may p =
+      store_traced s (provision_stretch root) [] old new within refl (λ which e. e) (provisioned_good s root (story_of old) (judged_in root (story_of old)) may)
+      (λ which story rose. ((refl, rose), ((refl, rose), tt))) (λ mid c r. ended mid new r) p
 
   -- ---- a whole step
   -- what has to be known of a step before: once what comes first was noted, work on the store may be done
@@ -174,5 +153,5 @@ pub Turn-known : (s : Setting) (e : Event) (old new : World) → Between s (next
 Turn-known s e old new within may t that n =
     let traced = Turn-traced s e old new within may t in
     let k = Traced-keeps (IsGood s) (Known s old.notes.list) (Known-moves s old.notes.list) (next_item old) new traced (Known-none s (story_of (next_item old))) in
-    let same : added old new ≡ k.more = ap (λ (notes : List Note). drop (length old.notes.list) notes) k.is ∙ drop-append_seam old.notes.list k.more in
+    let same : added old new ≡ k.more = added_is old new k.more k.is in
     k.all that (subst (λ (notes : List Note). IsNoted notes that) same n)

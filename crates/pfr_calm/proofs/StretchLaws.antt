@@ -1,6 +1,6 @@
 -- What is known of the notes and operations of each stretch.
-use Rattle.std.proofs.Common.{◌≡◌, ◌∙◌, refl, ap, ℕ, ◌+◌, ◌<◌, ◌≤◌, arith, true, false, List, [], ◌∷◌, length, Result, Ok, Err, ◌⊎◌, inl, inr}
-use Rattle.std.proofs.lemmas.Bool.{cases_Bool}
+use Rattle.std.proofs.Common.{◌≡◌, ◌∙◌, refl, sym, ap, ℕ, ◌+◌, ◌<◌, ◌≤◌, arith, true, false, List, [], ◌∷◌, length, Result, Ok, Err, ◌⊎◌, inl, inr}
+use Rattle.std.proofs.lemmas.Bool.{cases_Bool, false≢true}
 use Rattle.pfr_flash.specs.FlashState.{FlashState, Rose}
 use Rattle.pfr_flash.specs.Moved.{Moved, was_done}
 use Rattle.pfr_flash.specs.declared.flash.FlashFail.TheVariants.{Fault, Lost as Loses}
@@ -16,14 +16,15 @@ use Rattle.pfr_report.specs.declared.note.LockWhy.TheVariants as why
 use Rattle.pfr_report.specs.declared.note.Note.{Note}
 use Rattle.pfr_report.specs.declared.note.What.TheVariants as what
 use Rattle.pfr_calm.specs.Story.{Story, Says, noted, device_of, image_at, all_do}
-use Rattle.pfr_calm.specs.World.{World, story_of, state_at, AllMoved, LostAt}
+use Rattle.pfr_calm.specs.World.{World, story_of, state_at, AllMoved, LostAt, FaultedAt}
 use Rattle.pfr_calm.specs.Plans.{authentication_at, recovery_at, distrusted, brought_up, migration_in, migrated, provisioned_in, provisioned}
-use Rattle.pfr_calm.specs.Course.{Crosses, Faults, LosesPower, lost}
+use Rattle.pfr_calm.specs.Course.{Stretch, Crosses, Faults, LosesPower, Steps, lost}
 use Rattle.pfr_calm.specs.Turn.{fault_of, is_store, bank_or_store, StopsInCheck, bank_stretch, fuse_stretch, provision_stretch, unreadable}
 use Rattle.pfr_calm.proofs.Bytes.{HaveBytes, have_before, image_bytes}
-use Rattle.pfr_calm.proofs.Sequence.{Moved-at}
+use Rattle.pfr_calm.proofs.Sequence.{AllMoved-trans, Moved-at}
 use Rattle.pfr_calm.proofs.Traces.{AllGood, AllGood-append, AllGood-cut, Traced, Traced-then, Traced-ran, Traced-stopped, image_noted}
-use Rattle.pfr_calm.proofs.Findings.{found, recovery_found}
+use Rattle.pfr_calm.proofs.Findings.{Found, found, recovery_found}
+use Rattle.pfr_calm.proofs.Saying.{first_good}
 use Rattle.pfr_calm.proofs.Facts.{Setting, IsGood, good_torn, ops_good, conclusion_good, distrust_good, concluded_says, distrusted_says, says_nv, IsLater, IsLater-trans}
 
 -- ---- what calls do never lets faults or losses fall
@@ -55,9 +56,9 @@ between_back s a b c m p = record { before = IsLater-trans s.first a b p.before 
 held_between : (s : Setting) (old new : World) → Between s old new → AllMoved old new → HaveBytes old
 held_between s old new p m = have_before old new m (p.behind.bytes s.held)
 
-rose_between : (s : Setting) (which : Device) (old new : World) → Between s old new → Rose (state_at which old).faults (state_at which new).faults
+rose_between : (s : Setting) (which : Device) (old new : World) → Between s old new → FaultedAt which old new
     → Rose (state_at which s.first).faults (state_at which s.last).faults
-rose_between s which old new p r = omega (arith, p.before.faults which, r, p.behind.faults which)
+rose_between s which old new p f = omega (arith, p.before.faults which, f.once, p.behind.faults which)
 
 lost_between : (s : Setting) (which : Device) (old new : World) → Between s old new → LostAt which old new
     → (state_at which s.first).losses < (state_at which s.last).losses
@@ -81,8 +82,20 @@ store_rose s device.Bmc c r = absurd cc
 store_rose s device.Pch c r = absurd cc
 store_rose s device.Nv c r = r
 
-unreadable_good : (s : Setting) (story : Story) → Rose s.first.nv.faults s.last.nv.faults → AllGood (IsGood s) unreadable story
+pub unreadable_good : (s : Setting) (story : Story) → Rose s.first.nv.faults s.last.nv.faults → AllGood (IsGood s) unreadable story
 unreadable_good s story r = (refl, ((refl, r), (refl, ((refl, r), tt))))
+
+-- a stretch of the store, behind which nothing is done where a call of it failed
+pub store_traced : (s : Setting) (t : Stretch) (ss : List Stretch) (old new : World) → Between s old new → t.goes_on ≡ false → ((which : Device) → t.calls which ≡ true → is_store which ≡ true)
+    → AllGood (IsGood s) (t.plan (story_of old)) (story_of old) → ((which : Device) (story : Story) → Rose s.first.nv.faults s.last.nv.faults → AllGood (IsGood s) (t.on_fault which) story)
+    → ((mid : World) → Crosses t old mid → Steps ss mid new → Traced (IsGood s) mid new) → Steps (t ∷ ss) old new → Traced (IsGood s) old new
+store_traced s t ss old new within ends calls plan fault rest p =
+    first_good (IsGood s) (good_torn s) t ss old new plan
+    (λ mid f behind.
+        let front = between_front s old f.at new (AllMoved-trans f.at mid new f.noted.moved behind.moved) within in
+        fault f.which (story_of f.at) (store_rose s f.which (calls f.which f.called) (rose_between s f.which old f.at front f.stopped.cause.0)))
+    (λ l. lost_good s l.which (story_of l.at) (lost_between s l.which old l.at (between_front s old l.at new l.noted.moved within) l.stopped.cause.0))
+    (λ mid c r. elim c [ inl crossed ↦ rest mid crossed r | inr f ↦ absurd (false≢true (sym ends ∙ f.1)) ]) p
 
 -- ---- a bank is brought up
 module _ (s : Setting) (b : Bank) where
@@ -90,13 +103,17 @@ module _ (s : Setting) (b : Bank) where
     pub traced : Traced (IsGood s) old new
     pub store : (story_of new).nv ≡ (story_of old).nv
 
+  found_in : (old at : World) → Between s old at → AllMoved old at
+      → Found b (image_at (device_of b) (story_of old)) (image_at device.Nv (story_of old)) s.accepts (authentication_at s.accepts b (story_of old))
+  found_in old at within moved = found b _ _ s.accepts (image_bytes (device_of b) old (held_between s old at within moved))
+
   -- where a call failed, it was held, and its image may have been called untrusted
-  pub bank_stopped : (old at : World) → AllMoved old at → StopsInCheck s.accepts b (story_of old) (story_of at) → Brought old at
-  bank_stopped old at moved (inl is) = record {
+  pub bank_stopped : (old at : World) → Between s old at → AllMoved old at → StopsInCheck s.accepts b (story_of old) (story_of at) → Brought old at
+  bank_stopped old at within moved (inl is) = record {
     traced = record { trace = Says (what.Held b) ∷ []; is = is; good = (refl, tt); moved = moved };
     store = ap (λ (t : Story). t.nv) is;
   }
-  bank_stopped old at moved (inr is) =
+  bank_stopped old at within moved (inr is) =
       let story = story_of old in
       let a = authentication_at s.accepts b story in
       record {
@@ -105,7 +122,7 @@ module _ (s : Setting) (b : Bank) where
           is = is;
           good = (
             refl,
-            distrust_good s b (image_at (device_of b) story) (image_at device.Nv story) a (noted (what.Held b) story) refl
+            distrust_good s b (image_at (device_of b) story) (image_at device.Nv story) a (noted (what.Held b) story) (found_in old at within moved)
                 (image_noted (device_of b) (what.Held b) story) refl,
           );
           moved = moved;
@@ -119,8 +136,8 @@ module _ (s : Setting) (b : Bank) where
       let a = authentication_at s.accepts b story in
       let recovery = recovery_at s.accepts b story in
       let bytes = image_bytes (device_of b) old (held_between s old new within p.moved) in
-      let f = found b (image_at (device_of b) story) (image_at device.Nv story) s.accepts bytes in
-      let r = recovery_found b (image_at (device_of b) story) (image_at device.Nv story) s.accepts a recovery bytes f refl in
+      let f = found_in old new within p.moved in
+      let r = recovery_found b (image_at (device_of b) story) (image_at device.Nv story) s.accepts a bytes f in
       record {
         traced = Traced-ran (IsGood s) (brought_up s.accepts b story) old new p (
           refl,
@@ -132,8 +149,9 @@ module _ (s : Setting) (b : Bank) where
 
   pub bank_faulted : (old new : World) → Between s old new → Faults (bank_stretch s.accepts b) old new → Brought old new
   bank_faulted old new within p =
-      let first = bank_stopped old p.at p.stopped.moved p.early in
-      let rose = rose_between s p.which old p.at (between_front s old p.at new p.noted.moved within) p.stopped.cause.0 in
+      let front = between_front s old p.at new p.noted.moved within in
+      let first = bank_stopped old p.at front p.stopped.moved p.early in
+      let rose = rose_between s p.which old p.at front p.stopped.cause.0 in
       record {
         traced = Traced-then (IsGood s) old p.at new first.traced
             (Traced-ran (IsGood s) (Says (what.Locked b (fault_of p.which)) ∷ []) p.at new p.noted (lock_good s b p.which (story_of p.at) p.called rose));
@@ -142,8 +160,9 @@ module _ (s : Setting) (b : Bank) where
 
   pub bank_lost : (old new : World) → Between s old new → LosesPower (bank_stretch s.accepts b) old new → Traced (IsGood s) old new
   bank_lost old new within p =
-      let first = bank_stopped old p.at p.stopped.moved p.early in
-      let fell = lost_between s p.which old p.at (between_front s old p.at new p.noted.moved within) p.stopped.cause in
+      let front = between_front s old p.at new p.noted.moved within in
+      let first = bank_stopped old p.at front p.stopped.moved p.early in
+      let fell = lost_between s p.which old p.at front p.stopped.cause.0 in
       Traced-then (IsGood s) old p.at new first.traced (Traced-ran (IsGood s) (lost p.which) p.at new p.noted (lost_good s p.which (story_of p.at) fell))
 
 -- ---- the fuses are migrated
@@ -152,26 +171,9 @@ abbrev pub MayMigrate : Setting → Story → Type 0
 MayMigrate s story = (migration_in (fuses_of (image_at device.Nv story)) ≡ []) ⊎ s.Works story.notes
 
 module _ (s : Setting) where
-  migrated_good : (story : Story) → MayMigrate s story → AllGood (IsGood s) (migrated story) story
+  pub migrated_good : (story : Story) → MayMigrate s story → AllGood (IsGood s) (migrated story) story
   migrated_good story (inl e) = rw e tt
   migrated_good story (inr w) = ops_good s device.Nv (migration_in (fuses_of (image_at device.Nv story))) story w
-
-  pub fuses_crossed : (old new : World) → MayMigrate s (story_of old) → Crosses fuse_stretch old new → Traced (IsGood s) old new
-  fuses_crossed old new may p = Traced-ran (IsGood s) (migrated (story_of old)) old new p (migrated_good (story_of old) may)
-
-  pub fuses_faulted : (old new : World) → Between s old new → MayMigrate s (story_of old) → Faults fuse_stretch old new → Traced (IsGood s) old new
-  fuses_faulted old new within may p =
-      let good = AllGood-cut (IsGood s) p.which (migrated (story_of old)) p.stopped.trace (story_of old) (good_torn s) (migrated_good (story_of old) may) p.stopped.cut in
-      let first = Traced-stopped (IsGood s) (migrated (story_of old)) p.which Fault old p.at p.stopped good in
-      let rose = rose_between s p.which old p.at (between_front s old p.at new p.noted.moved within) p.stopped.cause.0 in
-      Traced-then (IsGood s) old p.at new first (Traced-ran (IsGood s) unreadable p.at new p.noted (unreadable_good s (story_of p.at) (store_rose s p.which p.called rose)))
-
-  pub fuses_lost : (old new : World) → Between s old new → MayMigrate s (story_of old) → LosesPower fuse_stretch old new → Traced (IsGood s) old new
-  fuses_lost old new within may p =
-      let good = AllGood-cut (IsGood s) p.which (migrated (story_of old)) p.stopped.trace (story_of old) (good_torn s) (migrated_good (story_of old) may) p.stopped.cut in
-      let first = Traced-stopped (IsGood s) (migrated (story_of old)) p.which Loses old p.at p.stopped good in
-      let fell = lost_between s p.which old p.at (between_front s old p.at new p.noted.moved within) p.stopped.cause in
-      Traced-then (IsGood s) old p.at new first (Traced-ran (IsGood s) (lost p.which) p.at new p.noted (lost_good s p.which (story_of p.at) fell))
 
 -- ---- the platform is provisioned
 -- it is refused, or it may be done
@@ -183,29 +185,8 @@ abbrev pub judged_in : RootSlot → Story → Result ℕ FuseFail
 judged_in root story = judge_provision (image_at device.Nv story) root (length story.bmc.start) (length story.pch.start)
 
 module _ (s : Setting) (root : RootSlot) where
-  provisioned_good : (story : Story) (r : Result ℕ FuseFail) → MayProvision s story.notes r → AllGood (IsGood s) (provisioned_in root r) story
+  pub provisioned_good : (story : Story) (r : Result ℕ FuseFail) → MayProvision s story.notes r → AllGood (IsGood s) (provisioned_in root r) story
   provisioned_good story (Ok number) (works w) =
       AllGood-append (IsGood s) (all_do device.Nv (provision_plan number root)) (Says (λ _. what.Provisioned) ∷ []) story
       (ops_good s device.Nv (provision_plan number root) story w) (tt, tt)
   provisioned_good story (Err cause) refused = (tt, tt)
-
-  pub provision_crossed : (old new : World) → MayProvision s old.notes.list (judged_in root (story_of old)) → Crosses (provision_stretch root) old new → Traced (IsGood s) old new
-  provision_crossed old new may p = Traced-ran (IsGood s) (provisioned root (story_of old)) old new p (provisioned_good (story_of old) (judged_in root (story_of old)) may)
-
-  pub provision_faulted : (old new : World) → Between s old new → MayProvision s old.notes.list (judged_in root (story_of old)) → Faults (provision_stretch root) old new → Traced (IsGood s) old new
-  provision_faulted old new within may p =
-      let whole = provisioned_good (story_of old) (judged_in root (story_of old)) may in
-      let good = AllGood-cut (IsGood s) p.which (provisioned root (story_of old)) p.stopped.trace (story_of old) (good_torn s) whole p.stopped.cut in
-      let first = Traced-stopped (IsGood s) (provisioned root (story_of old)) p.which Fault old p.at p.stopped good in
-      let rose = rose_between s p.which old p.at (between_front s old p.at new p.noted.moved within) p.stopped.cause.0 in
-      let nv = store_rose s p.which p.called rose in
-      Traced-then (IsGood s) old p.at new first
-      (Traced-ran (IsGood s) (Says (what.Locked bank.Bmc why.StoreFault) ∷ Says (what.Locked bank.Pch why.StoreFault) ∷ []) p.at new p.noted ((refl, nv), ((refl, nv), tt)))
-
-  pub provision_lost : (old new : World) → Between s old new → MayProvision s old.notes.list (judged_in root (story_of old)) → LosesPower (provision_stretch root) old new → Traced (IsGood s) old new
-  provision_lost old new within may p =
-      let whole = provisioned_good (story_of old) (judged_in root (story_of old)) may in
-      let good = AllGood-cut (IsGood s) p.which (provisioned root (story_of old)) p.stopped.trace (story_of old) (good_torn s) whole p.stopped.cut in
-      let first = Traced-stopped (IsGood s) (provisioned root (story_of old)) p.which Loses old p.at p.stopped good in
-      let fell = lost_between s p.which old p.at (between_front s old p.at new p.noted.moved within) p.stopped.cause in
-      Traced-then (IsGood s) old p.at new first (Traced-ran (IsGood s) (lost p.which) p.at new p.noted (lost_good s p.which (story_of p.at) fell))

@@ -11,7 +11,6 @@ use Rattle.pfr_fuses.specs.declared.fuse_fail.FuseFail.{FuseFail}
 use Rattle.pfr_fuses.specs.declared.fuse_fail.FuseFail.TheVariants as fuse
 use Rattle.pfr_manifest.specs.declared.manifest.Manifest.{Manifest}
 use Rattle.pfr_capsule.specs.CapsuleState.{CapsuleState}
-use Rattle.pfr_capsule.specs.Good.{IsGood}
 use Rattle.pfr_capsule.specs.declared.fail.CapsuleFail.{CapsuleFail}
 use Rattle.pfr_auth.specs.Judge.{judge_active}
 use Rattle.pfr_auth.specs.Areas.{judge_area}
@@ -41,13 +40,7 @@ authentication_with bank image accepts (Err cause) = Unprovisioned
 unfoldable pub authentication_of : Bank → List ℕ → List ℕ → Acceptance → Authentication
 authentication_of bank image nv accepts = authentication_with bank image accepts (fuses_of nv)
 
--- ---- the image that a bank would be restored from
-
--- a good capsule stands in the bank's recovery area
-pub record HasGoodRecovery (bank : Bank) (image nv : List ℕ) (accepts : Acceptance) : Type 0 where
-  pub fuses : FusesState
-  pub provisioned : fuses_of nv ≡ Ok fuses
-  pub good : IsGood image (layout_of fuses.provision bank).recovery_at (layout_of fuses.provision bank).area_len nv bank accepts
+-- ---- what is against the image that a bank would be restored from
 
 -- this is the first cause against what stands there
 pub record HasBadRecovery (cause : CapsuleFail) (bank : Bank) (image nv : List ℕ) (accepts : Acceptance) : Type 0 where

@@ -10,7 +10,7 @@ use Rattle.pfr_flash.specs.declared.names.Device.{Device}
 use Rattle.pfr_engine.specs.Acceptance.{Acceptance}
 use Rattle.pfr_fuses.specs.FusesState.{FusesState}
 use Rattle.pfr_fuses.specs.FusesOf.{fuses_of}
-use Rattle.pfr_fuses.specs.RootSlot.{layout_of, provision_in}
+use Rattle.pfr_fuses.specs.RootSlot.{IsSlot, layout_of, provision_in}
 use Rattle.pfr_fuses.specs.Slots.{IsUnset, HasBlank, IsProvisionedBy, slot_at}
 use Rattle.pfr_fuses.specs.Provisioning.{judge_provision}
 use Rattle.pfr_fuses.specs.declared.fuse_fail.FuseFail.{FuseFail}
@@ -18,6 +18,7 @@ use Rattle.pfr_fuses.specs.declared.root_slot.RootSlot.{RootSlot}
 use Rattle.pfr_auth.specs.Judge.{judge_active}
 use Rattle.pfr_auth.specs.Trusted.{IsTrusted}
 use Rattle.pfr_auth.specs.declared.fail.ActiveFail.{ActiveFail}
+use Rattle.pfr_recoverable.specs.Recoverable.{HasGoodRecovery}
 use Rattle.pfr_script.specs.declared.event.Event.{Event}
 use Rattle.pfr_script.specs.declared.event.Event.TheVariants as event
 use Rattle.pfr_report.specs.Texts.{IsNoted}
@@ -29,7 +30,7 @@ use Rattle.pfr_report.specs.declared.note.What.{What}
 use Rattle.pfr_report.specs.declared.note.What.TheVariants.{Held, Released, Locked, Lost, Untrusted, Provisioned, ProvisionRefused, Ignored}
 use Rattle.pfr_calm.specs.Story.{counts_of, device_of}
 use Rattle.pfr_calm.specs.World.{NoneFailed, World, story_of, state_at, IsDark, IsOn, SameDevices}
-use Rattle.pfr_calm.specs.Authentication.{HasGoodRecovery, HasBadRecovery}
+use Rattle.pfr_calm.specs.Authentication.{HasBadRecovery}
 use Rattle.pfr_calm.specs.Standing.{standing_of, is_off, Off}
 use Rattle.pfr_calm.specs.Plans.{refusal_of}
 use Rattle.pfr_calm.specs.Spans.{count_at}
@@ -126,6 +127,11 @@ HasPower w = ¬ AreOff w → IsOn w
 abbrev pub IsProvision : Event → Type 0
 IsProvision (event.Provision what) = Unit {0}
 IsProvision e = ⊥
+
+-- what a script provisions is a slot
+abbrev pub IsKnownSlot : Event → Type 0
+IsKnownSlot (event.Provision what) = IsSlot what
+IsKnownSlot e = Unit {0}
 
 -- An event is noted to be ignored only where the banks are off, and isn't a power-on; what a provision comes to is noted only at
 -- a provision of banks that aren't off.

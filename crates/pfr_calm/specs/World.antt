@@ -1,6 +1,6 @@
 -- The platform's devices as they are, and its notes.
 use Rattle.std.specs.Prelude.{◌≡◌, ◌≢◌, ℕ, ◌+◌, true, false}
-use Rattle.pfr_flash.specs.FlashState.{FlashState, Rose}
+use Rattle.pfr_flash.specs.FlashState.{FlashState, raised_by}
 use Rattle.pfr_flash.specs.Holding.{HoldsBytes}
 use Rattle.pfr_flash.specs.Moved.{Moved}
 use Rattle.pfr_flash.specs.declared.flash.FlashFail.{FlashFail}
@@ -76,7 +76,12 @@ pub record LostAt (which : Device) (old new : World) : Type 0 where
   pub once : (state_at which new).losses ≡ (state_at which old).losses + 1
   pub others : (other : Device) → other ≢ which → (state_at other new).losses ≡ (state_at other old).losses
 
--- why a call of this device failed
+-- a call of this device answered a fault once, and no call of another did
+pub record FaultedAt (which : Device) (old new : World) : Type 0 where
+  pub once : (state_at which new).faults ≡ raised_by (state_at which old).faults 1
+  pub others : (other : Device) → other ≢ which → (state_at other new).faults ≡ (state_at other old).faults
+
+-- why a call of this device failed: of faults and losses of power this is the only one
 abbrev pub Caused : Device → FlashFail → World → World → Type 0
-Caused which Fault old new = Rose (state_at which old).faults (state_at which new).faults × NoneLost old new
-Caused which Lost old new = LostAt which old new
+Caused which Fault old new = FaultedAt which old new × NoneLost old new
+Caused which Lost old new = LostAt which old new × NoneFailed old new

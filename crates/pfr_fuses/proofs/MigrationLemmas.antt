@@ -398,8 +398,8 @@ migrating fuses rows = (
   ),
 )
 
-behind_slots : (fuses : FusesState) → AreRows fuses → AllWithin 2048 30720 (migration fuses)
-behind_slots fuses rows = (
+pub migration_within : (fuses : FusesState) → AreRows fuses → AllWithin 2048 30720 (migration fuses)
+migration_within fuses rows = (
   record { low = omega arith; high = omega arith },
   (
     record { low = omega arith; high = omega (arith, length-migrated fuses rows) },
@@ -429,7 +429,7 @@ module _ (old new : FlashState) (fuses after : FusesState) (result : Result (Uni
   migrate-grows = record { grows = λ m n low order high. Grows-holds (now old) fuses (upto new m) (upto new n) (at_count m low) (at_count n (omega arith)) }
 
   pub migrate-provision : KeepsProvision old new
-  migrate-provision = KeepsProvision-plan 2048 30720 (migration fuses) old new size follows.worked.moved.start follows.part (omega arith) (behind_slots fuses rows)
+  migrate-provision = KeepsProvision-plan 2048 30720 (migration fuses) old new size follows.worked.moved.start follows.part (omega arith) (migration_within fuses rows)
 
   pub migrate-loses : OnlyLoses 0 4096 old new
   migrate-loses = OnlyLoses-plan 32768 0 4096 (omega arith) (migration fuses) old new size follows.worked.moved.start follows.part

@@ -17,7 +17,7 @@ use Rattle.pfr_capsule.specs.Good.{IsGood, StandForBank}
 use Rattle.pfr_capsule.specs.declared.fail.CapsuleFail.{CapsuleFail}
 use Rattle.pfr_auth.specs.Areas.{place_of}
 use Rattle.pfr_auth.specs.declared.areas.Area.TheVariants.{Recovery}
-use Rattle.pfr_calm.specs.Authentication.{HasGoodRecovery, recovery_with, recovery_of}
+use Rattle.pfr_calm.specs.Authentication.{recovery_with, recovery_of}
 use Rattle.pfr_calm.specs.Plans.{recovery_at}
 use Rattle.pfr_calm.specs.Story.{device_of, image_at}
 use Rattle.pfr_calm.specs.World.{World, story_of, state_at}
