@@ -4,7 +4,7 @@ use Rattle.pfr_flash.specs.declared.flash.FlashFail.TheVariants.{Fault, Lost}
 use Rattle.pfr_flash.specs.declared.names.Device.{Device}
 use Rattle.pfr_calm.specs.World.{World, story_of}
 use Rattle.pfr_calm.specs.Goes.{Ran, Stopped}
-use Rattle.pfr_calm.specs.Course.{Stretch, Crosses, Faults, LosesPower, CrossesOrFaults, Ends, goes_on_if, Steps, Halts, lost}
+use Rattle.pfr_calm.specs.Course.{Stretch, Crosses, Faults, CrossesOrFaults, Ends, goes_on_if, Steps, Halts, lost}
 use Rattle.pfr_calm.proofs.Sequence.{Ran-refl}
 
 -- nothing is left
@@ -32,10 +32,6 @@ Steps-crossed s ss old mid new c q = inl (mid, c, q)
 -- the step ended with a fault on the first stretch
 pub Steps-ended : (s : Stretch) (ss : List Stretch) (old new : World) → s.goes_on ≡ false → Faults s old new → Steps (s ∷ ss) old new
 Steps-ended s ss old new g f = inr (inl (new, f, goes_on_false s.goes_on (Steps ss) new new g (Ran-refl new)))
-
--- the power was lost on the first stretch
-pub Steps-lost : (s : Stretch) (ss : List Stretch) (old new : World) → LosesPower s old new → Steps (s ∷ ss) old new
-Steps-lost s ss old new p = inr (inr p)
 
 -- ---- stretches from where their work stopped
 pub Faults-stopped : (s : Stretch) (which : Device) (old mid new : World) → s.calls which ≡ true

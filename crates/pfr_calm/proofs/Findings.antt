@@ -1,7 +1,7 @@
 -- What a bank is found to be has its reason, and the reasons exclude one another.
 use Rattle.std.proofs.Common.{◌≡◌, ◌∙◌, ap, sym, subst, refl, ℕ, List, [], ◌∷◌, ◌++◌, length, Option, Some, None, Result, Ok, Err, inl, inr, ◌⊎◌}
 use Rattle.pfr_flash.specs.Bytes.{AreBytes}
-use Rattle.pfr_flash.specs.Layout.{IsValidLayout, judge_layout}
+use Rattle.pfr_flash.specs.Layout.{judge_layout}
 use Rattle.pfr_flash.proofs.LayoutLemmas.{judged_valid, valid_judged}
 use Rattle.pfr_flash.specs.declared.names.Bank.{Bank}
 use Rattle.pfr_flash.specs.declared.layout.Layout.{Layout}
@@ -32,7 +32,7 @@ use Rattle.pfr_report.specs.declared.note.LockWhy.{LockWhy}
 use Rattle.pfr_report.specs.declared.note.LockWhy.TheVariants as why
 use Rattle.pfr_report.specs.declared.note.What.{What}
 use Rattle.pfr_report.specs.declared.note.Note.{Note}
-use Rattle.pfr_calm.specs.Authentication.{authentication_of, authentication_with, by_active, by_layout, HasBadRecovery, refusal_in, recovery_with, recovery_of}
+use Rattle.pfr_calm.specs.Authentication.{authentication_of, authentication_with, by_active, by_layout, HasBadRecovery, refusal_in, recovery_of}
 use Rattle.pfr_calm.specs.Plans.{lock_of}
 use Rattle.pfr_calm.specs.Promises.{IsDue, IsMisplaced, IsNotTrusted, IsAgainst}
 use Rattle.pfr_calm.specs.declared.authentication.Authentication.{Authentication}

@@ -259,11 +259,6 @@ Goes-reads {A} which old new (Err f) only on ends =
     Goes-follows {A = A} which [] old new (Err f) only on (still_reading f (state_at which old) (state_at which new) on reads)
     (Follows-reads {A = A} (state_at which old) (state_at which new) (Err f) ends)
 
--- and which is on yet
-pub on_after_follows : (A : Type 0) (which : Device) (plan : List Operation) (old new : World) (x : A)
-    → (state_at which old).powered ≡ true → Follows {A = A} plan (state_at which old) (state_at which new) (Ok x) → (state_at which new).powered ≡ true
-on_after_follows A which plan old new x on f = f.on ∙ on
-
 -- a call by a plan leaves the power on, unless it answers that it is lost
 pub StillOn-follows : {A : Type 0} (plan : List Operation) (old new : FlashState) (r : Result A FlashFail) → old.powered ≡ true → Follows plan old new r → StillOnAt r new
 StillOn-follows plan old new (Ok x) on f = tt

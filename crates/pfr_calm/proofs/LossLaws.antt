@@ -1,18 +1,13 @@
 -- Each step keeps its promises about losses of power, and about banks that are off.
-use Rattle.std.proofs.Common.{◌≡◌, ◌∙◌, refl, sym, ap, subst, ℕ, ◌+◌, ◌<◌, arith, Bool, true, false, List, [], ◌∷◌, ◌++◌, length, drop, append_assoc, Option, Some, None, Result, Ok, Err, ◌⊎◌, inl, inr}
-use Rattle.std.proofs.lemmas.List.{append-nil}
+use Rattle.std.proofs.Common.{◌≡◌, ◌∙◌, refl, sym, ap, subst, ℕ, ◌+◌, ◌<◌, arith, Bool, true, false, List, [], ◌∷◌, ◌++◌, append_assoc, Option, Some, None, Result, Ok, Err, inl, inr}
 use Rattle.std.proofs.lemmas.Bool.{false≢true}
-use Rattle.pfr_flash.specs.Operation.{Operation}
 use Rattle.pfr_flash.specs.declared.flash.FlashFail.TheVariants.{Fault, Lost as Loses}
 use Rattle.pfr_flash.specs.declared.flash.FlashFail.{FlashFail}
 use Rattle.pfr_flash.specs.declared.names.Bank.{Bank}
 use Rattle.pfr_flash.specs.declared.names.Bank.TheVariants as bank
 use Rattle.pfr_flash.specs.declared.names.Counts.{Counts}
 use Rattle.pfr_flash.specs.declared.names.Device.{Device}
-use Rattle.pfr_flash.specs.declared.names.Device.TheVariants as device
 use Rattle.pfr_engine.specs.Acceptance.{Acceptance}
-use Rattle.pfr_capsule.specs.declared.fail.CapsuleFail.{CapsuleFail}
-use Rattle.pfr_fuses.specs.Provisioning.{provision_plan}
 use Rattle.pfr_fuses.specs.declared.fuse_fail.FuseFail.{FuseFail}
 use Rattle.pfr_fuses.specs.declared.root_slot.RootSlot.{RootSlot}
 use Rattle.pfr_script.specs.declared.event.Event.{Event}
@@ -21,16 +16,13 @@ use Rattle.pfr_report.specs.Texts.{IsNoted}
 use Rattle.pfr_report.specs.declared.note.Note.{Note}
 use Rattle.pfr_report.specs.declared.note.What.{What}
 use Rattle.pfr_report.specs.declared.note.What.TheVariants as what
-use Rattle.pfr_calm.specs.Story.{Story, Move, Says, Does, after, noted, operated, counts_of, all_do, IsCut}
+use Rattle.pfr_calm.specs.Story.{Story, Move, Says, noted, counts_of}
 use Rattle.pfr_calm.specs.World.{World, story_of, state_at, NoneLost, LostAt}
 use Rattle.pfr_calm.specs.Goes.{Ran, Stopped}
-use Rattle.pfr_calm.specs.Plans.{concluded, authentication_at, recovery_at, migration_in, provisioned_in}
 use Rattle.pfr_calm.specs.Course.{Stretch, LosesPower, goes_on_if, Steps, lost}
 use Rattle.pfr_calm.specs.Standing.{standing_of, standing_from, standing_after, is_off, Standing, Off}
-use Rattle.pfr_calm.specs.Turn.{bank_stretch, fuse_stretch, provision_stretch, power_stretches, off_course, ignored, provision_course, where_off, Follows, next_item, Turn}
+use Rattle.pfr_calm.specs.Turn.{provision_stretch, power_stretches, off_course, ignored, provision_course, where_off, Follows, next_item, Turn}
 use Rattle.pfr_calm.specs.Promises.{added, counts_in, LossesAreNoted, IsLast, LostEnds, IsSwitchedOff, NotesOff, IsIgnored, StaysQuiet}
-use Rattle.pfr_calm.specs.declared.authentication.Authentication.{Authentication}
-use Rattle.pfr_calm.specs.declared.authentication.Authentication.TheVariants.{Unprovisioned, SlotsSpent, BadLayout, Untrusted, Trusted}
 use Rattle.pfr_calm.proofs.Sequence.{NoneLost-trans, NoneLost-at, LostAt-later, LostAt-on}
 use Rattle.pfr_calm.proofs.Traces.{AllGood, Traced, Traced-then, Traced-ran}
 use Rattle.pfr_calm.proofs.Findings.{noted_append, noted_right, AllNotes, noted_all}

@@ -1,12 +1,11 @@
 -- Each step keeps its promises about releases, locks and faults.
-use Rattle.std.proofs.Common.{◌≡◌, ◌∙◌, refl, ap, ℕ, ◌≤◌, arith, List, length, take, Result, Ok, Err, inr}
+use Rattle.std.proofs.Common.{◌≡◌, ◌∙◌, refl, ap, ℕ, arith, List, length, take, Result, Ok, Err, inr}
 use Rattle.std.proofs.lemmas.List.{take-append-le, take_all}
 use Rattle.pfr_flash.specs.Operation.{play_first, Operation, play}
 use Rattle.pfr_flash.specs.FlashState.{upto as state_upto}
 use Rattle.pfr_flash.specs.declared.names.Bank.{Bank}
 use Rattle.pfr_flash.specs.declared.names.Bank.TheVariants as bank
 use Rattle.pfr_flash.specs.declared.names.Counts.{Counts}
-use Rattle.pfr_flash.specs.declared.names.Device.{Device}
 use Rattle.pfr_flash.specs.declared.names.Device.TheVariants as device
 use Rattle.pfr_engine.specs.Acceptance.{Acceptance}
 use Rattle.pfr_fuses.specs.declared.fuse_fail.FuseFail.{FuseFail}

@@ -1,7 +1,6 @@
 -- Each step keeps its promises about provisions.
-use Rattle.std.proofs.Common.{◌≡◌, ◌∙◌, refl, sym, ap, subst, ℕ, ◌+◌, ◌*◌, arith, Bool, true, false, List, [], ◌∷◌, ◌++◌, length, drop, append_assoc, None, Result, Ok, Err, ◌⊎◌, inl, inr}
+use Rattle.std.proofs.Common.{◌≡◌, ◌∙◌, refl, sym, ap, subst, ℕ, ◌+◌, ◌*◌, arith, Bool, true, false, List, [], ◌∷◌, ◌++◌, length, None, Result, Ok, Err, ◌⊎◌, inl, inr}
 use Rattle.std.proofs.lemmas.Bool.{cases_lt, cases_Bool}
-use Rattle.std.proofs.lemmas.List.{append-nil}
 use Rattle.pfr_flash.specs.Operation.{Operation, Program, play}
 use Rattle.pfr_flash.specs.FlashState.{FlashState, now, size_of, with_op}
 use Rattle.pfr_flash.specs.Moved.{Worked}
@@ -32,7 +31,7 @@ use Rattle.pfr_report.specs.declared.note.Note.{Note}
 use Rattle.pfr_report.specs.declared.note.ProvisionWhy.{ProvisionWhy}
 use Rattle.pfr_report.specs.declared.note.What.{What}
 use Rattle.pfr_report.specs.declared.note.What.TheVariants as what
-use Rattle.pfr_calm.specs.Story.{Past, Story, Move, Says, Does, after, moved_by, noted, operated, counts_of, all_do, IsCut, IsTornMove}
+use Rattle.pfr_calm.specs.Story.{Past, Story, Move, Says, Does, after, moved_by, noted, operated, counts_of, all_do, IsTornMove}
 use Rattle.pfr_calm.specs.World.{World, story_of}
 use Rattle.pfr_calm.specs.Goes.{Ran, Stopped}
 use Rattle.pfr_calm.specs.Plans.{provisioned_in, refusal_of}

@@ -1,5 +1,5 @@
 -- Laws of whole runs.
-use Rattle.std.proofs.Common.{◌≡◌, ◌∙◌, ℕ, ◌+◌, ◌≤◌, ◌<◌, drop, take, length, refl, sym, ap, subst, arith, ◌&&◌, Bool, true, false, cond, List, [], ◌∷◌, ◌++◌, Some, Result, Ok, Err, ◌⊎◌, inl, inr}
+use Rattle.std.proofs.Common.{◌≡◌, ◌∙◌, ℕ, ◌+◌, ◌≤◌, ◌<◌, drop, take, length, refl, sym, ap, subst, arith, ◌&&◌, true, cond, List, [], ◌∷◌, ◌++◌, Some, Result, Ok, Err, ◌⊎◌, inl, inr}
 use Rattle.std.specs.Prelude.{slice_index_or}
 use Rattle.std.proofs.lemmas.List.{take_more, drop_more}
 use Rattle.std.proofs.lemmas.List.Elements.{All-drop}
@@ -38,13 +38,11 @@ use Rattle.pfr_report.specs.declared.note.What.{What}
 use Rattle.pfr_report.specs.declared.note.What.TheVariants as what
 use Rattle.pfr_calm.specs.Story.{Story, Move, Says, Does, after, noted, operated, device_of, image_at, all_do}
 use Rattle.pfr_calm.specs.World.{World, NoneFailed, NoneLost, story_of, state_at, AllMoved}
-use Rattle.pfr_flash.specs.declared.flash.FlashFail.{FlashFail}
-use Rattle.pfr_flash.specs.declared.flash.FlashFail.TheVariants.{Fault, Lost as Loses}
-use Rattle.pfr_calm.specs.Goes.{Ran, Stopped}
+use Rattle.pfr_calm.specs.Goes.{Ran}
 use Rattle.pfr_calm.specs.Plans.{migration_in, migration_by}
-use Rattle.pfr_calm.specs.Course.{Stretch, Crosses, Steps, goes_on_if, lost}
+use Rattle.pfr_calm.specs.Course.{Crosses}
 use Rattle.pfr_calm.specs.Spans.{count_at, ReleasedSpans, opens_from}
-use Rattle.pfr_calm.specs.Turn.{Course, Turn, course, next_item, fuse_stretch}
+use Rattle.pfr_calm.specs.Turn.{Turn, course, next_item, fuse_stretch}
 use Rattle.pfr_calm.specs.Run.{takes_arm, with_arm, with_arm_at, armed, Did, Reached, CanRun}
 use Rattle.pfr_calm.specs.Promises.{added, IsDue, IsFaultLock, IsTrustedWith, ReleasesTrusted, LocksHaveCauses, FaultsHaveCauses}
 use Rattle.pfr_calm.proofs.Sequence.{NoneLost-at, NoneFailed-at}

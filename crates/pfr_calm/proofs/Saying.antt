@@ -1,5 +1,5 @@
 -- What stretches do, and what is so of all that they note.
-use Rattle.std.proofs.Common.{◌≡◌, ◌∙◌, refl, sym, ap, ℕ, ◌+◌, Bool, true, false, List, [], ◌∷◌, ◌++◌, length, drop, append_assoc, Option, Some, None, Result, Ok, Err, ◌⊎◌, inl, inr}
+use Rattle.std.proofs.Common.{◌≡◌, ◌∙◌, refl, sym, ap, ℕ, Bool, true, false, List, [], ◌∷◌, ◌++◌, length, drop, append_assoc, Option, Result, Ok, Err, ◌⊎◌, inl, inr}
 use Rattle.std.proofs.lemmas.List.{append-nil}
 use Rattle.std.proofs.Math.Seq.{drop-append_seam}
 use Rattle.pfr_flash.specs.Operation.{Operation}
@@ -20,16 +20,15 @@ use Rattle.pfr_report.specs.declared.note.LockWhy.{LockWhy}
 use Rattle.pfr_report.specs.declared.note.Note.{Note}
 use Rattle.pfr_report.specs.declared.note.What.{What}
 use Rattle.pfr_report.specs.declared.note.What.TheVariants as what
-use Rattle.pfr_calm.specs.Story.{Story, Move, Says, Does, after, moved_by, noted, operated, counts_of, all_do}
+use Rattle.pfr_calm.specs.Story.{Story, Move, Says, Does, moved_by, noted, operated, counts_of, all_do}
 use Rattle.pfr_calm.specs.World.{World, story_of}
-use Rattle.pfr_calm.specs.Goes.{Ran, Stopped}
+use Rattle.pfr_calm.specs.Goes.{Stopped}
 use Rattle.pfr_calm.specs.Plans.{concluded, provisioned_in, refusal_of}
 use Rattle.pfr_calm.specs.Course.{Stretch, Crosses, Faults, LosesPower, Steps, goes_on_if, lost}
 use Rattle.pfr_calm.specs.Turn.{bank_stretch, fuse_stretch, provision_stretch, power_stretches, Course, Follows}
 use Rattle.pfr_calm.specs.Promises.{added}
 use Rattle.pfr_calm.specs.declared.authentication.Authentication.{Authentication}
 use Rattle.pfr_calm.specs.declared.authentication.Authentication.TheVariants.{Unprovisioned, SlotsSpent, BadLayout, Untrusted, Trusted}
-use Rattle.pfr_calm.proofs.Sequence.{AllMoved-trans}
 use Rattle.pfr_calm.proofs.Traces.{AllGood, AllGood-append, AllGood-cut, KnowsNoOperation, Keeps, Traced, Traced-then, Traced-ran, Traced-stopped, Traced-keeps}
 use Rattle.pfr_calm.proofs.Findings.{AllNotes}
 

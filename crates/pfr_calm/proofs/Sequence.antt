@@ -236,19 +236,3 @@ Goes-same a b old new (Err stop) e p = subst (λ (ms : List Move). Stopped ms st
 -- after calls that only read
 pub Goes-read : {T : Type 0} (b : Plan) (old mid new : World) (r : Result T Stop) → Ran [] old mid → Goes b mid new r → Goes b old new r
 Goes-read b old mid new r p q = Goes-then (λ story. []) b old mid new r p q
-
-pub story-read : (old new : World) → Ran [] old new → story_of new ≡ story_of old
-story-read old new p = p.is
-
--- an answer that is an error: what a `?` returns
-pub Goes-err : {T : Type 0} (plan : Plan) (old new : World) (r : Result T Stop) (stop : Stop)
-    → r ≡ Err stop → Stopped (plan (story_of old)) stop.device stop.fail old new → Goes plan old new r
-Goes-err {T} plan old new r stop e p = subst (λ (q : Result T Stop). Goes plan old new q) (sym e) p
-
--- the answer of a call that failed is passed on, and the plan went no further
-pub Goes-fails : (A B : Type 0) (a b : Plan) (old new : World) (stop : Stop) → Goes {T = A} a old new (Err stop) → Goes {T = B} (then a b) old new (Err stop)
-Goes-fails A B a b old new stop p = Stopped-first a b stop.device stop.fail old new p
-
--- what is answered besides does not matter
-pub Goes-gives : {A B : Type 0} (plan : Plan) (old new : World) (x : A) (y : B) → Goes {T = A} plan old new (Ok x) → Goes {T = B} plan old new (Ok y)
-Goes-gives plan old new x y p = p

@@ -1,5 +1,5 @@
 -- What is known of the notes and operations of a step.
-use Rattle.std.proofs.Common.{◌≡◌, ◌∙◌, refl, sym, ap, subst, Bool, true, false, List, [], ◌∷◌, ◌++◌, length, drop, append_assoc, None, inl, inr}
+use Rattle.std.proofs.Common.{◌≡◌, ◌∙◌, refl, sym, ap, subst, Bool, true, false, List, [], ◌∷◌, ◌++◌, append_assoc, None, inl, inr}
 use Rattle.std.proofs.lemmas.List.{append-nil}
 use Rattle.pfr_flash.specs.Operation.{Operation}
 use Rattle.pfr_flash.specs.declared.names.Bank.TheVariants as bank
@@ -17,11 +17,10 @@ use Rattle.pfr_calm.specs.Story.{Story, Move, Says, Does, moved_by, noted, opera
 use Rattle.pfr_calm.specs.World.{World, story_of, AllMoved}
 use Rattle.pfr_calm.specs.Goes.{Ran}
 use Rattle.pfr_engine.specs.Acceptance.{Acceptance}
-use Rattle.pfr_calm.specs.Course.{Stretch, Crosses, Faults, LosesPower, Ends, goes_on_if, Steps}
+use Rattle.pfr_calm.specs.Course.{Stretch, Crosses, Ends, Steps}
 use Rattle.pfr_calm.specs.Standing.{standing_of, is_off}
-use Rattle.pfr_calm.specs.Turn.{bank_stretch, fuse_stretch, provision_stretch, bank_stretches, power_stretches, off_course, ignored, provision_course, where_off, Course, Follows, course, next_item, Turn}
+use Rattle.pfr_calm.specs.Turn.{bank_stretch, fuse_stretch, provision_stretch, bank_stretches, power_stretches, off_course, ignored, provision_course, where_off, Follows, course, next_item, Turn}
 use Rattle.pfr_calm.specs.Promises.{added}
-use Rattle.pfr_calm.proofs.Sequence.{AllMoved-trans}
 use Rattle.pfr_calm.proofs.Traces.{Keeps, Traced, Traced-then, Traced-ran, Traced-keeps, Precedes, Precedes-refl, Precedes-move}
 use Rattle.pfr_calm.proofs.Findings.{noted_append}
 use Rattle.pfr_calm.proofs.Saying.{Steps-traced, Follows-traced, added_is}

@@ -3,7 +3,6 @@ use Rattle.std.proofs.Common.{◌≡◌, ◌∙◌, refl, sym, ap, ℕ, ◌+◌,
 use Rattle.std.proofs.lemmas.Bool.{cases_Bool, false≢true}
 use Rattle.pfr_flash.specs.FlashState.{FlashState, Rose}
 use Rattle.pfr_flash.specs.Moved.{Moved, was_done}
-use Rattle.pfr_flash.specs.declared.flash.FlashFail.TheVariants.{Fault, Lost as Loses}
 use Rattle.pfr_flash.specs.declared.names.Bank.{Bank}
 use Rattle.pfr_flash.specs.declared.names.Bank.TheVariants as bank
 use Rattle.pfr_flash.specs.declared.names.Device.{Device}
@@ -12,17 +11,16 @@ use Rattle.pfr_fuses.specs.FusesOf.{fuses_of}
 use Rattle.pfr_fuses.specs.Provisioning.{judge_provision, provision_plan}
 use Rattle.pfr_fuses.specs.declared.fuse_fail.FuseFail.{FuseFail}
 use Rattle.pfr_fuses.specs.declared.root_slot.RootSlot.{RootSlot}
-use Rattle.pfr_report.specs.declared.note.LockWhy.TheVariants as why
 use Rattle.pfr_report.specs.declared.note.Note.{Note}
 use Rattle.pfr_report.specs.declared.note.What.TheVariants as what
 use Rattle.pfr_calm.specs.Story.{Story, Says, noted, device_of, image_at, all_do}
 use Rattle.pfr_calm.specs.World.{World, story_of, state_at, AllMoved, LostAt, FaultedAt}
-use Rattle.pfr_calm.specs.Plans.{authentication_at, recovery_at, distrusted, brought_up, migration_in, migrated, provisioned_in, provisioned}
+use Rattle.pfr_calm.specs.Plans.{authentication_at, recovery_at, distrusted, brought_up, migration_in, migrated, provisioned_in}
 use Rattle.pfr_calm.specs.Course.{Stretch, Crosses, Faults, LosesPower, Steps, lost}
-use Rattle.pfr_calm.specs.Turn.{fault_of, is_store, bank_or_store, StopsInCheck, bank_stretch, fuse_stretch, provision_stretch, unreadable}
+use Rattle.pfr_calm.specs.Turn.{fault_of, is_store, bank_or_store, StopsInCheck, bank_stretch, unreadable}
 use Rattle.pfr_calm.proofs.Bytes.{HaveBytes, have_before, image_bytes}
 use Rattle.pfr_calm.proofs.Sequence.{AllMoved-trans, Moved-at}
-use Rattle.pfr_calm.proofs.Traces.{AllGood, AllGood-append, AllGood-cut, Traced, Traced-then, Traced-ran, Traced-stopped, image_noted}
+use Rattle.pfr_calm.proofs.Traces.{AllGood, AllGood-append, Traced, Traced-then, Traced-ran, image_noted}
 use Rattle.pfr_calm.proofs.Findings.{Found, found, recovery_found}
 use Rattle.pfr_calm.proofs.Saying.{first_good}
 use Rattle.pfr_calm.proofs.Facts.{Setting, IsGood, good_torn, ops_good, conclusion_good, distrust_good, concluded_says, distrusted_says, says_nv, IsLater, IsLater-trans}
@@ -92,8 +90,8 @@ pub store_traced : (s : Setting) (t : Stretch) (ss : List Stretch) (old new : Wo
 store_traced s t ss old new within ends calls plan fault rest p =
     first_good (IsGood s) (good_torn s) t ss old new plan
     (λ mid f behind.
-        let front = between_front s old f.at new (AllMoved-trans f.at mid new f.noted.moved behind.moved) within in
-        fault f.which (story_of f.at) (store_rose s f.which (calls f.which f.called) (rose_between s f.which old f.at front f.stopped.cause.0)))
+    let front = between_front s old f.at new (AllMoved-trans f.at mid new f.noted.moved behind.moved) within in
+    fault f.which (story_of f.at) (store_rose s f.which (calls f.which f.called) (rose_between s f.which old f.at front f.stopped.cause.0)))
     (λ l. lost_good s l.which (story_of l.at) (lost_between s l.which old l.at (between_front s old l.at new l.noted.moved within) l.stopped.cause.0))
     (λ mid c r. elim c [ inl crossed ↦ rest mid crossed r | inr f ↦ absurd (false≢true (sym ends ∙ f.1)) ]) p
 

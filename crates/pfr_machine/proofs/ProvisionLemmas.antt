@@ -31,6 +31,7 @@ use Rattle.pfr_calm.specs.Turn.{is_store, provision_stretch, provision_course, F
 use Rattle.pfr_calm.proofs.Sequence.{Ran-append, Ran-refl, Stopped-more}
 use Rattle.pfr_calm.proofs.Courses.{Steps-none, Steps-crossed, Steps-ended, Faults-stopped, Halts-first, Halts-noted}
 use Rattle.pfr_machine.specs.Checks.{provision_ops, provision_note}
+use Rattle.pfr_machine.proofs.WorldLemmas.{stopped_as}
 
 -- what would be answered does not matter where the call failed
 Follows-first_only : (plan : List Operation) (old new : FlashState) (fail : FlashFail) → FollowsPlan {A = Unit {0}} plan old new (Err fail) → FollowsPlan {A = What} plan old new (Err fail)
@@ -38,12 +39,9 @@ Follows-first_only plan old new fail p = record { ok = tt; on = tt; whole = tt; 
 
 -- ---- the answer of the call, as what is noted
 module _ (what : RootSlot) (old new : FlashState) (note : What) where
-  done_is : (r : Result (Unit {0}) FuseFail) (cause : FuseFail) → r ≡ Err cause → ¬ (r ≡ Ok tt)
-  done_is r cause e f = cc
-
   pub ended_done : (j : Result ℕ FuseFail) → Provisions what old new (Ok tt) j → FollowsPlan (provision_ops what j) old new (Ok note)
   ended_done (Ok number) p = Follows-gives _ old new tt note p
-  ended_done (Err cause) p = absurd (done_is (Err cause) cause refl p.0)
+  ended_done (Err cause) p = absurd (let e = p.0 in cc)
 
   pub ended_failed : (j : Result ℕ FuseFail) (fail : FlashFail) → Provisions what old new (Err (fuse.Flash fail)) j → FollowsPlan {A = What} (provision_ops what j) old new (Err fail)
   ended_failed (Ok number) fail p = Follows-first_only (provision_plan number what) old new fail p
@@ -65,32 +63,29 @@ module _ (what : RootSlot) (old new : FlashState) (note : What) where
   ended_unset (Ok number) p = absurd p
   ended_unset (Err cause) p = Follows-reads old new (Ok note) p.1
 
-cause_is : (a b : FuseFail) (r : Result (Unit {0}) FuseFail) → r ≡ Err a → r ≡ Err b → a ≡ b
-cause_is a b r e f = cc
-
-noted_cause : (a b : FuseFail) (r s : Result (Unit {0}) FuseFail) → r ≡ Err a → s ≡ Err b → r ≡ s → ProvisionRefused (refusal_of b) ≡ ProvisionRefused (refusal_of a)
-noted_cause a b r s e f h = ap (λ (c : FuseFail). ProvisionRefused (refusal_of c)) (sym (cause_is a b r e (h ∙ f)))
+noted_cause : (a b : FuseFail) → ◌≡◌ {A = Result (Unit {0}) FuseFail} (Err a) (Err b) → ProvisionRefused (refusal_of b) ≡ ProvisionRefused (refusal_of a)
+noted_cause a b e = let same : b ≡ a = cc in ap (λ (c : FuseFail). ProvisionRefused (refusal_of c)) same
 
 module _ (what : RootSlot) (old new : FlashState) where
   pub noted_done : (j : Result ℕ FuseFail) → Provisions what old new (Ok tt) j → Provisioned ≡ provision_note j
   noted_done (Ok number) p = refl
-  noted_done (Err cause) p = absurd (done_is what old new Provisioned (Err cause) cause refl p.0)
+  noted_done (Err cause) p = absurd (let e = p.0 in cc)
 
   pub noted_already : (j : Result ℕ FuseFail) → Provisions what old new (Err fuse.AlreadyProvisioned) j → ProvisionRefused (refusal_of fuse.AlreadyProvisioned) ≡ provision_note j
   noted_already (Ok number) p = absurd p
-  noted_already (Err cause) p = noted_cause cause fuse.AlreadyProvisioned (Err cause) (Err fuse.AlreadyProvisioned) refl refl p.0
+  noted_already (Err cause) p = noted_cause cause fuse.AlreadyProvisioned p.0
 
   pub noted_layout : (j : Result ℕ FuseFail) (b : Bank) (rule : LayoutRule) → Provisions what old new (Err (fuse.LayoutBad b rule)) j → ProvisionRefused (refusal_of (fuse.LayoutBad b rule)) ≡ provision_note j
   noted_layout (Ok number) b rule p = absurd p
-  noted_layout (Err cause) b rule p = noted_cause cause (fuse.LayoutBad b rule) (Err cause) (Err (fuse.LayoutBad b rule)) refl refl p.0
+  noted_layout (Err cause) b rule p = noted_cause cause (fuse.LayoutBad b rule) p.0
 
   pub noted_spent : (j : Result ℕ FuseFail) → Provisions what old new (Err fuse.SlotsSpent) j → ProvisionRefused (refusal_of fuse.SlotsSpent) ≡ provision_note j
   noted_spent (Ok number) p = absurd p
-  noted_spent (Err cause) p = noted_cause cause fuse.SlotsSpent (Err cause) (Err fuse.SlotsSpent) refl refl p.0
+  noted_spent (Err cause) p = noted_cause cause fuse.SlotsSpent p.0
 
   pub noted_unset : (j : Result ℕ FuseFail) → Provisions what old new (Err fuse.NotProvisioned) j → ProvisionRefused (refusal_of fuse.SlotsSpent) ≡ provision_note j
   noted_unset (Ok number) p = absurd p
-  noted_unset (Err cause) p = noted_cause cause fuse.NotProvisioned (Err cause) (Err fuse.NotProvisioned) refl refl p.0
+  noted_unset (Err cause) p = noted_cause cause fuse.NotProvisioned p.0
 
 -- ---- what is noted leaves the banks as they stand, and has a text
 pub note_keeps : (j : Result ℕ FuseFail) (which : Bank) (s : Standing) → standing_after which (provision_note j) s ≡ s
@@ -132,8 +127,7 @@ locked what which fail old mid first new f d s n p q = (
   Ran-refl old,
   Steps-ended (provision_stretch what) [] old new refl
       (Faults-stopped (provision_stretch what) device.Nv old mid new refl
-      (subst (λ (x : FlashFail). Stopped (provisioned what (story_of old)) device.Nv x old mid) f
-      (subst (λ (x : Device). Stopped (provisioned what (story_of old)) x fail old mid) d s)) (ap (λ (x : NotesState). x.list) n)
+      (stopped_as (provisioned what (story_of old)) f d s) (ap (λ (x : NotesState). x.list) n)
       (Ran-append (Says (Locked bank.Bmc StoreFault) ∷ []) (Says (Locked bank.Pch StoreFault) ∷ []) mid first new p q)),
 )
 
@@ -144,6 +138,5 @@ cut_off what which found fail old mid new f e d s n p = (
   Ran-refl old,
   Halts-noted (provision_stretch what ∷ []) which old mid new
       (Halts-first (provision_stretch what) [] which old mid (ap is_store (sym e ∙ d))
-      (subst (λ (x : FlashFail). Stopped (provisioned what (story_of old)) which x old mid) f
-      (subst (λ (x : Device). Stopped (provisioned what (story_of old)) x fail old mid) e s)) (ap (λ (x : NotesState). x.list) n)) p,
+      (stopped_as (provisioned what (story_of old)) f e s) (ap (λ (x : NotesState). x.list) n)) p,
 )

@@ -69,16 +69,16 @@ module _ {E : Type 0} (which : Device) (d : FlashState) (old new : PlatformState
   pub read_stopped : (fail : FlashFail) → IsOn old.world → EndsAt (Some fail) (state_at which old.world) (state_at which new.world) → Stopped [] which fail old.world new.world
   read_stopped fail on ends = Goes-reads {A = Unit {0}} which old.world new.world (Err fail) (only_at which d old new e) (powered_at which old.world on) ends
 
+-- the bytes of a bank
+pub image_is : (which : Bank) (w : World) → now (state_at (device_of which) w) ≡ image_at (device_of which) (story_of w)
+image_is bank.Bmc w = refl
+image_is bank.Pch w = refl
+
 -- what is found of a bank is what its contents say
 pub found_at : (accepts : Acceptance) (which : Bank) (w : World) (found : Result FusesState FuseFail) (a : Authentication)
     → a ≡ authentication_with which (now (state_at (device_of which) w)) accepts found → found ≡ fuses_of (now w.nv) → a ≡ authentication_at accepts which (story_of w)
 unfolding authentication_of
-found_at accepts bank.Bmc w found a h f = h ∙ ap (λ (x : Result FusesState FuseFail). authentication_with bank.Bmc (now w.bmc) accepts x) f
-found_at accepts bank.Pch w found a h f = h ∙ ap (λ (x : Result FusesState FuseFail). authentication_with bank.Pch (now w.pch) accepts x) f
-
-pub image_is : (which : Bank) (w : World) → now (state_at (device_of which) w) ≡ image_at (device_of which) (story_of w)
-image_is bank.Bmc w = refl
-image_is bank.Pch w = refl
+found_at accepts which w found a h f = h ∙ rw (f, image_is which w) refl
 
 -- a device worked by a plan
 module _ {E : Type 0} (which : Device) (plan : List Operation) (d : FlashState) (old new : PlatformState E) (e : new ≡ record old { world = with_state which d old.world }) (on : IsOn old.world) where

@@ -1,10 +1,8 @@
 -- What is found in the recovery area of a bank.
-use Rattle.std.proofs.Common.{◌≡◌, ◌∙◌, refl, sym, ap, subst, ℕ, List, Option, Result, Ok, Err, IfOk}
+use Rattle.std.proofs.Common.{◌≡◌, ◌∙◌, refl, sym, subst, ℕ, List, Option, Result, Ok, Err, IfOk}
 use Rattle.pfr_flash.specs.FlashState.{FlashState, now, size_of}
 use Rattle.pfr_flash.specs.Layout.{IsValidLayout, judge_layout}
-use Rattle.pfr_flash.specs.declared.layout.Layout.{Layout}
 use Rattle.pfr_flash.specs.declared.names.Bank.{Bank}
-use Rattle.pfr_flash.specs.declared.names.Bank.TheVariants as bank
 use Rattle.pfr_flash.proofs.LayoutLemmas.{judged_valid}
 use Rattle.pfr_flash.proofs.RangeLemmas.{length-now}
 use Rattle.pfr_engine.specs.Acceptance.{Acceptance}
@@ -13,17 +11,16 @@ use Rattle.pfr_fuses.specs.FusesState.{FusesState}
 use Rattle.pfr_fuses.specs.RootSlot.{layout_of}
 use Rattle.pfr_fuses.specs.declared.fuse_fail.FuseFail.{FuseFail}
 use Rattle.pfr_fuses.specs.declared.fuse_fail.FuseFail.TheVariants as fuse
-use Rattle.pfr_capsule.specs.Good.{IsGood, StandForBank}
+use Rattle.pfr_capsule.specs.Good.{StandForBank}
 use Rattle.pfr_capsule.specs.declared.fail.CapsuleFail.{CapsuleFail}
-use Rattle.pfr_auth.specs.Areas.{place_of}
-use Rattle.pfr_auth.specs.declared.areas.Area.TheVariants.{Recovery}
 use Rattle.pfr_calm.specs.Authentication.{recovery_with, recovery_of}
 use Rattle.pfr_calm.specs.Plans.{recovery_at}
 use Rattle.pfr_calm.specs.Story.{device_of, image_at}
 use Rattle.pfr_calm.specs.World.{World, story_of, state_at}
 use Rattle.pfr_calm.specs.declared.authentication.Authentication.{Authentication}
-use Rattle.pfr_calm.specs.declared.authentication.Authentication.TheVariants.{Unprovisioned, SlotsSpent, BadLayout, Untrusted, Trusted}
+use Rattle.pfr_calm.specs.declared.authentication.Authentication.TheVariants.{Untrusted}
 use Rattle.pfr_machine.specs.Checks.{HasLayout, IsPlaced, without_fuses}
+use Rattle.pfr_machine.proofs.ReadLemmas.{image_is}
 
 pub stands_bank : (nv : List ℕ) (fuses : FusesState) (which : Bank) → fuses_of nv ≡ Ok fuses → StandForBank nv fuses which
 stands_bank nv fuses which p = record { all = fuses; provisioned = p; provision = refl; floor = refl; capsule_row = refl; manifest_row = refl }
@@ -33,11 +30,8 @@ pub layout_there : (which : Bank) (fuses : FusesState) (d : FlashState) → judg
 layout_there which fuses d j = subst (λ (n : ℕ). IsValidLayout (layout_of fuses.provision which) n) (sym (length-now d)) (judged_valid _ _ j)
 
 pub placed_by : (a : Authentication) (which : Bank) (image : List ℕ) (found : Result FusesState FuseFail) → HasLayout which image found → IsPlaced a which image found
-placed_by Unprovisioned which image found h = tt
-placed_by SlotsSpent which image found h = tt
-placed_by (BadLayout rule) which image found h = tt
 placed_by (Untrusted why) which image found h = h
-placed_by (Trusted svn) which image found h = tt
+placed_by _ which image found h = tt
 
 pub placed_if : {E : Type 0} (r : Result Authentication E) (which : Bank) (image : List ℕ) (found : Result FusesState FuseFail) → HasLayout which image found
     → IfOk r (λ a. IsPlaced a which image found)
@@ -46,10 +40,7 @@ placed_if (Err e) which image found h = tt
 
 without_placed : (which : Bank) (image : List ℕ) (found : Result FusesState FuseFail) (cause : FuseFail) → IsPlaced (without_fuses cause) which image found
 without_placed which image found fuse.SlotsSpent = tt
-without_placed which image found fuse.NotProvisioned = tt
-without_placed which image found fuse.AlreadyProvisioned = tt
-without_placed which image found (fuse.LayoutBad b rule) = tt
-without_placed which image found (fuse.Flash fail) = tt
+without_placed which image found _ = tt
 
 pub without_placed_at : (which : Bank) (image : List ℕ) (found : Result FusesState FuseFail) (cause : FuseFail) (a : Authentication) → a ≡ without_fuses cause → IsPlaced a which image found
 without_placed_at which image found cause a h = subst (λ (b : Authentication). IsPlaced b which image found) (sym h) (without_placed which image found cause)
@@ -66,9 +57,7 @@ not_without which cause found image e h = subst (λ (f : Result FusesState FuseF
 pub recovery_found_at : (accepts : Acceptance) (which : Bank) (w : World) (found : Result FusesState FuseFail) (against : Option CapsuleFail)
     → against ≡ recovery_with which (now (state_at (device_of which) w)) accepts found → found ≡ fuses_of (now w.nv) → against ≡ recovery_at accepts which (story_of w)
 unfolding recovery_of
-recovery_found_at accepts bank.Bmc w found against h f = h ∙ ap (λ (x : Result FusesState FuseFail). recovery_with bank.Bmc (now w.bmc) accepts x) f
-recovery_found_at accepts bank.Pch w found against h f = h ∙ ap (λ (x : Result FusesState FuseFail). recovery_with bank.Pch (now w.pch) accepts x) f
+recovery_found_at accepts which w found against h f = h ∙ rw (f, image_is which w) refl
 
 pub layout_in_story : (which : Bank) (w : World) (found : Result FusesState FuseFail) → HasLayout which (image_at (device_of which) (story_of w)) found → HasLayout which (now (state_at (device_of which) w)) found
-layout_in_story bank.Bmc w found h = h
-layout_in_story bank.Pch w found h = h
+layout_in_story which w found h = rw (image_is which w) h

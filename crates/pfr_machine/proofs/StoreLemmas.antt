@@ -1,9 +1,10 @@
 -- What is done in the store, in a row.
-use Rattle.std.proofs.Common.{◌≡◌, ◌∙◌, sym, ap, subst, ℕ, ◌≤◌, List, [], ◌++◌, length, arith, append-nil, append_assoc}
+use Rattle.std.proofs.Common.{◌≡◌, ◌∙◌, sym, ap, subst, ℕ, ◌≤◌, List, [], length, arith, append-nil}
 use Rattle.pfr_flash.specs.FlashState.{FlashState, upto, op_count_of}
-use Rattle.pfr_flash.specs.Moved.{Extends, Worked}
+use Rattle.pfr_flash.specs.Moved.{Worked}
 use Rattle.pfr_flash.specs.Operation.{Operation}
 use Rattle.pfr_flash.specs.Reading.{OnlyReads}
+use Rattle.pfr_flash.proofs.MovedLemmas.{Extends-trans}
 use Rattle.pfr_fuses.specs.Growth.{Grows, NeverGoesBack}
 use Rattle.pfr_fuses.proofs.GrowthLemmas.{NeverGoesBack-trans}
 use Rattle.pfr_machine.specs.PlatformState.{SameStore, StoreGrows}
@@ -24,13 +25,10 @@ nothing_grows old new h = record {
   };
 }
 
-extends_then : (a b c : List Operation) → Extends a b → Extends b c → Extends a c
-extends_then a b c h k = record { more = h.more ++ k.more; is = k.is ∙ (ap (λ (ops : List Operation). ops ++ k.more) h.is ∙ append_assoc a h.more k.more) }
-
 pub then_grows : (a b c : FlashState) → StoreGrows a b → StoreGrows b c → StoreGrows a c
 then_grows a b c h k = record {
   start = k.start ∙ h.start;
-  more = extends_then a.ops b.ops c.ops h.more k.more;
+  more = Extends-trans a.ops b.ops c.ops h.more k.more;
   grows = NeverGoesBack-trans a b c k.start k.more h.grows k.grows;
 }
 

@@ -1,8 +1,6 @@
 -- A whole step, from what was done at its event.
-use Rattle.std.proofs.Common.{◌≡◌, ◌∙◌, refl, sym, ap, subst, ◌≤◌, ◌*◌, ◌+◌, true, List, [], ◌∷◌, length, inl, inr, Option, arith, Result, Ok, Err, OnOk}
+use Rattle.std.proofs.Common.{◌≡◌, ◌∙◌, refl, sym, ap, subst, ℕ, ◌≤◌, ◌*◌, ◌+◌, true, List, [], ◌∷◌, length, inl, inr, Option, arith, Result, Ok, Err, OnOk}
 use Rattle.std.specs.Prelude.{◌≢◌}
-use Rattle.pfr_flash.specs.FlashState.{FlashState}
-use Rattle.pfr_flash.specs.Moved.{Moved}
 use Rattle.pfr_flash.specs.declared.names.Bank.TheVariants as bank
 use Rattle.pfr_engine.specs.Acceptance.{Acceptance}
 use Rattle.pfr_report.specs.declared.note.Note.{Note}
@@ -19,37 +17,26 @@ use Rattle.pfr_calm.proofs.Courses.{Steps-none}
 use Rattle.pfr_machine.specs.PlatformState.{PlatformState, AddsNotes}
 use Rattle.pfr_machine.specs.WorksInside.{AreLines, IsPlatform}
 use Rattle.pfr_machine.specs.declared.lines.Lines.{Lines}
-use Rattle.pfr_flash.specs.FlashState.{size_of}
 use Rattle.pfr_flash.specs.declared.names.Counts.{Counts}
 use Rattle.pfr_flash.specs.declared.names.Device.{Device}
 use Rattle.pfr_report.specs.Texts.{IsNoted}
 use Rattle.pfr_report.specs.declared.note.What.TheVariants.{Lost, Ignored}
-use Rattle.pfr_calm.specs.Promises.{AreOff, IsPower, ProvisionsSo, StaysQuiet, LostEnds, LostIsDark, HasPower, added}
-use Rattle.pfr_fuses.specs.Growth.{KeepsProvision}
-use Rattle.pfr_calm.proofs.GrowthLaws.{Turn-keeps_provision}
+use Rattle.pfr_calm.specs.Promises.{AreOff, IsPower, StaysQuiet, LostEnds, LostIsDark, HasPower, added}
 use Rattle.pfr_calm.proofs.RunLaws.{Turn-item}
-use Rattle.pfr_calm.proofs.ProvisionLaws.{Turn-provisions}
-use Rattle.pfr_machine.specs.Checks.{HasSlot, IsTaken}
+use Rattle.pfr_machine.specs.Checks.{IsTaken}
 
 -- a step that only notes something
 pub only_noted : (moves : List Move) (old new : World) → Ran moves old new → Follows (record { first = moves; stretches = [] }) old new
 only_noted moves old new p = (new, p, Steps-none new)
 
-where_is_off : (s : Standing) (how : Line) (off on : Course) → s ≡ standing_by how → how ≡ line.Off → where_off (is_off s) off on ≡ off
-where_is_off s how off on e f = ap (λ (x : Standing). where_off (is_off x) off on) (e ∙ ap standing_by f)
-
-where_is_on : (how : Line) (off on : Course) → how ≢ line.Off → where_off (is_off (standing_by how)) off on ≡ on
-where_is_on line.Off off on n = absurd (n refl)
-where_is_on line.Locked off on n = refl
-where_is_on line.Running off on n = refl
-
 -- by how the banks stand
 pub at_off : (s : Standing) (how : Line) (off on : Course) (old new : World) → s ≡ standing_by how → how ≡ line.Off → Follows off old new → Follows (where_off (is_off s) off on) old new
-at_off s how off on old new e f p = subst (λ (c : Course). Follows c old new) (sym (where_is_off s how off on e f)) p
+at_off s how off on old new e f p = rw (e, f) p
 
 pub at_on : (s : Standing) (how : Line) (off on : Course) (old new : World) → s ≡ standing_by how → how ≢ line.Off → Follows on old new → Follows (where_off (is_off s) off on) old new
-at_on s how off on old new e n p =
-    subst (λ (c : Course). Follows c old new) (sym (ap (λ (x : Standing). where_off (is_off x) off on) e ∙ where_is_on how off on n)) p
+at_on s line.Off off on old new e n p = absurd (n refl)
+at_on s line.Locked off on old new e n p = rw e p
+at_on s line.Running off on old new e n p = rw e p
 
 -- ---- an item was begun
 pub record Begun (old begun : World) : Type 0 where
@@ -61,24 +48,14 @@ module _ (old begun : World) (b : Begun old begun) where
   story_begun = ap story_of b.is ∙ ap (λ (l : List Note). record (story_of (next_item old)) { notes = l }) b.list
 
   ran_begun : (moves : List Move) (mid : World) → Ran moves begun mid → Ran moves (next_item old) mid
-  ran_begun moves mid p = record {
-    is = p.is ∙ ap (λ (s : Story). after moves s) story_begun;
-    moved = record {
-      bmc = subst (λ (d : FlashState). Moved d mid.bmc) (ap (λ (w : World). w.bmc) b.is) p.moved.bmc;
-      pch = subst (λ (d : FlashState). Moved d mid.pch) (ap (λ (w : World). w.pch) b.is) p.moved.pch;
-      nv = subst (λ (d : FlashState). Moved d mid.nv) (ap (λ (w : World). w.nv) b.is) p.moved.nv;
-    };
-    none_lost = record {
-      bmc = p.none_lost.bmc ∙ ap (λ (w : World). w.bmc.losses) b.is;
-      pch = p.none_lost.pch ∙ ap (λ (w : World). w.pch.losses) b.is;
-      nv = p.none_lost.nv ∙ ap (λ (w : World). w.nv.losses) b.is;
-    };
-    none_failed = record {
-      bmc = p.none_failed.bmc ∙ ap (λ (w : World). w.bmc.faults) b.is;
-      pch = p.none_failed.pch ∙ ap (λ (w : World). w.pch.faults) b.is;
-      nv = p.none_failed.nv ∙ ap (λ (w : World). w.nv.faults) b.is;
-    };
-  }
+  ran_begun moves mid p =
+      let q = subst (λ (w : World). Ran moves w mid) b.is p in
+      record {
+        is = p.is ∙ ap (λ (s : Story). after moves s) story_begun;
+        moved = record { bmc = q.moved.bmc; pch = q.moved.pch; nv = q.moved.nv };
+        none_lost = record { bmc = q.none_lost.bmc; pch = q.none_lost.pch; nv = q.none_lost.nv };
+        none_failed = record { bmc = q.none_failed.bmc; pch = q.none_failed.pch; nv = q.none_failed.nv };
+      }
 
   course_of : (accepts : Acceptance) (e : Event) (notes other : List Note) (s t : Story) → s.notes ≡ notes → t.notes ≡ other → notes ≡ other → course accepts e s ≡ course accepts e t
   course_of accepts event.Power notes other s t p q r = refl
@@ -92,11 +69,7 @@ module _ (old begun : World) (b : Begun old begun) where
       subst (λ (c : Course). Follows c (next_item old) new) same (mid, ran_begun _ mid p, q)
 
   on_begun : IsOn old → IsOn begun
-  on_begun on = record {
-    bmc = ap (λ (w : World). w.bmc.powered) b.is ∙ on.bmc;
-    pch = ap (λ (w : World). w.pch.powered) b.is ∙ on.pch;
-    nv = ap (λ (w : World). w.nv.powered) b.is ∙ on.nv;
-  }
+  on_begun on = subst (λ (w : World). IsOn w) (sym b.is) (record { bmc = on.bmc; pch = on.pch; nv = on.nv })
 
   pub lines_begun : (lines : Lines) → AreLines lines old → AreLines lines begun
   lines_begun lines h = record {
@@ -131,11 +104,6 @@ pub by_three : {A B C D : Type 0} {T U : Type 0} (r : Result T U) → OnOk r A �
 by_three (Ok x) a b c f = f a b c
 by_three (Err e) a b c f = tt
 
-pub provisions_so : (accepts : Acceptance) (e : Event) (old new : World) → size_of old.nv ≡ 32768 → (¬ AreOff old → HasSlot e) → Turn accepts e old new → ProvisionsSo e old new
-provisions_so accepts event.Power old new size slot t = tt
-provisions_so accepts event.Off old new size slot t = tt
-provisions_so accepts (event.Provision what) old new size slot t = λ on. Turn-provisions accepts (event.Provision what) old new size (slot on) t on
-
 -- ---- no device has power where banks went off
 -- an event that is taken by how the banks stand is taken by the lines
 pub taken_by_line : (e : Event) (lines : Lines) (w : World) → AreLines lines w → (AreOff w → IsPower e) → IsTaken e lines
@@ -151,24 +119,16 @@ line_off line.Running e = cc
 pub off_line : (lines : Lines) (w : World) → AreLines lines w → AreOff w → lines.bmc ≡ line.Off
 off_line lines w h e = line_off lines.bmc (sym (ap is_off h.bmc) ∙ e)
 
+no_loss : (item : ℕ) (notes : List Note) (device : Option Device) (at : Counts) → notes ≡ record { item = item + 1; what = Ignored } ∷ [] → ¬ IsNoted notes (Lost device at)
+no_loss item notes device at e n = elim (subst (λ (ns : List Note). IsNoted ns (Lost device at)) e n) [ inl same ↦ absurd cc | inr x ↦ x ]
+
 pub lost_taken : (e : Event) (old new : World) (device : Option Device) (at : Counts) → StaysQuiet e old new → IsNoted (added old new) (Lost device at) → AreOff old → IsPower e
 lost_taken event.Power old new device at q n off = tt
-lost_taken event.Off old new device at q n off = never (added old new) (q off (λ p. p)).notes n
-  where
-    never : (notes : List Note) → notes ≡ record { item = old.item + 1; what = Ignored } ∷ [] → IsNoted notes (Lost device at) → ⊥
-    never notes e n = elim (subst (λ (ns : List Note). IsNoted ns (Lost device at)) e n) [ inl same ↦ absurd cc | inr x ↦ x ]
-lost_taken (event.Provision what) old new device at q n off = never (added old new) (q off (λ p. p)).notes n
-  where
-    never : (notes : List Note) → notes ≡ record { item = old.item + 1; what = Ignored } ∷ [] → IsNoted notes (Lost device at) → ⊥
-    never notes e n = elim (subst (λ (ns : List Note). IsNoted ns (Lost device at)) e n) [ inl same ↦ absurd cc | inr x ↦ x ]
+lost_taken event.Off old new device at q n off = no_loss old.item (added old new) device at (q off (λ p. p)).notes n
+lost_taken (event.Provision what) old new device at q n off = no_loss old.item (added old new) device at (q off (λ p. p)).notes n
 
 pub lost_is_dark : (e : Event) (old new : World) → StaysQuiet e old new → LostEnds old new → ((AreOff old → IsPower e) → AreOff new → IsDark new) → LostIsDark old new
 lost_is_dark e old new quiet ends dark device at n = dark (λ off. lost_taken e old new device at quiet n off) (ap is_off (ends device at n).bmc)
-
-pub keeps_so : (accepts : Acceptance) (e : Event) (old new : World) → size_of old.nv ≡ 32768 → (¬ AreOff old → HasSlot e) → Turn accepts e old new → KeepsProvision old.nv new.nv
-keeps_so accepts event.Power old new size slot t = Turn-keeps_provision accepts event.Power old new size (λ on. tt) t
-keeps_so accepts event.Off old new size slot t = Turn-keeps_provision accepts event.Off old new size (λ on. tt) t
-keeps_so accepts (event.Provision what) old new size slot t = Turn-keeps_provision accepts (event.Provision what) old new size slot t
 
 -- the devices have power where the lines aren't off
 pub on_by_line : (lines : Lines) (w : World) → AreLines lines w → HasPower w
@@ -176,11 +136,8 @@ on_by_line lines w h n = h.powered (λ e. n (ap is_off (h.bmc ∙ ap standing_by
 
 -- no device was called where none was since the item was begun
 pub untouched_begun : (old begun : World) → Begun old begun → (new : World) → SameDevices begun new → SameDevices old new
-untouched_begun old begun b new s = record {
-  bmc = s.bmc ∙ ap (λ (w : World). w.bmc) b.is;
-  pch = s.pch ∙ ap (λ (w : World). w.pch) b.is;
-  nv = s.nv ∙ ap (λ (w : World). w.nv) b.is;
-}
+untouched_begun old begun b new s =
+    let q = subst (λ (w : World). SameDevices w new) b.is s in record { bmc = q.bmc; pch = q.pch; nv = q.nv }
 
 -- banks are off where the line says so
 pub off_by_line : (lines : Lines) (w : World) → AreLines lines w → ¬ AreOff w → ¬ (lines.bmc ≡ line.Off)

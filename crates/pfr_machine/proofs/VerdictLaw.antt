@@ -207,10 +207,7 @@ module _ (bank : Bank) (image nv : List ℕ) (accepts : Acceptance) where
   floor_with (Ok fuses) long is standing =
       floor_by (judge_layout (layout_of fuses.provision bank) (length image)) (ready bank image fuses accepts) (kept_floor nv fuses bank ((fuses_of-stands nv fuses long is).floors bank)) standing
   floor_with (Err fuse.SlotsSpent) long is standing = cc
-  floor_with (Err fuse.NotProvisioned) long is standing = cc
-  floor_with (Err fuse.AlreadyProvisioned) long is standing = cc
-  floor_with (Err (fuse.LayoutBad which rule)) long is standing = cc
-  floor_with (Err (fuse.Flash fail)) long is standing = cc
+  floor_with (Err _) long is standing = cc
 
   floor_told : (v : BankVerdict) → length nv ≡ 32768 → v ≡ verdict_of bank image nv accepts → v.standing ≡ Ready → IsFloor nv bank v.floor
   unfolding verdict_of

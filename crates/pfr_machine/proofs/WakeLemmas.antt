@@ -1,5 +1,5 @@
 -- How a bank is brought up, part by part.
-use Rattle.std.proofs.Common.{◌≡◌, ◌∙◌, refl, sym, ap, subst, ℕ, List, [], ◌∷◌, ◌++◌, true, false, Bool, inl, inr, Option, Some, None, Result, Ok, Err, OnOk, IfErr}
+use Rattle.std.proofs.Common.{◌≡◌, ◌∙◌, refl, sym, ap, subst, ℕ, List, [], ◌∷◌, ◌++◌, true, false, Bool, inl, inr, Option, Result, Ok, Err, OnOk, IfErr}
 use Rattle.std.specs.Prelude.{if◌then◌else◌}
 use Rattle.pfr_flash.specs.declared.flash.FlashFail.{FlashFail}
 use Rattle.pfr_flash.specs.declared.names.Bank.{Bank}
@@ -16,9 +16,10 @@ use Rattle.pfr_auth.specs.declared.fail.ActiveFail.{ActiveFail}
 use Rattle.pfr_report.specs.NotesState.{NotesState}
 use Rattle.pfr_report.specs.declared.note.What.{What}
 use Rattle.pfr_report.specs.declared.note.What.TheVariants.{Power, Held, Locked, Untrusted as NotTrusted}
-use Rattle.pfr_calm.specs.Story.{Story, Move, Says, Does, after, noted, image_at}
+use Rattle.pfr_calm.specs.Story.{Story, Move, Says, Does, Plan, after, noted, image_at, says, then}
 use Rattle.pfr_calm.specs.World.{World, story_of}
 use Rattle.pfr_calm.specs.Goes.{Ran, Stopped, Goes}
+use Rattle.pfr_calm.specs.Authentication.{authentication_of, recovery_of}
 use Rattle.pfr_calm.specs.Plans.{authentication_at, recovery_at, lock_of, brought_up, concluded, distrusted}
 use Rattle.pfr_calm.specs.declared.authentication.Authentication.TheVariants.{Untrusted}
 use Rattle.pfr_calm.specs.declared.stop.Stop.{Stop}
@@ -29,26 +30,21 @@ use Rattle.pfr_calm.specs.Course.{CrossesOrFaults, Halt, Halts, Steps, lost}
 use Rattle.pfr_calm.specs.Plans.{migrated}
 use Rattle.pfr_calm.specs.Story.{device_of}
 use Rattle.pfr_calm.specs.Turn.{StopsInCheck, bank_or_store, is_store, bank_stretch, bank_stretches, power_stretches, fuse_stretch, fault_of, unreadable, power_course, Follows}
-use Rattle.pfr_calm.proofs.Sequence.{Ran-append, Stopped-append, Stopped-more}
+use Rattle.pfr_calm.proofs.Sequence.{Ran-append, Stopped-append, Stopped-more, Goes-then, Goes-same, Goes-read}
 use Rattle.pfr_calm.proofs.Courses.{Steps-none, Steps-next, Steps-crossed, Steps-ended, Faults-stopped, Halts-first, Halts-next, Halts-crossed, Halts-noted}
+use Rattle.pfr_calm.proofs.Traces.{image_noted}
 use Rattle.pfr_machine.specs.Checks.{HasLayout}
+use Rattle.pfr_machine.proofs.WorldLemmas.{stopped_as}
 
 abbrev pub store : Device
 store = device.Nv
 
 -- ---- what was noted changes nothing that a check finds
 noted_same : (accepts : Acceptance) (which : Bank) (says : Counts → What) (story : Story) → authentication_at accepts which (noted says story) ≡ authentication_at accepts which story
-noted_same accepts bank.Bmc says story = refl
-noted_same accepts bank.Pch says story = refl
+noted_same accepts which says story = ap (λ (image : List ℕ). authentication_of which image (image_at store story) accepts) (image_noted (device_of which) says story)
 
 recovery_same : (accepts : Acceptance) (which : Bank) (says : Counts → What) (story : Story) → recovery_at accepts which (noted says story) ≡ recovery_at accepts which story
-recovery_same accepts bank.Bmc says story = refl
-recovery_same accepts bank.Pch says story = refl
-
-placed_same : (which : Bank) (found : Result FusesState FuseFail) (says : Counts → What) (story : Story) → HasLayout which (image_at (device_of which) story) found
-    → HasLayout which (image_at (device_of which) (noted says story)) found
-placed_same bank.Bmc found says story h = h
-placed_same bank.Pch found says story h = h
+recovery_same accepts which says story = ap (λ (image : List ℕ). recovery_of which image (image_at store story) accepts) (image_noted (device_of which) says story)
 
 -- nothing was done where a plan of nothing stopped
 none_before : (front left : List Move) → [] ≡ front ++ left → (front ≡ []) × (left ≡ [])
@@ -71,23 +67,16 @@ module _ (accepts : Acceptance) (which : Bank) (a : Authentication) (old held ju
   judged_is : story_of judged ≡ noted (Held which) (story_of old)
   judged_is = q.is ∙ p.is
 
-  against_same : recovery_at accepts which (story_of judged) ≡ recovery_at accepts which (story_of old)
-  against_same = ap (λ (s : Story). recovery_at accepts which s) judged_is ∙ recovery_same accepts which (Held which) (story_of old)
-
   found_same : a ≡ authentication_at accepts which (story_of old)
   found_same = e ∙ held_same accepts which old held p
 
-  plan_is : Says (Held which) ∷ concluded which (recovery_at accepts which (story_of judged)) a ≡ brought_up accepts which (story_of old)
-  plan_is = rw (against_same, found_same) refl
+  plan_is : Says (Held which) ∷ concluded which (recovery_at accepts which (noted (Held which) (story_of old))) a ≡ brought_up accepts which (story_of old)
+  plan_is = rw (recovery_same accepts which (Held which) (story_of old), found_same) refl
 
   pub brought : {T : Type 0} (new : World) (r : Result T Stop) → Goes (λ s. concluded which (recovery_at accepts which s) a) judged new r → Goes (brought_up accepts which) old new r
-  brought new (Ok x) g =
-      subst (λ (moves : List Move). Ran moves old new) plan_is
-      (Ran-append (Says (Held which) ∷ []) (concluded which (recovery_at accepts which (story_of judged)) a) old held new p (Ran-append [] (concluded which (recovery_at accepts which (story_of judged)) a) held judged new q g))
-  brought new (Err stop) g =
-      subst (λ (moves : List Move). Stopped moves stop.device stop.fail old new) plan_is
-      (Stopped-append (Says (Held which) ∷ []) (concluded which (recovery_at accepts which (story_of judged)) a) stop.device stop.fail old held new p
-      (Stopped-append [] (concluded which (recovery_at accepts which (story_of judged)) a) stop.device stop.fail held judged new q g))
+  brought new r g =
+      let rest : Plan = λ s. concluded which (recovery_at accepts which s) a in
+      Goes-same ((then) (says (Held which)) rest) (brought_up accepts which) old new r plan_is (Goes-then (says (Held which)) rest old held new r p (Goes-read rest held judged new r q g))
 
   pub brought_early : {T : Type 0} (new : World) (r : Result T Stop) → IfErr r (λ stop. story_of new ≡ after (distrusted which a) (story_of judged))
       → IfErr r (λ stop. StopsInCheck accepts which (story_of old) (story_of new))
@@ -111,7 +100,7 @@ module _ (accepts : Acceptance) (which : Bank) (why : ActiveFail) (old mid : Wor
   against_noted = ap (λ (s : Story). recovery_at accepts which s) p.is ∙ recovery_same accepts which (λ at. NotTrusted which why) (story_of old)
 
   pub placed_noted : (found : Result FusesState FuseFail) → HasLayout which (image_at (device_of which) (story_of old)) found → HasLayout which (image_at (device_of which) (story_of mid)) found
-  placed_noted found h = subst (λ (s : Story). HasLayout which (image_at (device_of which) s) found) (sym p.is) (placed_same which found (λ at. NotTrusted which why) (story_of old) h)
+  placed_noted found h = rw (p.is, image_noted (device_of which) (λ at. NotTrusted which why) (story_of old)) h
 
   pub doubted : (against : Option CapsuleFail) (lock : LockWhy) (judged new : World) → Ran [] mid judged → against ≡ recovery_at accepts which (story_of mid) → lock ≡ lock_of why against
       → Ran (Says (Locked which lock) ∷ []) judged new → Ran (concluded which (recovery_at accepts which (story_of old)) (Untrusted why)) old new
@@ -150,8 +139,7 @@ pub faulted : (accepts : Acceptance) (which : Bank) (device found_device : Devic
     → why ≡ fault_of device → Ran (Says (Locked which why) ∷ []) mid new → CrossesOrFaults (bank_stretch accepts which) old new
 faulted accepts which device found_device fail why old mid new f d s c n w r =
     inr (Faults-stopped (bank_stretch accepts which) device old mid new (calls which device (sym d ∙ c))
-    (subst (λ (x : FlashFail). Stopped (brought_up accepts which (story_of old)) device x old mid) f
-    (subst (λ (x : Device). Stopped (brought_up accepts which (story_of old)) x fail old mid) d s))
+    (stopped_as (brought_up accepts which (story_of old)) f d s)
     n (subst (λ (x : LockWhy). Ran (Says (Locked which x) ∷ []) mid new) w r))
 
 -- ---- both banks, one after the other
@@ -165,49 +153,30 @@ module _ (accepts : Acceptance) (old mid new : World) where
   pub second_halts : (device : Device) → CrossesOrFaults (bank_stretch accepts bank.Bmc) old mid → Halt (bank_stretch accepts bank.Pch) device mid new → Halts (bank_stretches accepts) device old new
   second_halts device p q = Halts-next (bank_stretch accepts bank.Bmc) (bank_stretch accepts bank.Pch ∷ []) device old mid new refl p (inl q)
 
-  -- the fuses were read and migrated
-  pub woken : Ran (migrated (story_of old)) old mid → Steps (bank_stretches accepts) mid new → Steps (power_stretches accepts) old new
-  woken p q = Steps-crossed fuse_stretch (bank_stretches accepts) old mid new p q
-
-  pub woken_halts : (device : Device) → Ran (migrated (story_of old)) old mid → Halts (bank_stretches accepts) device mid new → Halts (power_stretches accepts) device old new
-  woken_halts device p q = Halts-crossed fuse_stretch (bank_stretches accepts) device old mid new p q
-
   -- they could not be
   pub unread : (device : Device) (fail : FlashFail) → fail ≡ Fault → device ≡ store → Stopped (migrated (story_of old)) device fail old mid → mid.notes ≡ old.notes
       → Ran unreadable mid new → Steps (power_stretches accepts) old new
   unread device fail f d s n r =
       Steps-ended fuse_stretch (bank_stretches accepts) old new refl
       (Faults-stopped fuse_stretch store old mid new refl
-      (subst (λ (x : FlashFail). Stopped (migrated (story_of old)) store x old mid) f
-      (subst (λ (x : Device). Stopped (migrated (story_of old)) x fail old mid) d s)) (ap (λ (x : NotesState). x.list) n) r)
+      (stopped_as (migrated (story_of old)) f d s) (ap (λ (x : NotesState). x.list) n) r)
 
 pub unread_halts : (accepts : Acceptance) (old new : World) (device found_device : Device) (fail : FlashFail) → fail ≡ Lost → found_device ≡ device → found_device ≡ store
     → Stopped (migrated (story_of old)) found_device fail old new → new.notes ≡ old.notes → Halts (power_stretches accepts) device old new
 unread_halts accepts old new device found_device fail f e d s n =
     Halts-first fuse_stretch (bank_stretches accepts) device old new (ap is_store (sym e ∙ d))
-    (subst (λ (x : FlashFail). Stopped (migrated (story_of old)) device x old new) f
-    (subst (λ (x : Device). Stopped (migrated (story_of old)) x fail old new) e s)) (ap (λ (x : NotesState). x.list) n)
-
--- ---- the fuses are read, and then migrated
-pub prepared : (old mid new : World) → Ran [] old mid → Ran (migrated (story_of mid)) mid new → Ran (migrated (story_of old)) old new
-prepared old mid new p q = subst (λ (s : Story). Ran (migrated s) old new) p.is (Ran-append [] (migrated (story_of mid)) old mid new p q)
-
-pub prepared_short : (device : Device) (fail : FlashFail) (old mid new : World) → Ran [] old mid → Stopped (migrated (story_of mid)) device fail mid new → Stopped (migrated (story_of old)) device fail old new
-prepared_short device fail old mid new p q = subst (λ (s : Story). Stopped (migrated s) device fail old new) p.is (Stopped-append [] (migrated (story_of mid)) device fail old mid new p q)
-
-pub unprepared : (device : Device) (fail : FlashFail) (old new : World) → Stopped [] device fail old new → Stopped (migrated (story_of old)) device fail old new
-unprepared device fail old new p = Stopped-more [] (migrated (story_of old)) device fail old new p
+    (stopped_as (migrated (story_of old)) f e s) (ap (λ (x : NotesState). x.list) n)
 
 -- ---- the answer of bringing up both, after the fuses were prepared
 pub woken_ok : {T : Type 0} (accepts : Acceptance) (old mid new : World) (r : Result T Device) → Ran (migrated (story_of old)) old mid
     → OnOk r (Steps (bank_stretches accepts) mid new) → OnOk r (Steps (power_stretches accepts) old new)
-woken_ok accepts old mid new (Ok x) p q = woken accepts old mid new p q
+woken_ok accepts old mid new (Ok x) p q = Steps-crossed fuse_stretch (bank_stretches accepts) old mid new p q
 woken_ok accepts old mid new (Err device) p q = tt
 
 pub woken_err : {T : Type 0} (accepts : Acceptance) (old mid new : World) (r : Result T Device) → Ran (migrated (story_of old)) old mid
     → IfErr r (λ device. Halts (bank_stretches accepts) device mid new) → IfErr r (λ device. Halts (power_stretches accepts) device old new)
 woken_err accepts old mid new (Ok x) p q = tt
-woken_err accepts old mid new (Err device) p q = woken_halts accepts old mid new device p q
+woken_err accepts old mid new (Err device) p q = Halts-crossed fuse_stretch (bank_stretches accepts) device old mid new p q
 
 -- ---- the whole step
 pub powered_on : (accepts : Acceptance) (old up noted new : World) → Ran [] old up → Ran (Says (λ at. Power) ∷ []) up noted → Steps (power_stretches accepts) noted new → Follows (power_course accepts) old new

@@ -3,7 +3,9 @@ use Rattle.std.proofs.Common.{◌≡◌, ◌∙◌, refl, sym, ap, subst, ℕ, �
 use Rattle.pfr_flash.specs.declared.layout.Layout.{Layout}
 use Rattle.pfr_flash.specs.declared.layout.LayoutRule.{LayoutRule}
 use Rattle.pfr_flash.specs.Layout.{judge_layout}
+use Rattle.pfr_flash.specs.declared.flash.FlashFail.{FlashFail}
 use Rattle.pfr_flash.specs.declared.names.Counts.{Counts}
+use Rattle.pfr_flash.specs.declared.names.Device.{Device}
 use Rattle.pfr_report.specs.NotesState.{NotesState}
 use Rattle.pfr_report.specs.Texts.{AllText, HasText}
 use Rattle.pfr_report.specs.declared.note.Note.{Note}
@@ -11,12 +13,14 @@ use Rattle.pfr_report.specs.declared.note.What.{What}
 use Rattle.pfr_report.proofs.NotedLemmas.{AllText-append}
 use Rattle.pfr_flash.specs.declared.names.Bank.{Bank}
 use Rattle.pfr_calm.specs.Standing.{Standing, Off, standing_from, standing_after, standing_of}
-use Rattle.pfr_calm.specs.Story.{Says, counts_of}
-use Rattle.pfr_calm.specs.World.{story_of}
-use Rattle.pfr_calm.specs.Goes.{Ran}
+use Rattle.pfr_calm.specs.Story.{Move, Says, counts_of}
+use Rattle.pfr_calm.specs.World.{World, story_of}
+use Rattle.pfr_calm.specs.Goes.{Ran, Stopped}
 use Rattle.pfr_calm.specs.Authentication.{authentication_with}
 use Rattle.pfr_engine.specs.Acceptance.{Acceptance}
 use Rattle.pfr_fuses.specs.FusesState.{FusesState}
+use Rattle.pfr_fuses.specs.RootSlot.{layout_of}
+use Rattle.pfr_fuses.specs.declared.root_slot.RootSlot.{RootSlot}
 use Rattle.pfr_calm.specs.declared.authentication.Authentication.{Authentication}
 use Rattle.pfr_fuses.specs.declared.fuse_fail.FuseFail.{FuseFail}
 use Rattle.pfr_fuses.specs.declared.fuse_fail.FuseFail.TheVariants as fuse
@@ -24,17 +28,14 @@ use Rattle.pfr_machine.specs.Checks.{without_fuses}
 use Rattle.pfr_calm.proofs.Sequence.{Ran-says, Ran-power}
 use Rattle.pfr_machine.specs.PlatformState.{PlatformState, AddsNotes, with_note, switched}
 
-pub judge_as : (layout provisioned : Layout) (n size : ℕ) (r s : Result (Unit {0}) LayoutRule) → r ≡ judge_layout layout n → r ≡ s → layout ≡ provisioned → n ≡ size
-    → judge_layout provisioned size ≡ s
-judge_as layout provisioned n size r s a b c d = rw (← c, ← d, ← a) b
+pub judge_as : (bank : Bank) (layout : Layout) (root provision : RootSlot) (n size : ℕ) (r s : Result (Unit {0}) LayoutRule) → r ≡ judge_layout layout n → r ≡ s
+    → layout ≡ layout_of root bank → root ≡ provision → n ≡ size → judge_layout (layout_of provision bank) size ≡ s
+judge_as bank layout root provision n size r s a b c d e = rw (← d, ← e, ← c, ← a) b
 
 -- a bank of a platform that isn't provisioned
 without : (bank : Bank) (image : List ℕ) (accepts : Acceptance) (cause : FuseFail) → without_fuses cause ≡ authentication_with bank image accepts (Err cause)
 without bank image accepts fuse.SlotsSpent = refl
-without bank image accepts fuse.NotProvisioned = refl
-without bank image accepts fuse.AlreadyProvisioned = refl
-without bank image accepts (fuse.LayoutBad which rule) = refl
-without bank image accepts (fuse.Flash fail) = refl
+without bank image accepts _ = refl
 
 pub without_at : (bank : Bank) (image : List ℕ) (accepts : Acceptance) (found : Result FusesState FuseFail) (cause : FuseFail) (a : Authentication)
     → found ≡ Err cause → a ≡ without_fuses cause → a ≡ authentication_with bank image accepts found
@@ -70,6 +71,11 @@ switched_ran {E} on old new e =
     Ran-power on on on old.world new.world
     (ap (λ (s : PlatformState E). s.world.bmc) e) (ap (λ (s : PlatformState E). s.world.pch) e) (ap (λ (s : PlatformState E). s.world.nv) e) (ap (λ (s : PlatformState E). s.world.item) e)
     (ap (λ (s : PlatformState E). s.world.notes.list) e)
+
+-- where a call failed, by other names of the device and of how it failed
+pub stopped_as : {which found : Device} {fail end : FlashFail} {old new : World} (moves : List Move) → fail ≡ end → found ≡ which → Stopped moves found fail old new → Stopped moves which end old new
+stopped_as {which} {found} {fail} {end} {old} {new} moves f d s =
+    subst (λ (x : FlashFail). Stopped moves which x old new) f (subst (λ (x : Device). Stopped moves x fail old new) d s)
 
 -- one after the other
 pub AddsNotes-then : (m n : ℕ) (a b c : NotesState) → AddsNotes m a b → AddsNotes n b c → AddsNotes (m + n) a c

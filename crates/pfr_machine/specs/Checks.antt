@@ -14,7 +14,6 @@ use Rattle.pfr_report.specs.declared.note.LockWhy.{LockWhy}
 use Rattle.pfr_report.specs.declared.note.LockWhy.TheVariants.{NoGoodImage}
 use Rattle.pfr_calm.specs.declared.authentication.Authentication.{Authentication}
 use Rattle.pfr_calm.specs.declared.authentication.Authentication.TheVariants.{Unprovisioned, SlotsSpent as NoSlot, Untrusted, Trusted}
-use Rattle.pfr_engine.specs.Acceptance.{Acceptance}
 use Rattle.pfr_flash.specs.Answer as answers
 use Rattle.pfr_capsule.specs.Answer.{capsule_failure}
 use Rattle.pfr_capsule.specs.declared.fail.CapsuleFail.{CapsuleFail}
@@ -26,7 +25,7 @@ use Rattle.pfr_calm.specs.World.{World, IsOn}
 use Rattle.pfr_calm.specs.Plans.{refusal_of}
 use Rattle.pfr_flash.specs.Operation.{Operation}
 use Rattle.pfr_fuses.specs.Provisioning.{provision_plan}
-use Rattle.pfr_fuses.specs.RootSlot.{IsSlot, layout_of}
+use Rattle.pfr_fuses.specs.RootSlot.{layout_of}
 use Rattle.pfr_script.specs.declared.event.Event.{Event}
 use Rattle.pfr_script.specs.declared.event.Event.TheVariants as event
 use Rattle.pfr_fuses.specs.declared.root_slot.RootSlot.{RootSlot}
@@ -62,11 +61,6 @@ IsText why = Unit {0}
 abbrev pub without_fuses : FuseFail → Authentication
 without_fuses SlotsSpent = NoSlot
 without_fuses cause = Unprovisioned
-
--- what an event provisions is of numbers that a slot holds
-abbrev pub HasSlot : Event → Type 0
-HasSlot (event.Provision what) = IsSlot what
-HasSlot other = Unit {0}
 
 -- the event is taken: it is a power-on, or the banks aren't off
 abbrev pub IsTaken : Event → Lines → Type 0

@@ -3,7 +3,6 @@ use Rattle.std.specs.Prelude.{◌⊎◌, Some, None, ◌≡◌, ◌↔◌, ℕ, 
 use Rattle.std.specs.Cmp.Lexicographic.{pointwise}
 use Rattle.pfr_flash.specs.Bytes.{bytes_at}
 use Rattle.pfr_flash.specs.Layout.{judge_layout}
-use Rattle.pfr_flash.specs.declared.layout.Layout.{Layout}
 use Rattle.pfr_flash.specs.declared.layout.LayoutRule.{LayoutRule}
 use Rattle.pfr_flash.specs.FlashState.{FlashState}
 use Rattle.pfr_flash.specs.Reading.{EndsAt}
@@ -20,7 +19,6 @@ use Rattle.pfr_fuses.specs.declared.fuse_fail.FuseFail.{FuseFail}
 use Rattle.pfr_fuses.specs.declared.fuse_fail.FuseFail.TheVariants as fuse
 use Rattle.pfr_capsule.specs.CapsuleState.{CapsuleState}
 use Rattle.pfr_capsule.specs.Good.{IsGood}
-use Rattle.pfr_capsule.specs.Judge.{judge_capsule}
 use Rattle.pfr_capsule.specs.declared.fail.CapsuleFail.{CapsuleFail}
 use Rattle.pfr_capsule.specs.declared.fail.CapsuleFail.TheVariants as capsule
 use Rattle.pfr_auth.specs.Areas.{place_of, judge_area}

@@ -8,8 +8,7 @@ ghost use Rattle.pfr_calm.specs.Standing.{standing_of, standing_by};
 ghost use Rattle.pfr_fuses.specs.Growth.{NeverGoesBack, KeepsProvision};
 ghost use Rattle.pfr_calm.specs.World.{AllMoved, AreDevices, IsDark, state_at};
 ghost use Rattle.pfr_calm.specs.Turn.{Turn, next_item};
-ghost use Rattle.pfr_calm.specs.Promises.{ReleasesTrusted, LocksHaveCauses, BringsUpCalm, ProvisionsSo, FaultsAreNoted, FaultsHaveCauses, LossesAreNoted, LostEnds, LostIsDark, NotesOff, StaysQuiet, CallsNone, HasPower, DistrustsWithCause, NotesBelong, AreOff, IsPower};
-ghost use Rattle.pfr_machine.specs.Checks.{HasSlot};
+ghost use Rattle.pfr_calm.specs.Promises.{ReleasesTrusted, LocksHaveCauses, BringsUpCalm, ProvisionsSo, FaultsAreNoted, FaultsHaveCauses, LossesAreNoted, LostEnds, LostIsDark, NotesOff, StaysQuiet, CallsNone, HasPower, DistrustsWithCause, NotesBelong, AreOff, IsPower, IsKnownSlot};
 ghost use Rattle.pfr_calm.specs.Run.{armed, takes_arm, with_arm};
 
 use crate::lines::{Lines, OFF};
@@ -134,7 +133,7 @@ impl<F: Flash, E: Engine + Drop> Platform<F, E> {
         ensures texts { AllText self.old.world.notes.list → AllText self.new.world.notes.list }
         ensures grows { OnOk result (StoreGrows self.old.world.nv self.new.world.nv) }
         ensures size { OnOk result (size_of self.old.world.nv ≡ 32768) }
-        ensures spelled { OnOk result (¬ AreOff self.old.world → HasSlot event.now) }
+        ensures spelled { OnOk result (¬ AreOff self.old.world → IsKnownSlot event.now) }
         ensures untouched { OnOk result (CallsNone event.now self.old.world self.new.world) }
         ensures on { OnOk result (HasPower self.new.world) }
         ensures dark { OnOk result ((AreOff self.old.world → IsPower event.now) → AreOff self.new.world → IsDark self.new.world) }

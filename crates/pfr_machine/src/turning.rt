@@ -3,13 +3,13 @@ ghost use Rattle.std.specs.Prelude.{◌≡◌, ◌≢◌, ◌+◌, ◌*◌, ◌<
 ghost use Rattle.pfr_flash.specs.declared.names.Bank.TheVariants.{Bmc};
 ghost use Rattle.pfr_flash.specs.FlashState.{size_of};
 ghost use Rattle.pfr_report.specs.Texts.{AllText};
-ghost use Rattle.pfr_calm.specs.Promises.{IsPower};
+ghost use Rattle.pfr_calm.specs.Promises.{IsPower, IsKnownSlot};
 ghost use Rattle.pfr_calm.specs.World.{story_of, IsDark, SameDevices};
 ghost use Rattle.pfr_calm.specs.Standing.{standing_of, is_off};
 ghost use Rattle.pfr_calm.specs.Turn.{course, ignored, off_course, provision_course, where_off, next_item, Follows};
 ghost use Rattle.pfr_machine.specs.PlatformState.{AddsNotes, SameButRoom, SameStore, StoreGrows};
 ghost use Rattle.pfr_fuses.specs.RootSlot.{IsSlot};
-ghost use Rattle.pfr_machine.specs.Checks.{HasSlot, IsTaken};
+ghost use Rattle.pfr_machine.specs.Checks.{IsTaken};
 ghost use Rattle.pfr_machine.specs.WorksInside.{AreLines};
 
 use crate::lines::Lines;
@@ -105,7 +105,7 @@ impl<F: Flash, E: Engine + Drop> Works<F, E> {
         ensures notes { AddsNotes 64 self.old.world.notes self.new.world.notes }
         ensures texts { AllText self.old.world.notes.list → AllText self.new.world.notes.list }
         ensures grows { StoreGrows self.old.world.nv self.new.world.nv }
-        ensures spelled { ¬ (lines.bmc ≡ Line.Off) → HasSlot event.now }
+        ensures spelled { ¬ (lines.bmc ≡ Line.Off) → IsKnownSlot event.now }
     {
         match event {
             Event::Power => self.power(),

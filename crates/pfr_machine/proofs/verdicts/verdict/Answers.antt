@@ -1,8 +1,7 @@
 use Rattle.pfr_flash.proofs.RangeLemmas.{length-now}
-use Rattle.std.proofs.Common.{◌∙◌, refl, inl, Result, Ok, Err}
+use Rattle.std.proofs.Common.{◌∙◌, refl, inl}
 use Rattle.std.proofs.lemmas.Result.{err_from_is_err_and}
-use Rattle.pfr_machine.proofs.VerdictLaw.{ends_either}
-use Rattle.pfr_machine.proofs.VerdictLaw.{verdict_floor, verdict_is, verdict_means}
+use Rattle.pfr_machine.proofs.VerdictLaw.{ends_either, verdict_floor, verdict_is, verdict_means}
 use Rattle.pfr_machine.proofs.verdicts.verdict.Goals as goal
 
 pub returns-in_err-found-clause-ends : goal.returns-in_err-found-clause-ends

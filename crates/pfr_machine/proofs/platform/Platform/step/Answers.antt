@@ -5,7 +5,9 @@ use Rattle.pfr_calm.proofs.FaultLaws.{Turn-faults_noted}
 use Rattle.pfr_calm.proofs.StepTraces.{Turn-moved}
 use Rattle.pfr_calm.proofs.PowerLaws.{Turn-brings_up}
 use Rattle.pfr_calm.proofs.LossLaws.{Turn-losses, Turn-lost_ends, Turn-notes_off, Turn-stays_quiet}
-use Rattle.pfr_machine.proofs.TurnLemmas.{by_turn, by_both, by_three, provisions_so, keeps_so, lost_is_dark}
+use Rattle.pfr_calm.proofs.GrowthLaws.{Turn-keeps_provision}
+use Rattle.pfr_calm.proofs.ProvisionLaws.{Turn-provisions}
+use Rattle.pfr_machine.proofs.TurnLemmas.{by_turn, by_both, by_three, lost_is_dark}
 use Rattle.pfr_machine.proofs.platform.Platform.step.Goals as goal
 
 pub returns-clause-released : goal.returns-clause-released
@@ -36,10 +38,10 @@ pub returns-clause-moved : goal.returns-clause-moved
 returns-clause-moved g c = by_turn c.work-done.result c.work-done.ensures.turn (λ t. Turn-moved _ c.args.event.now _ _ t)
 
 pub returns-clause-provision : goal.returns-clause-provision
-returns-clause-provision g c = by_three c.work-done.result c.work-done.ensures.turn c.work-done.ensures.size c.work-done.ensures.spelled (λ t size slot. keeps_so _ c.args.event.now _ _ size slot t)
+returns-clause-provision g c = by_three c.work-done.result c.work-done.ensures.turn c.work-done.ensures.size c.work-done.ensures.spelled (λ t size slot. Turn-keeps_provision _ c.args.event.now _ _ size slot t)
 
 pub returns-clause-provisions : goal.returns-clause-provisions
-returns-clause-provisions g c = by_three c.work-done.result c.work-done.ensures.turn c.work-done.ensures.size c.work-done.ensures.spelled (λ t size slot. provisions_so _ c.args.event.now _ _ size slot t)
+returns-clause-provisions g c = by_three c.work-done.result c.work-done.ensures.turn c.work-done.ensures.size c.work-done.ensures.spelled (λ t size slot. Turn-provisions _ c.args.event.now _ _ size slot t)
 
 pub returns-clause-grows : goal.returns-clause-grows
 returns-clause-grows g c = by_turn c.work-done.result c.work-done.ensures.grows (λ h. h.grows)
