@@ -95,7 +95,7 @@ fn is_stored<R: Files<File = File>>(rt: &R, path: Path<'_>, bytes: &[u8]) -> io:
     }
     let mut room = [0; PIECE];
     for wanted in bytes.chunks(PIECE) {
-        let found = &mut room[..wanted.len()];
+        let found = &mut room[..wanted.len().min(PIECE)];
         file.read_exact(found)?;
         if *found != *wanted {
             return Ok(false);
