@@ -38,7 +38,7 @@ const CERTIFICATE: &[&str] = &["made.cert", "made.cert.engine"];
 type Call = (u32, u32, u8, &'static str, &'static str, usize);
 
 // The last call of each command that fails is one that it doesn't make.
-const RUNS: [Call; 10] = [
+const RUNS: &[Call] = &[
     (1, 99, 4, "", "error: cannot read bmc\n", 0),
     (2, 99, 4, "", "error: cannot read pch\n", 0),
     (3, 99, 4, "", "error: cannot read nv\n", 0),
@@ -51,7 +51,7 @@ const RUNS: [Call; 10] = [
     (9, 99, 0, REPORT, "", 0),
 ];
 
-const CHECKS: [Call; 5] = [
+const CHECKS: &[Call] = &[
     (1, 99, 4, "", "error: cannot read bmc\n", 0),
     (4, 99, 4, "", "error: cannot read engine\n", 0),
     (4, 1, 4, "", "", 0),
@@ -59,7 +59,7 @@ const CHECKS: [Call; 5] = [
     (5, 99, 0, "bmc unprovisioned\n", "pch unprovisioned\n", 0),
 ];
 
-const MAKES: [Call; 12] = [
+const MAKES: &[Call] = &[
     (1, 99, 4, "", "error: cannot read description\n", 0),
     (2, 99, 4, "", "error: cannot read bmc-image\n", 0),
     (3, 99, 4, "", "error: cannot read bmc-staged\n", 0),
@@ -74,13 +74,13 @@ const MAKES: [Call; 12] = [
     (11, 1, 0, "", "", 5),
 ];
 
-const PROVISIONS: [Call; 3] = [
+const PROVISIONS: &[Call] = &[
     (1, 99, 4, "", "error: cannot read description\n", 0),
     (2, 99, 6, "", "error: cannot store nv\n", 0),
     (3, 1, 0, "", "", 1),
 ];
 
-const CERTS: [Call; 4] = [
+const CERTS: &[Call] = &[
     (1, 99, 4, "", "error: cannot read description\n", 0),
     (2, 99, 6, "", "error: cannot store cert\n", 0),
     (3, 99, 6, "", "error: cannot store engine\n", 1),
@@ -113,7 +113,73 @@ fn want_files(
     Ok(())
 }
 
-// Does what the words ask for with each of these failures. There is a bench where a run's files were all loaded.
+// What a command left.
+#[derive(Drop)]
+struct Ended {
+    code: u8,
+    has_bench: bool,
+    out: MemSink,
+    shelf: MemShelf,
+}
+
+// Does what the words ask for, where this call of the shelf fails and this one of the sink.
+fn end(
+    alloc: Global,
+    words: &Vec<String>,
+    image: &[u8],
+    shelf_call: u32,
+    sink_call: u32,
+) -> Result<Ended, Fail>
+    requires shelf { 0 < shelf_call }
+    requires sink { 0 < sink_call }
+{
+    let mut shelf = all_files(alloc, image)?;
+    let mut out = MemSink::new(alloc, 65_536)?;
+    shelf.fail_call(shelf_call);
+    out.fail_call(sink_call);
+    let finished = pfr(alloc, words, &mut shelf, &mut out);
+    Ok(Ended {
+        code: finished.status.code(),
+        has_bench: finished.bench.is_some(),
+        out,
+        shelf,
+    })
+}
+
+// Wants that the report was written, and the error line behind it.
+fn want_written(
+    rt: &impl Abort,
+    alloc: Global,
+    written: &[u8],
+    report: &str,
+    line: &str,
+) -> Result<(), Fail> {
+    let wanted = format!(in alloc; "{}{}", report, line)?;
+    assert!(rt; written == wanted.as_bytes(), "{line}");
+    Ok(())
+}
+
+// Does what the words ask for with these failures. There is a bench where a run's files were all loaded.
+fn want_call(
+    rt: &impl Abort,
+    alloc: Global,
+    words: &Vec<String>,
+    image: &[u8],
+    call: &Call,
+    names: &[&str],
+) -> Result<(), Fail> {
+    let (shelf_call, sink_call, code, report, line, count) = *call;
+    assert!(rt; shelf_call > 0);
+    assert!(rt; sink_call > 0);
+    let mut ended = end(alloc, words, image, shelf_call, sink_call)?;
+    assert_eq!(rt; ended.code, code);
+    assert_eq!(rt; ended.has_bench, words.len() == 6 && code != 4);
+    want_written(rt, alloc, ended.out.bytes(), report, line)?;
+    ended.shelf.fail_call(99);
+    want_files(rt, alloc, &mut ended.shelf, names, count)
+}
+
+// Does it with each of these failures.
 fn want_calls(
     rt: &impl Abort,
     alloc: Global,
@@ -123,31 +189,33 @@ fn want_calls(
 ) -> Result<(), Fail> {
     let image = small_image(alloc)?;
     let list = word_list(alloc, words)?;
-    for (shelf_call, sink_call, status, report, line, count) in calls {
-        let mut shelf = all_files(alloc, image.as_slice())?;
-        let mut out = MemSink::new(alloc, 65_536)?;
-        assert!(rt; *shelf_call > 0);
-        assert!(rt; *sink_call > 0);
-        shelf.fail_call(*shelf_call);
-        out.fail_call(*sink_call);
-        let finished = pfr(alloc, &list, &mut shelf, &mut out);
-        assert_eq!(rt; finished.status.code(), *status);
-        let wanted = format!(in alloc; "{}{}", report, line)?;
-        assert!(rt; out.bytes() == wanted.as_bytes(), "{line}");
-        let is_played = words.len() == 6 && *status != 4;
-        assert_eq!(rt; finished.bench.is_some(), is_played);
-        shelf.fail_call(99);
-        want_files(rt, alloc, &mut shelf, names, *count)?;
+    for call in calls {
+        want_call(rt, alloc, &list, image.as_slice(), call, names)?;
     }
     Ok(())
 }
 
 #[test]
-fn failing_calls(rt: HostRuntime) -> Result<(), Fail> {
-    let alloc = rt.alloc();
-    want_calls(&rt, alloc, RUN, &RUNS, &[])?;
-    want_calls(&rt, alloc, CHECK, &CHECKS, &[])?;
-    want_calls(&rt, alloc, MAKE, &MAKES, MADE)?;
-    want_calls(&rt, alloc, PROVISION, &PROVISIONS, STORE)?;
-    want_calls(&rt, alloc, CERT, &CERTS, CERTIFICATE)
+fn failing_calls_of_run(rt: HostRuntime) -> Result<(), Fail> {
+    want_calls(&rt, rt.alloc(), RUN, RUNS, &[])
+}
+
+#[test]
+fn failing_calls_of_check(rt: HostRuntime) -> Result<(), Fail> {
+    want_calls(&rt, rt.alloc(), CHECK, CHECKS, &[])
+}
+
+#[test]
+fn failing_calls_of_make(rt: HostRuntime) -> Result<(), Fail> {
+    want_calls(&rt, rt.alloc(), MAKE, MAKES, MADE)
+}
+
+#[test]
+fn failing_calls_of_provision(rt: HostRuntime) -> Result<(), Fail> {
+    want_calls(&rt, rt.alloc(), PROVISION, PROVISIONS, STORE)
+}
+
+#[test]
+fn failing_calls_of_cert(rt: HostRuntime) -> Result<(), Fail> {
+    want_calls(&rt, rt.alloc(), CERT, CERTS, CERTIFICATE)
 }

@@ -1,6 +1,6 @@
 -- What a bench promises, by the laws of whole runs.
-use Rattle.std.proofs.Common.{◌≡◌, sym, refl, subst, ℕ, List, take, Option, Some, None}
-use Rattle.std.specs.Prelude.{IfSome}
+use Rattle.std.proofs.Common.{◌≡◌, ap, sym, refl, subst, ℕ, List, [], take, Option, Some, None}
+use Rattle.std.specs.Prelude.{IfSome, slice_index_or}
 use Rattle.pfr_flash.specs.FlashState.{FlashState, Rose}
 use Rattle.pfr_flash.specs.Holding.{HoldsBytes}
 use Rattle.pfr_flash.specs.declared.names.Bank.{Bank}
@@ -13,17 +13,17 @@ use Rattle.pfr_script.specs.declared.item.Item.TheVariants as item
 use Rattle.pfr_report.specs.Texts.{IsNoted}
 use Rattle.pfr_report.specs.declared.note.LockWhy.TheVariants.{FlashFault}
 use Rattle.pfr_report.specs.declared.note.What.TheVariants.{Locked}
-use Rattle.pfr_calm.specs.Story.{device_of}
+use Rattle.pfr_calm.specs.Story.{Story, device_of}
 use Rattle.pfr_calm.specs.World.{World, story_of, state_at}
 use Rattle.pfr_calm.specs.Run.{Did}
 use Rattle.pfr_calm.specs.Spans.{ReleasedSpans}
 use Rattle.pfr_calm.specs.Promises.{FaultsAreNoted, ReleasesTrusted, LocksHaveCauses, FaultsHaveCauses, added}
 use Rattle.pfr_calm.proofs.Bytes.{HaveBytes, have_bytes}
-use Rattle.pfr_calm.proofs.FaultLaws.{Reached-faults_noted}
+use Rattle.pfr_calm.proofs.FaultLaws.{Reached-faults_noted, Turn-faults_noted}
 use Rattle.pfr_calm.proofs.PowerLaws.{Turn-brings_up}
-use Rattle.pfr_calm.proofs.RunLaws.{IsFresh, Reached-spans, Reached-releases, Reached-causes, Reached-faults, Reached-with}
-use Rattle.pfr.specs.Benches.{fresh_of, end_of, StandsAs, HasRun}
-use Rattle.pfr.specs.Promises.{TellsOfFaults, HasReleasedSpans, ReleasesTrustedBanks, HasDueLocks, BringsBanksUp, BringsUpIn, KeepsFuses, StaysProvisioned}
+use Rattle.pfr_calm.proofs.RunLaws.{IsFresh, Reached-spans, Reached-releases, Reached-causes, Reached-faults, Reached-with, armed_story, failed_armed}
+use Rattle.pfr.specs.Benches.{fresh_of, end_of, StandsAs, HasRun, IsRun}
+use Rattle.pfr.specs.Promises.{TellsOfFaults, TellsIn, IsUnheard, IsRunWith, HasReleasedSpans, ReleasesTrustedBanks, HasDueLocks, BringsBanksUp, BringsUpIn, KeepsFuses, StaysProvisioned}
 use Rattle.pfr.specs.declared.finished.Bench.{Bench}
 
 -- ---- a world, but for the number of its items and the memory for notes
@@ -94,30 +94,45 @@ has_locks bench has =
           (Reached-faults accepts bench.script.tears (take has.count bench.script.items) (fresh_of bench) has.run.end (fresh_start bench has) has.run.reached (held_at bench has.run.end has.run.left)));
     }
 
-has_told : (bench : Bench) → HasRun bench → TellsOfFaults bench
-has_told bench has =
-    let accepts = acceptance bench.engine in
-    of_end (λ (w : World). FaultsAreNoted (fresh_of bench) w) bench has (told_as (fresh_of bench) has.run.end (end_of bench).item (end_of bench).notes.spare
-    (Reached-faults_noted accepts bench.script.tears (take has.count bench.script.items) (fresh_of bench) has.run.end has.run.reached))
-
 has_grown : (bench : Bench) → HasRun bench → KeepsFuses bench
 has_grown bench has = has.grown
 
 has_provision : (bench : Bench) → HasRun bench → StaysProvisioned bench
 has_provision bench has = has.kept
 
+-- of each item of a run what its step did says this
+run_with : (bench : Bench) (Goes : Item → World → World → Type 0)
+    → ((i : Item) (old new : World) → HaveBytes new → Did (acceptance bench.engine) bench.script.tears i old new → Goes i old new)
+    → (items : List Item) → IsRun items bench → IsRunWith Goes items bench
+run_with bench Goes did items run = record {
+  end = run.end;
+  reached = Reached-with (acceptance bench.engine) bench.script.tears Goes did items (fresh_of bench) run.end (held_at bench run.end run.left) run.reached;
+  left = run.left;
+}
+
+did_tells : (accepts : Acceptance) (tears : List (List ℕ)) (i : Item) (old new : World) → Did accepts tears i old new → TellsIn i old new
+did_tells accepts tears (item.Event e) old new t = Turn-faults_noted accepts e old new t
+did_tells accepts tears (item.Arm arm) old new is =
+    let tear = slice_index_or tears arm.tear [] in
+    subst (λ (w : World). IsUnheard old w) (sym is)
+    (record { notes = ap (λ (s : Story). s.notes) (armed_story arm tear old); none_failed = failed_armed arm tear old })
+
+has_told : (bench : Bench) → HasRun bench → TellsOfFaults bench
+has_told bench has =
+    let accepts = acceptance bench.engine in
+    record {
+      whole = of_end (λ (w : World). FaultsAreNoted (fresh_of bench) w) bench has (told_as (fresh_of bench) has.run.end (end_of bench).item (end_of bench).notes.spare
+          (Reached-faults_noted accepts bench.script.tears (take has.count bench.script.items) (fresh_of bench) has.run.end has.run.reached));
+      each = run_with bench TellsIn (λ i old new held did. did_tells accepts bench.script.tears i old new did);
+    }
+
 did_brings : (accepts : Acceptance) (tears : List (List ℕ)) (i : Item) (old new : World) → HaveBytes new → Did accepts tears i old new → BringsUpIn accepts i old new
 did_brings accepts tears (item.Event e) old new held t = Turn-brings_up accepts e old new held t
 did_brings accepts tears (item.Arm arm) old new held is = tt
 
 brings_up : (bench : Bench) → BringsBanksUp bench
-brings_up bench items run =
-    let accepts = acceptance bench.engine in
-    record {
-      end = run.end;
-      reached = Reached-with accepts bench.script.tears (BringsUpIn accepts) (λ i old new held did. did_brings accepts bench.script.tears i old new held did) items (fresh_of bench) run.end (held_at bench run.end run.left) run.reached;
-      left = run.left;
-    }
+brings_up bench =
+    run_with bench (BringsUpIn (acceptance bench.engine)) (did_brings (acceptance bench.engine) bench.script.tears)
 
 -- ---- of each bench
 of_each : (P : Bench → Type 0) → ((bench : Bench) → HasRun bench → P bench) → (option : Option Bench) → IfSome option HasRun → IfSome option P

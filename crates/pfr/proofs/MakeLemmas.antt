@@ -3,7 +3,8 @@ use Rattle.std.proofs.Common.{◌≡◌, subst, inr, ℕ, List, Bool, true, Opti
 use Rattle.pfr_shelf.specs.Failures.{Failure}
 use Rattle.pfr_shelf.specs.Files.{Files}
 use Rattle.pfr.specs.Judging.{FileRow}
-use Rattle.pfr.specs.Makes.{IsBlamedStore, MakesFor, StopsAt, shelf_alone}
+use Rattle.pfr.specs.Makes.{MakesFor, StopsAt, shelf_alone}
+use Rattle.pfr.specs.Storing.{IsBlamedStore}
 use Rattle.pfr.specs.MakesInside.{Prepares, Stores, names_of}
 use Rattle.pfr.specs.Making.{StoredFile}
 use Rattle.pfr.specs.declared.status.Role.{Role}

@@ -4,8 +4,9 @@ use Rattle.std.proofs.lemmas.List.{take-append-drop, drop_more, take_more, map-a
 use Rattle.pfr_shelf.specs.Failures.{Failure}
 use Rattle.pfr_shelf.specs.Files.{Files, put_file}
 use Rattle.pfr.specs.Making.{StoredFile}
-use Rattle.pfr.specs.Makes.{IsBlamedStore, StopsAt, put_all}
+use Rattle.pfr.specs.Makes.{StopsAt, put_all}
 use Rattle.pfr.specs.MakesInside.{RefusesStores, Stores, names_of}
+use Rattle.pfr.specs.Storing.{IsBlamedStore}
 use Rattle.pfr.specs.declared.status.Role.{Role}
 use Rattle.pfr.specs.declared.status.Status.{Status}
 use Rattle.pfr.specs.declared.status.Status.TheVariants.{Done, Usage, BadInput, TooLong, ReadFault, WriteFault, StoreFault, NoMemory}

@@ -4,7 +4,7 @@ use Rattle.pfr_shelf.specs.Failures.{Failure, failing}
 use Rattle.pfr_shelf.specs.Files.{Files}
 use Rattle.pfr_shelf.specs.declared.failure.Access.TheVariants.{Store}
 use Rattle.pfr.specs.Request.{RunRequest}
-use Rattle.pfr.specs.Storing.{IsBlamedStore, RefusesImages, RefusesStore, StopsStoring}
+use Rattle.pfr.specs.Storing.{IsBlamedStore, RefusesImages, RefusesStore, StopsStoring, image_names}
 use Rattle.pfr.specs.declared.finished.Bench.{Bench}
 use Rattle.pfr.specs.declared.status.Role.{Role}
 use Rattle.pfr.specs.declared.status.Status.{Status}
@@ -12,10 +12,10 @@ use Rattle.pfr.specs.declared.status.Status.TheVariants.{Done, Usage, BadInput, 
 
 -- the store of this image's file failed, and of those before it none
 pub refuses_image : (role : Role) (name : List ℕ) (told : Bool) (old new : Files) (before mid after : ℕ) (failed : Option Failure) (request : RunRequest) (bench : Bench) (status : Status) → RefusesStore role name mid after failed status → before ≤ mid
-    → (failed ≡ Some (failing Store name) → IsBlamedStore role request failed) → (told ≡ true → StopsStoring role old request bench new) → RefusesImages told old new before after failed request bench status
+    → (failed ≡ Some (failing Store name) → IsBlamedStore role (image_names request) failed) → (told ≡ true → StopsStoring role old request bench new) → RefusesImages told old new before after failed request bench status
 refuses_image role name told old new before mid after failed request bench (StoreFault file) r h blamed stops = (
   let rose = r.1 in omega arith,
-  subst (λ (role : Role). IsBlamedStore role request failed) (sym r.0) (blamed r.2),
+  subst (λ (role : Role). IsBlamedStore role (image_names request) failed) (sym r.0) (blamed r.2),
   λ t. subst (λ (role : Role). StopsStoring role old request bench new) (sym r.0) (stops t),
 )
 refuses_image role name told old new before mid after failed request bench NoMemory r h blamed stops = λ t. (role, stops t)

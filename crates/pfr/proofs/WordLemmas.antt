@@ -1,15 +1,13 @@
 -- The numbers that words spell.
-use Rattle.std.proofs.Common.{◌≡◌, ℕ, ◌<◌, ◌≤◌, ◌==◌, true, false, not, nat_le, List, [], ◌∷◌, length, Option, Some, None, Result, Ok, Err, refl, arith, rules, if◌then◌else◌}
+use Rattle.std.proofs.Common.{◌≡◌, ℕ, ◌<◌, ◌≤◌, ◌==◌, true, false, not, nat_le, List, [], ◌∷◌, length, Option, Some, None, Result, Ok, Err, refl, arith, if◌then◌else◌}
 use Rattle.std.specs.Char.{is_ascii_digit}
 use Rattle.std.specs.List.{list_all}
 use Rattle.std.specs.Str.Parse.{digits_value, ParsesUnsigned}
 use Rattle.std.proofs.lemmas.Bool.{and_parts}
 use Rattle.std.proofs.lemmas.Bool.Decides.{nat_tests}
-use Rattle.std.proofs.lemmas.Str.Parse.{IsNumeralModel, numerals_by_value, parse_digits}
+use Rattle.std.proofs.lemmas.Str.Parse.{parse_digits}
+use Rattle.pfr_script.proofs.NumberLemmas.{numerals}
 use Rattle.pfr.specs.Commands.{id_of, is_decimal, is_numeral, run_request, wear_of}
-
-numerals : IsNumeralModel (λ ds. list_all is_ascii_digit ds ≡ true) (digits_value 10)
-numerals = numerals_by_value (λ ds. list_all is_ascii_digit ds ≡ true) (search rules)
 
 digits_of : (word : List ℕ) → is_numeral word ≡ true → list_all is_ascii_digit word ≡ true
 digits_of [] h = cc

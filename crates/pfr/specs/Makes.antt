@@ -1,12 +1,12 @@
 -- What a command that makes files does, status by status.
-use Rattle.std.specs.Prelude.{◌≡◌, ◌≢◌, ◌⊎◌, ℕ, List, [], ◌∷◌, Bool, true, Option, Some, None, All}
+use Rattle.std.specs.Prelude.{◌≡◌, ◌≢◌, ◌⊎◌, ℕ, List, [], ◌∷◌, Bool, true, Option, None, All}
 use Rattle.pfr_flash.specs.FlashState.{Rose}
-use Rattle.pfr_shelf.specs.Failures.{Failure, failing}
+use Rattle.pfr_shelf.specs.Failures.{Failure}
 use Rattle.pfr_shelf.specs.Files.{Files, put_file, SameBut}
-use Rattle.pfr_shelf.specs.declared.failure.Access.TheVariants.{Store}
 use Rattle.pfr.specs.Judging.{FileRow, Keeps, RefusesFor, verdict}
 use Rattle.pfr.specs.Making.{StoredFile}
 use Rattle.pfr.specs.Runs.{Outside}
+use Rattle.pfr.specs.Storing.{IsBlamedStore}
 use Rattle.pfr.specs.declared.finished.Bench.{Bench}
 use Rattle.pfr.specs.declared.status.Role.{Role}
 use Rattle.pfr.specs.declared.status.Status.{Status}
@@ -21,11 +21,6 @@ put_all (stored ∷ others) files = put_all others (put_file files stored.name s
 abbrev pub StopsAt : Role → List StoredFile → Files → Files → Type 0
 StopsAt file [] old new = ⊥
 StopsAt file (stored ∷ others) old new = ((stored.role ≡ file) × SameBut stored.name old new) ⊎ StopsAt file others (put_file old stored.name stored.bytes) new
-
--- the last call that failed is a store of this role's file
-abbrev pub IsBlamedStore : Role → List (Role × List ℕ) → Option Failure → Type 0
-IsBlamedStore file [] failed = ⊥
-IsBlamedStore file (named ∷ others) failed = ((named.0 ≡ file) × (failed ≡ Some (failing Store named.1))) ⊎ IsBlamedStore file others failed
 
 -- The files of the shelf where it tells them. Where it does not, some files: a description that nobody tells may name any.
 abbrev pub MayHold : Bool → Files → Files → Type 0

@@ -15,7 +15,8 @@ use Rattle.pfr_made.specs.Made.{active_image, flash_of, rows_of}
 use Rattle.pfr_tool.specs.declared.bank_image.Made.{Made}
 use Rattle.pfr_tool.specs.declared.certificate.MadeCert.{MadeCert}
 use Rattle.pfr.specs.Judging.{FileRow, Keeps, verdict}
-use Rattle.pfr.specs.Makes.{IsBlamedStore, RefusesSome, StopsAt, put_all}
+use Rattle.pfr.specs.Makes.{RefusesSome, StopsAt, put_all}
+use Rattle.pfr.specs.Storing.{IsBlamedStore}
 use Rattle.pfr.specs.Making.{StoredFile, bmc_capsule_name, bmc_name, cert_engine_name, cert_name, engine_name, image_in, pch_capsule_name, pch_name, staged_in}
 use Rattle.pfr.specs.Request.{MakeRequest, ProvisionRequest, CertRequest}
 use Rattle.pfr.specs.declared.making.MadeFiles.{MadeFiles}

@@ -1,12 +1,12 @@
 -- What a bench promises.
-use Rattle.std.specs.Prelude.{List}
+use Rattle.std.specs.Prelude.{◌≡◌, List}
 use Rattle.pfr_flash.specs.declared.names.Bank.{Bank}
 use Rattle.pfr_engine.specs.Acceptance.{Acceptance}
 use Rattle.pfr_engine.specs.Accepting.{acceptance}
 use Rattle.pfr_fuses.specs.Growth.{NeverGoesBack, KeepsProvision}
 use Rattle.pfr_script.specs.declared.item.Item.{Item}
 use Rattle.pfr_script.specs.declared.item.Item.TheVariants as item
-use Rattle.pfr_calm.specs.World.{World, story_of}
+use Rattle.pfr_calm.specs.World.{NoneFailed, World, story_of}
 use Rattle.pfr_calm.specs.Run.{Did, Reached}
 use Rattle.pfr_calm.specs.Spans.{ReleasedSpans}
 use Rattle.pfr_calm.specs.Promises.{FaultsAreNoted, ReleasesTrusted, LocksHaveCauses, FaultsHaveCauses, BringsUpCalm}
@@ -26,10 +26,6 @@ pub record HasDueLocks (bench : Bench) : Type 0 where
   pub contents : LocksHaveCauses (acceptance bench.engine) (fresh_of bench) (end_of bench)
   pub faults : FaultsHaveCauses (fresh_of bench) (end_of bench)
 
--- No fault of a device was passed over: where no bank was locked for one, no call of a device answered one.
-abbrev pub TellsOfFaults : Bench → Type 0
-TellsOfFaults bench = FaultsAreNoted (fresh_of bench) (end_of bench)
-
 -- No floor and no cancellation was ever taken back.
 abbrev pub KeepsFuses : Bench → Type 0
 KeepsFuses bench = NeverGoesBack (fresh_of bench).nv bench.nv.device
@@ -48,6 +44,22 @@ pub record IsRunWith (Goes : Item → World → World → Type 0) (items : List 
   pub end : World
   pub reached : Reached (λ item old new. Did (acceptance bench.engine) bench.script.tears item old new × Goes item old new) items (fresh_of bench) end
   pub left : StandsAs end (end_of bench)
+
+-- an item that does nothing that is noted: an arm adds no note, and no call of a device answers a fault
+pub record IsUnheard (old new : World) : Type 0 where
+  pub notes : new.notes.list ≡ old.notes.list
+  pub none_failed : NoneFailed old new
+
+-- no fault of a device was passed over in this item
+abbrev pub TellsIn : Item → World → World → Type 0
+TellsIn (item.Event event) old new = FaultsAreNoted old new
+TellsIn (item.Arm arm) old new = IsUnheard old new
+
+-- No fault of a device was passed over: where no bank was locked for one, no call of a device answered one. So it is of the
+-- whole run, and of each of its items.
+pub record TellsOfFaults (bench : Bench) : Type 0 where
+  pub whole : FaultsAreNoted (fresh_of bench) (end_of bench)
+  pub each : (items : List Item) → IsRun items bench → IsRunWith TellsIn items bench
 
 -- In the run each power-on released each bank that was trusted and locked each that had a cause, unless a device failed.
 abbrev pub BringsBanksUp : Bench → Type 0

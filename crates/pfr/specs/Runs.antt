@@ -8,7 +8,7 @@ use Rattle.pfr_shelf.specs.Pieces.{AppendsPart}
 use Rattle.pfr.specs.Benches.{IsRun, HasRooms, IsMadeOf}
 use Rattle.pfr.specs.Judging.{Keeps, RefusesFor, run_rows, verdict}
 use Rattle.pfr.specs.Request.{RunRequest}
-use Rattle.pfr.specs.Storing.{with_images, IsBlamedStore, StopsStoring, RefusesImages}
+use Rattle.pfr.specs.Storing.{with_images, IsBlamedStore, StopsStoring, RefusesImages, image_names}
 use Rattle.pfr.specs.declared.finished.Bench.{Bench}
 use Rattle.pfr.specs.declared.status.Role.{Role}
 use Rattle.pfr.specs.declared.status.Status.{Status}
@@ -78,7 +78,7 @@ RunAnswers told before after request option WriteFault =
 RunAnswers told before after request option (StoreFault file) =
     IsSomeAnd option (λ bench. IsWhole told before request bench
     × Rose before.shelf_faults after.shelf_faults
-    × IsBlamedStore file request after.shelf_failed
+    × IsBlamedStore file (image_names request) after.shelf_failed
     × (told ≡ true → StopsStoring file before.files request bench after.files))
 RunAnswers told before after request option NoMemory =
     StopsEarly told before after request option ⊎ IsSomeAnd option (StopsLate told before after request)

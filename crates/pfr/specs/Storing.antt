@@ -1,5 +1,5 @@
 -- The stores of the images.
-use Rattle.std.specs.Prelude.{◌≡◌, ◌≢◌, ℕ, List, Bool, true, Option, Some}
+use Rattle.std.specs.Prelude.{◌≡◌, ◌≢◌, ◌⊎◌, ℕ, List, [], ◌∷◌, Bool, true, Option, Some}
 use Rattle.pfr_flash.specs.FlashState.{now, Rose}
 use Rattle.pfr_shelf.specs.Failures.{Failure, failing}
 use Rattle.pfr_shelf.specs.Files.{Files, put_file, SameBut}
@@ -32,12 +32,14 @@ StopsStoring _ files request bench new = ⊥
 abbrev pub KeepsOthers : RunRequest → Files → Files → Type 0
 KeepsOthers request old new = (name : List ℕ) → name ≢ request.bmc → name ≢ request.pch → name ≢ request.nv → new name ≡ old name
 
--- the last call that failed was the store of this device's bytes
-abbrev pub IsBlamedStore : Role → RunRequest → Option Failure → Type 0
-IsBlamedStore role.Bmc request failed = failed ≡ Some (failing Store request.bmc)
-IsBlamedStore role.Pch request failed = failed ≡ Some (failing Store request.pch)
-IsBlamedStore role.Nv request failed = failed ≡ Some (failing Store request.nv)
-IsBlamedStore _ request failed = ⊥
+-- the last call that failed was the store of this role's file, of files of these roles and names
+abbrev pub IsBlamedStore : Role → List (Role × List ℕ) → Option Failure → Type 0
+IsBlamedStore file [] failed = ⊥
+IsBlamedStore file (named ∷ others) failed = ((named.0 ≡ file) × (failed ≡ Some (failing Store named.1))) ⊎ IsBlamedStore file others failed
+
+-- the roles and the names of the images
+abbrev pub image_names : RunRequest → List (Role × List ℕ)
+image_names request = (role.Bmc, request.bmc) ∷ (role.Pch, request.pch) ∷ (role.Nv, request.nv) ∷ []
 
 -- a store of a file of this role and name gives this status only with its cause
 abbrev pub RefusesStore : Role → List ℕ → ℕ → ℕ → Option Failure → Status → Type 0
@@ -49,6 +51,6 @@ RefusesStore role name before after failed status = ⊥
 -- the stores of the images give this status only so
 abbrev pub RefusesImages : Bool → Files → Files → ℕ → ℕ → Option Failure → RunRequest → Bench → Status → Type 0
 RefusesImages told old new before after failed request bench (StoreFault file) =
-    Rose before after × IsBlamedStore file request failed × (told ≡ true → StopsStoring file old request bench new)
+    Rose before after × IsBlamedStore file (image_names request) failed × (told ≡ true → StopsStoring file old request bench new)
 RefusesImages told old new before after failed request bench NoMemory = told ≡ true → (file : Role) × StopsStoring file old request bench new
 RefusesImages told old new before after failed request bench status = ⊥

@@ -11,11 +11,11 @@ use Rattle.pfr.specs.Judging.{FileRow, run_rows, check_rows}
 use Rattle.pfr.specs.Lines.{error_line}
 use Rattle.pfr.specs.Making.{cert_names, cert_rows, make_names, make_rows, provision_names, provision_rows}
 use Rattle.pfr.specs.Runs.{Outside, Said}
+use Rattle.pfr.specs.Storing.{image_names}
 use Rattle.pfr.specs.declared.finished.Bench.{Bench}
 use Rattle.pfr.specs.declared.words.Command.{Command}
 use Rattle.pfr.specs.declared.words.Command.TheVariants.{Run, Check, Make, Provision, Cert}
 use Rattle.pfr.specs.declared.status.Role.{Role}
-use Rattle.pfr.specs.declared.status.Role.TheVariants as role
 use Rattle.pfr.specs.declared.status.Status.{Status}
 use Rattle.pfr.specs.declared.status.Status.TheVariants.{Done, WriteFault, StoreFault, NoMemory}
 
@@ -65,7 +65,7 @@ rows_of (Cert request) files = cert_rows request files
 
 -- the roles and the names of the files that a command stores
 abbrev pub stored_names : Command → List (Role × List ℕ)
-stored_names (Run request) = (role.Bmc, request.bmc) ∷ (role.Pch, request.pch) ∷ (role.Nv, request.nv) ∷ []
+stored_names (Run request) = image_names request
 stored_names (Check request) = []
 stored_names (Make request) = make_names request
 stored_names (Provision request) = provision_names request

@@ -100,6 +100,7 @@ fn are_plain(words: &[String]) -> bool
     true
 }
 
+/// Whether a word is decimal digits; one without a byte is too.
 pub fn are_digits(word: &[u8]) -> bool
     ensures { result ≡ list_all is_ascii_digit word.now }
 {

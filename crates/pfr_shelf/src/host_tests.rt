@@ -2,7 +2,7 @@
 use crate::fault::ShelfFail;
 use crate::host::FileShelf;
 use crate::outside::Shelf;
-use std::os::unix::fs::{PermissionsExt, symlink};
+use std::os::unix::fs::{MetadataExt, PermissionsExt, symlink};
 use std::path::PathBuf;
 use std::rt::HostRuntime;
 use std::test::Fail;
@@ -60,6 +60,11 @@ impl Desk {
         Ok(found.permissions().mode() & 0o7777)
     }
 
+    // A number that each file that is written anew has of its own.
+    fn inode(&self, name: &str) -> io::Result<u64> {
+        Ok(fs::metadata(&self.rt, self.path(name)?)?.ino())
+    }
+
     fn is_link(&self, name: &str) -> io::Result<bool> {
         Ok(fs::symlink_metadata(&self.rt, self.path(name)?)?.is_symlink())
     }
@@ -81,6 +86,28 @@ fn replaces_a_file(rt: HostRuntime) -> Result<(), Fail> {
     assert!(rt; desk.stores("image", b"and then")?);
     assert!(rt; desk.holds("image", b"and then")?);
     assert_eq!(rt; desk.mode("image")?, 0o640);
+    assert_eq!(rt; desk.count()?, 1);
+    desk.clear()?;
+    Ok(())
+}
+
+#[test]
+fn leaves_a_file_of_these_bytes(rt: HostRuntime) -> Result<(), Fail> {
+    let mut desk = Desk::new(rt.clone()?, "same")?;
+    let mut image = vec![in rt.alloc(); 7u8; LONG]?;
+    assert!(rt; desk.stores("image", image.as_slice())?);
+    let old = desk.inode("image")?;
+    assert!(rt; desk.stores("image", image.as_slice())?);
+    assert_eq!(rt; desk.inode("image")?, old);
+    // another last byte, and a byte less
+    image.pop();
+    image.push(8)?;
+    assert!(rt; desk.stores("image", image.as_slice())?);
+    assert!(rt; desk.holds("image", image.as_slice())?);
+    assert!(rt; desk.inode("image")? != old);
+    image.pop();
+    assert!(rt; desk.stores("image", image.as_slice())?);
+    assert!(rt; desk.holds("image", image.as_slice())?);
     assert_eq!(rt; desk.count()?, 1);
     desk.clear()?;
     Ok(())

@@ -1,7 +1,7 @@
 // Files of the host, each replaced as a whole.
 use std::alloc::{AllocError, AllocGlobal, Global};
 use std::fs::{File, Metadata, OpenOptions, Permissions};
-use std::io::{ErrorKind, Write};
+use std::io::{ErrorKind, Read, Write};
 use std::os::unix::fs::{MetadataExt, OpenOptionsExt, PermissionsExt, fchown};
 use std::path::{Path, PathBuf};
 use std::rt::Files;
@@ -12,6 +12,9 @@ const MOST_LINKS: u32 = 40;
 
 // How many names are tried for what is written beside a file. Each process that was killed at it leaves one of them.
 const MOST_NAMES: u32 = 10_000;
+
+// How much of a file is compared at once.
+const PIECE: usize = 0x1_0000;
 
 /// Why a file was not stored.
 #[derive(Clone, Copy)]
@@ -36,7 +39,7 @@ impl From<io::Error> for StoreFail {
 }
 
 /// Makes the file of that name these bytes, at once: whenever the process ends, the name has all its old bytes or all
-/// of these. What is no regular file is written as it is.
+/// of these. A file that has these bytes already stays as it is. What is no regular file is written as it is.
 pub fn store_whole<R: Files<File = File> + AllocGlobal>(
     rt: &R,
     name: &str,
@@ -70,6 +73,9 @@ fn replace<R: Files<File = File> + AllocGlobal>(
         fs::write(rt, name, bytes)?;
         return Ok(());
     };
+    if old.is_some() && matches!(is_stored(rt, path.as_path(), bytes), Ok(true)) {
+        return sync_folder(rt, path.as_path());
+    }
     let (mut file, beside) = create_beside(rt, path.as_path(), old.is_some())?;
     let filled = fill(&mut file, old, bytes);
     match move_over(rt, filled, beside.as_path(), path.as_path()) {
@@ -79,6 +85,24 @@ fn replace<R: Files<File = File> + AllocGlobal>(
             Err(error)
         }
     }
+}
+
+// Whether the file of that path has just these bytes, and then waits until the device has them.
+fn is_stored<R: Files<File = File>>(rt: &R, path: Path<'_>, bytes: &[u8]) -> io::Result<bool> {
+    let mut file = fs::open(rt, path)?;
+    if file.metadata()?.len() != bytes.len() as u64 {
+        return Ok(false);
+    }
+    let mut room = [0; PIECE];
+    for wanted in bytes.chunks(PIECE) {
+        let found = &mut room[..wanted.len().min(PIECE)];
+        file.read_exact(found)?;
+        if *found != *wanted {
+            return Ok(false);
+        }
+    }
+    file.sync_all()?;
+    Ok(true)
 }
 
 // The path of the file that the name leads to; none where it leads to what a process has open.
