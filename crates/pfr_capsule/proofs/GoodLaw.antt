@@ -45,7 +45,7 @@ use Rattle.pfr_flash.proofs.JudgingLemmas.{passed_part, passed_unit, passed_test
 use Rattle.pfr_flash.proofs.AreBytesLemmas.{AreBytes-bytes_at}
 use Rattle.pfr_capsule.specs.Lying.{LiesAt}
 use Rattle.pfr_capsule.proofs.LyingLaw.{parts_lie}
-use Rattle.pfr_capsule.proofs.MapsLaw.{none_copied, copied_none, none_outside, outside_none, none_uncovered, uncovered_none, none_incoherent, incoherent_none}
+use Rattle.pfr_capsule.proofs.MapsLaw.{none_copied, none_outside, none_uncovered, none_incoherent}
 
 -- ---- the header
 constants_hold : (header : PageHeader) → has_constants header ≡ true → IsPageHeader header
@@ -102,11 +102,11 @@ maps_hold image pages payload_len regions h coherent =
     let b = passed_none causes.PageOutside (page_outside erase regions pages.bits) _ tt a.1 in
     let d = passed_test causes.PayloadLength (payload_len == 4096 * count_before copy pages.bits) _ tt b.1 in
     record {
-      erased = none_copied erase copy pages.bits a.0;
-      within_regions = none_outside erase regions pages.bits b.0;
+      erased = (none_copied erase copy pages.bits).0 a.0;
+      within_regions = (none_outside erase regions pages.bits).0 b.0;
       payload = eqb-true payload_len (4096 * count_before copy pages.bits) d.0;
-      covered = none_uncovered erase regions pages.bits (passed_last_none causes.StaticNotCovered (uncovered_region erase regions pages.bits) d.1);
-      coherent = none_incoherent image pages regions coherent;
+      covered = (none_uncovered erase regions pages.bits).0 (passed_last_none causes.StaticNotCovered (uncovered_region erase regions pages.bits) d.1);
+      coherent = (none_incoherent image pages regions).0 coherent;
     }
 
 maps_end : (image : List ℕ) (pages : Pages) (payload_len : ℕ) (regions : List Region) → Serves image pages payload_len regions
@@ -115,10 +115,10 @@ unfolding judge_maps
 maps_end image pages payload_len regions s =
     let erase : List ℕ = erase_map image pages in
     let copy : List ℕ = copy_map image pages in
-    let a = copied_none erase copy pages.bits s.erased in
-    let b = outside_none erase regions pages.bits s.within_regions in
+    let a = (none_copied erase copy pages.bits).1 s.erased in
+    let b = (none_outside erase regions pages.bits).1 s.within_regions in
     let d : (payload_len == 4096 * count_before copy pages.bits) ≡ true = eq-eqb payload_len (4096 * count_before copy pages.bits) s.payload in
-    let e = uncovered_none erase regions pages.bits s.covered in
+    let e = (none_uncovered erase regions pages.bits).1 s.covered in
     rw (a, b, d, e) refl
 
 pages_hold : (image : List ℕ) (at : ℕ) (header : PageHeader) (regions : List Region) (pages : Pages) → judge_pages image at header regions ≡ Ok pages
@@ -306,7 +306,7 @@ good_judged image nv place len bank accepts g =
     let a = signed_ends image place len bank (layout_of g.fuses.provision bank) g.fuses accepts g.parts g.signed in
     let b = header_ends image (end_of g.parts.inner) (end_of g.parts.capsule) g.header g.framed in
     let d = pages_end image (end_of g.parts.inner + 128) g.header regions serves in
-    let e = incoherent_none image here regions serves.coherent in
+    let e = (none_incoherent image here regions).1 serves.coherent in
     rw (a, b, d, e) (ap (λ (c : CapsuleState). Ok c) (sym g.found))
 
 pub good_found : (image nv : List ℕ) (place len : ℕ) (bank : Bank) (accepts : Acceptance) (fuses : FusesState) → StandForBank nv fuses bank → (g : IsGood image place len nv bank accepts) →

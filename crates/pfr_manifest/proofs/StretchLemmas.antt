@@ -75,7 +75,7 @@ list_any-map p f (x ∷ xs) = ap (λ rest. p (f x) || rest) (list_any-map p f xs
 any_weaker : {X : Type 0} (P Q : X → Type 0) → ((x : X) → P x → Q x) → (xs : List X) → Any P xs → Any Q xs
 any_weaker P Q f xs (k, x, within, is, holds) = (k, x, within, is, f x holds)
 
-Decides-any : {X : Type 0} (p : X → Bool) (P : X → Type 0) → ((x : X) → Decides (p x) (P x)) → (xs : List X) → Decides (list_any p xs) (Any P xs)
+pub Decides-any : {X : Type 0} (p : X → Bool) (P : X → Type 0) → ((x : X) → Decides (p x) (P x)) → (xs : List X) → Decides (list_any p xs) (Any P xs)
 Decides-any p P each xs = (
   λ yes. any_weaker (λ x. p x ≡ true) P (λ x h. (each x).0 h) xs (Any-from_list_any p xs yes),
   λ holds. list_any-from_Any p xs (any_weaker P (λ x. p x ≡ true) (λ x h. (each x).1 h) xs holds),

@@ -7,16 +7,6 @@ use Rattle.pfr_flash.proofs.EndsLemmas.{then_ends}
 use Rattle.pfr_capsule.proofs.PagesRead.{pages_judged, has_index, long_front}
 use Rattle.pfr_capsule.proofs.judging.pages_at.Goals as goal
 
-pub returns-in_err-read-2-clause-ends : goal.returns-in_err-read-2-clause-ends
-returns-in_err-read-2-clause-ends g c =
-    let p = err_from_is_err_and c.from_residual-in_err-read-2.result c.from_residual-in_err-read-2.ensures.1 in
-    rw (p.1, p.2) (then_ends c.in_ok-read.ensures.reads.ends c.in_err-read-2.ensures.reads.ends)
-
-pub returns-in_err-check_maps-clause-ends : goal.returns-in_err-check_maps-clause-ends
-returns-in_err-check_maps-clause-ends g c =
-    let p = err_from_is_err_and c.from_residual-in_err-check_maps.result c.from_residual-in_err-check_maps.ensures.1 in
-    rw (p.1, p.2, c.in_err-check_maps.ensures.found) (then_ends c.in_ok-read.ensures.reads.ends c.in_ok-read-2.ensures.reads.ends)
-
 pub returns-clause-exact : goal.returns-clause-exact
 returns-clause-exact g c =
     let old : FlashState = g.F.Flash.device c.args.flash.now in
@@ -36,6 +26,3 @@ returns-clause-index g c =
     let copied : c.read-2.new.into ≡ bytes_at (now old) (c.args.at + bytes) bytes =
     c.in_ok-read-2.ensures.bytes ∙ ap (bytes_at (now (g.F.Flash.device c.read.new.self)) (c.args.at + bytes)) long ∙ ap (λ (image : List ℕ). bytes_at image (c.args.at + bytes) bytes) c.read.ensures.reads.reads.content in
     has_index (now old) c.args.at c.args.header.now c.read.new.into c.read-2.new.into c.index.result erased copied c.index.ensures.each c.requires.few c.requires.whole (omega (arith, c.requires.inside, length-now old)) c.in_ok-check_maps.ensures.payload
-
-pub returns-clause-ends : goal.returns-clause-ends
-returns-clause-ends g c = then_ends c.in_ok-read.ensures.reads.ends c.in_ok-read-2.ensures.reads.ends
