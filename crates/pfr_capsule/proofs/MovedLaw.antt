@@ -91,9 +91,6 @@ module _ (a b : List ℕ) (at at' bits len : ℕ) (same : (x y off count : ℕ) 
 -- ---- a good capsule, over two banks of one size
 module _ (a b nv : List ℕ) (p q len len' : ℕ) (bank : Bank) (accepts : Acceptance) (g : IsGood a p len nv bank accepts)
     (sized : length a ≡ length b) (blocks : length a % 65536 ≡ 0) (same : bytes_at a p g.capsule.length ≡ bytes_at b q g.capsule.length) (room : g.capsule.length ≤ len') where
-  capsule_there : Chain
-  capsule_there = moved p q g.parts.capsule
-
   parts_there : Signed
   parts_there = record { capsule = moved p q g.parts.capsule; inner = moved g.parts.capsule.content_at (q + (g.parts.capsule.content_at - p)) g.parts.inner; manifest = g.parts.manifest }
 
@@ -127,10 +124,6 @@ module _ (a b nv : List ℕ) (p q len len' : ℕ) (bank : Bank) (accepts : Accep
         spelled = rw sized at (subst M content g.signed.spelled);
         svn = g.signed.svn;
       }
-
-  -- where the header stands
-  header_there : ℕ
-  header_there = q + (end_of g.parts.inner - p)
 
   framed_there : HasHeader b (end_of parts_there.inner) (end_of parts_there.capsule) g.header
   unfolding parts_there
