@@ -25,7 +25,8 @@ pub returns-clause-ok : goal.returns-clause-ok
 returns-clause-ok g c =
     let d : FlashState = g.F.Flash.device c.args.flash.now in
     let valid = rw (← length-now d, c.requires.layout) at c.requires.valid in
-    answered _ _ _ _ c.judged.ensures.exact (λ m h nv p. judged_trusted (now d) nv c.args.bank (g.E.Engine.accepts c.args.engine.now) c.args.fuses.now m p valid (now_bytes d (g.met.F.Flash.holds_bytes c.args.flash.now)) h)
+    let P : Manifest → Type 0 = λ m. (nv : List ℕ) → StandFor nv c.args.fuses.now c.args.bank → (t : IsTrusted (now d) nv c.args.bank (g.E.Engine.accepts c.args.engine.now)) × (t.manifest ≡ m) in
+    answered _ _ _ P c.judged.ensures.exact (λ m h nv p. judged_trusted (now d) nv c.args.bank (g.E.Engine.accepts c.args.engine.now) c.args.fuses.now m p valid (now_bytes d (g.met.F.Flash.holds_bytes c.args.flash.now)) h)
 
 pub returns-clause-only : goal.returns-clause-only
 returns-clause-only g c = λ nv p t. rw (trusted_found _ nv _ _ _ p t) at c.judged.ensures.exact

@@ -25,7 +25,8 @@ returns-clause-ok g c =
     let d : FlashState = g.F.Flash.device c.args.flash.now in
     let valid = rw (← length-now d, c.requires.layout) at c.requires.valid in
     let exact = rw c.requires.layout at c.judged.ensures.exact in
-    answered _ _ _ _ exact (λ found h nv p. judged_good (now d) nv c.args.place c.args.len c.args.bank (g.E.Engine.accepts c.args.engine.now) c.args.fuses.now found p valid (now_bytes d (g.met.F.Flash.holds_bytes c.args.flash.now)) h)
+    let P : CapsuleState → Type 0 = λ found. (nv : List ℕ) → StandForBank nv c.args.fuses.now c.args.bank → (t : IsGood (now d) c.args.place c.args.len nv c.args.bank (g.E.Engine.accepts c.args.engine.now)) × (t.capsule ≡ found) in
+    answered _ _ _ P exact (λ found h nv p. judged_good (now d) nv c.args.place c.args.len c.args.bank (g.E.Engine.accepts c.args.engine.now) c.args.fuses.now found p valid (now_bytes d (g.met.F.Flash.holds_bytes c.args.flash.now)) h)
 
 pub returns-clause-lies : goal.returns-clause-lies
 returns-clause-lies g c =
