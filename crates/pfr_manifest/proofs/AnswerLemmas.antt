@@ -1,5 +1,5 @@
 -- Answers of calls over a flash, and what they read of it.
-use Rattle.std.proofs.Common.{◌≡◌, ℕ, ◌<◌, ◌≤◌, min, List, take, drop, length-take, arith, inl, inr, Option, Some, None, Result, Ok, Err, MatchOption, sym, ◌∙◌}
+use Rattle.std.proofs.Common.{◌≡◌, ℕ, min, List, take, drop, length-take, arith, inl, inr, Option, Some, None, Result, Ok, Err, MatchOption, sym}
 use Rattle.std.proofs.lemmas.List.{take-take, take_all}
 use Rattle.std.proofs.lemmas.Bool.{cases_lt}
 use Rattle.pfr_flash.specs.Answer.{Answers}

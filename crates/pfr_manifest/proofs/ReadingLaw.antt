@@ -1,5 +1,5 @@
 -- A judgement that ends well has found a manifest.
-use Rattle.std.proofs.Common.{◌≡◌, ℕ, zero, suc, ◌+◌, ◌-◌, ◌<◌, ◌≤◌, ◌==◌, ◌&&◌, nat_lt, Bool, true, false, if◌then◌else◌, List, [], ◌∷◌, ◌++◌, length, take, drop, replicate, slice_index, All, Result, Ok, Err, refl, sym, ◌∙◌, ap, arith, subst, append_assoc, length-take, length-append}
+use Rattle.std.proofs.Common.{◌≡◌, ℕ, zero, suc, ◌+◌, ◌-◌, ◌<◌, ◌≤◌, ◌==◌, ◌&&◌, nat_lt, Bool, true, false, List, [], ◌∷◌, ◌++◌, length, take, drop, replicate, slice_index, All, Result, Ok, refl, sym, ◌∙◌, ap, arith, subst, append_assoc, length-take, length-append}
 use Rattle.std.specs.List.{flat_map, list_all}
 use Rattle.std.proofs.lemmas.List.{length-replicate, append-nil, take-append-drop, take-take, length_push, nil_from_length}
 use Rattle.std.proofs.lemmas.Grind.{flat_map-append}
@@ -13,7 +13,6 @@ use Rattle.pfr_manifest.specs.declared.entry.Entry.{Entry}
 use Rattle.pfr_manifest.specs.declared.entry.Entry.TheVariants as entries
 use Rattle.pfr_manifest.specs.declared.fail.ManifestFail.{ManifestFail}
 use Rattle.pfr_manifest.specs.declared.fail.ManifestFail.TheVariants.{Tail}
-use Rattle.pfr_flash.specs.Judging.{◌>>=◌, ◌>>◌}
 use Rattle.pfr_flash.specs.Bytes.{AreBytes}
 use Rattle.pfr_manifest.specs.Regions.{IsRegion, IsInOrder}
 use Rattle.pfr_manifest.specs.Spelling.{header_bytes, region_bytes, rule_bytes, body_bytes}
@@ -55,19 +54,22 @@ module _ (layout : Layout) (size : ℕ) where
       let j = region_holds region m.regions layout size judged in
       let hash = d.4 in
       let read : IsReadRegion entry region = subst (IsReadRegion entry) (sym hash.2) (region_spelled entry hash.0 bytes first d.1 d.2 hash.1) in
-      let long = length_push m.regions region in
-      (read, nil_from_length m.rules d.0, record {
-        svn = good.svn;
-        few_regions = omega arith;
-        few_rules = good.few_rules;
-        each_region = All-push (IsRegion layout size) m.regions region good.each_region j.0;
-        in_order = IsInOrder-push m.regions region good.in_order j.1;
-        wide = record {
-          header = record { revision = good.wide.header.revision; reserved = good.wide.header.reserved; oem = good.wide.header.oem; long = good.wide.header.long };
-          regions = All-push IsRegionWide m.regions region good.wide.regions read.wide;
-          rules = good.wide.rules;
-        };
-      })
+      let long = length_push m.regions region in (
+        read,
+        nil_from_length m.rules d.0,
+        record {
+          svn = good.svn;
+          few_regions = omega arith;
+          few_rules = good.few_rules;
+          each_region = All-push (IsRegion layout size) m.regions region good.each_region j.0;
+          in_order = IsInOrder-push m.regions region good.in_order j.1;
+          wide = record {
+            header = record { revision = good.wide.header.revision; reserved = good.wide.header.reserved; oem = good.wide.header.oem; long = good.wide.header.long };
+            regions = All-push IsRegionWide m.regions region good.wide.regions read.wide;
+            rules = good.wide.rules;
+          };
+        },
+      )
 
   -- one more rule
   rule_read : (entry : List ℕ) (place : ℕ) (m : Manifest) (rule : Rule) → IsGood layout size m → slice_index entry 0 ≡ 2 → judge_rule entry place m ≡ Ok rule
@@ -75,19 +77,22 @@ module _ (layout : Layout) (size : ℕ) where
   rule_read entry place m rule good first judged =
       let d = rule_holds entry place m rule judged in
       let read : IsReadRule entry rule = subst (IsReadRule entry) (sym d.2) (rule_spelled entry first d.0) in
-      let long = length_push m.rules rule in
-      (d.0, read, record {
-        svn = good.svn;
-        few_regions = good.few_regions;
-        few_rules = omega arith;
-        each_region = good.each_region;
-        in_order = good.in_order;
-        wide = record {
-          header = record { revision = good.wide.header.revision; reserved = good.wide.header.reserved; oem = good.wide.header.oem; long = good.wide.header.long };
-          regions = good.wide.regions;
-          rules = All-push IsRuleWide m.rules rule good.wide.rules read.wide;
-        };
-      })
+      let long = length_push m.rules rule in (
+        d.0,
+        read,
+        record {
+          svn = good.svn;
+          few_regions = good.few_regions;
+          few_rules = omega arith;
+          each_region = good.each_region;
+          in_order = good.in_order;
+          wide = record {
+            header = record { revision = good.wide.header.revision; reserved = good.wide.header.reserved; oem = good.wide.header.oem; long = good.wide.header.long };
+            regions = good.wide.regions;
+            rules = All-push IsRuleWide m.rules rule good.wide.rules read.wide;
+          };
+        },
+      )
 
 -- a text one entry longer
 header-same : (m : Manifest) (regions : List Region) (rules : List Rule) → header_bytes (record m { regions = regions; rules = rules }) ≡ header_bytes m

@@ -1,5 +1,5 @@
 -- Tables of stretches, and which pages are writable by them.
-use Rattle.std.proofs.Common.{◌≡◌, ℕ, zero, suc, ◌+◌, ◌*◌, ◌<◌, ◌≤◌, Bool, true, ◌||◌, nat_le, List, [], ◌∷◌, length, get_or, map, Any, All, refl, ap, arith}
+use Rattle.std.proofs.Common.{◌≡◌, ℕ, zero, suc, ◌+◌, ◌*◌, ◌<◌, ◌≤◌, Bool, true, ◌||◌, nat_le, List, [], ◌∷◌, length, map, Any, All, refl, ap, arith}
 use Rattle.std.specs.Bool.{Decides}
 use Rattle.std.specs.List.{AllPairs, list_any}
 use Rattle.std.proofs.lemmas.Bool.Decides.{Decides-and, Decides-or}
@@ -11,10 +11,10 @@ use Rattle.pfr_flash.proofs.JudgingLemmas.{Decides-le, Decides-true}
 use Rattle.pfr_manifest.specs.declared.manifest.Manifest.{Manifest}
 use Rattle.pfr_manifest.specs.declared.region.Region.{Region}
 use Rattle.pfr_manifest.specs.declared.stretch.Stretch.{Stretch}
-use Rattle.pfr_manifest.specs.Access.{IsPageWithin, IsWritable, writable_in}
+use Rattle.pfr_manifest.specs.Access.{IsPageWithin, IsWritable}
 use Rattle.pfr_manifest.specs.Manifest.{IsManifestOf}
 use Rattle.pfr_manifest.specs.Regions.{IsRegion, IsInOrder, is_writable}
-use Rattle.pfr_manifest.specs.Stretches.{stretch_of, stretches_of, IsOfPages, IsTable, is_page_within, lets_write}
+use Rattle.pfr_manifest.specs.Stretches.{stretch_of, stretches_of, IsOfPages, IsTable, is_page_within, lets_write, writable_by}
 
 -- ---- the regions of a manifest are a table
 abbrev pub IsSome : Region → Type 0
@@ -76,7 +76,7 @@ Decides-any p P each xs = (
   λ holds. list_any-from_Any p xs (any_weaker P (λ x. p x ≡ true) (λ x h. (each x).1 h) xs holds),
 )
 
-pub Decides-writable : (m : Manifest) (layout : Layout) (page : ℕ) → Decides (writable_in m layout page) (IsWritable m layout page)
+pub Decides-writable : (m : Manifest) (layout : Layout) (page : ℕ) → Decides (writable_by (stretches_of m) layout page) (IsWritable m layout page)
 Decides-writable m layout page =
     let staging : ℕ = layout.staging_at + layout.area_len in
     Decides-or (list_any (lets_write page) (stretches_of m)) (is_page_within page layout.staging_at staging)

@@ -3,7 +3,7 @@ use Rattle.std.proofs.lemmas.Result.{err_from_is_err_and}
 use Rattle.pfr_flash.specs.Bytes.{bytes_at}
 use Rattle.pfr_flash.specs.FlashState.{FlashState, now, size_of}
 use Rattle.pfr_flash.proofs.RangeLemmas.{length-now}
-use Rattle.pfr_flash.proofs.EndsLemmas.{then_ends, ends_content}
+use Rattle.pfr_flash.proofs.EndsLemmas.{ends_content}
 use Rattle.pfr_manifest.specs.Answer.{manifest_failure}
 use Rattle.pfr_manifest.specs.Judge.{turns_left, judge_entries}
 use Rattle.pfr_flash.proofs.BytesLemmas.{length-bytes_at}

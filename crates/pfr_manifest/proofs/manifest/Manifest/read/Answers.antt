@@ -1,12 +1,3 @@
-use Rattle.std.proofs.Common.{ℕ, List, Result, Ok, Err, IfOk}
-use Rattle.pfr_flash.specs.declared.layout.Layout.{Layout}
-use Rattle.pfr_manifest.specs.declared.manifest.Manifest.{Manifest}
-use Rattle.pfr_manifest.specs.declared.fail.ManifestFail.{ManifestFail}
-use Rattle.pfr_flash.specs.Answer.{Answers}
-use Rattle.pfr_manifest.specs.Answer.{manifest_failure}
-use Rattle.pfr_flash.specs.Bytes.{AreBytes}
-use Rattle.pfr_manifest.specs.Judge.{judge_manifest}
-use Rattle.pfr_manifest.specs.Manifest.{IsManifestOf}
 use Rattle.pfr_flash.proofs.AnswerLemmas.{answered}
 use Rattle.pfr_flash.proofs.HoldingLemmas.{bytes_at_now}
 use Rattle.pfr_manifest.proofs.ReadingLaw.{judge_holds}
