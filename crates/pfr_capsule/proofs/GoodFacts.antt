@@ -1,6 +1,6 @@
 -- A capsule that is signed, framed and served lies where it is judged, and so do its parts. What a good one says of places:
 -- it lies within the length, its pages can be asked for, its regions lie in the bank.
-use Rattle.std.proofs.Common.{◌≡◌, subst, ℕ, ◌+◌, ◌%◌, ◌≤◌, min, List, length, All, arith}
+use Rattle.std.proofs.Common.{◌≡◌, ℕ, ◌+◌, ◌%◌, ◌≤◌, min, List, length, All, arith}
 use Rattle.pfr_flash.specs.declared.layout.Layout.{Layout}
 use Rattle.pfr_flash.specs.declared.names.Bank.{Bank}
 use Rattle.pfr_engine.specs.Acceptance.{Acceptance}

@@ -10,10 +10,7 @@ use Rattle.pfr_flash.specs.declared.names.Bank.{Bank}
 use Rattle.pfr_flash.specs.declared.names.Bank.TheVariants.{Bmc, Pch}
 use Rattle.pfr_flash.specs.declared.names.ContentType.{ContentType}
 use Rattle.pfr_engine.specs.Acceptance.{Acceptance}
-use Rattle.pfr_engine.specs.declared.engine.Curve.{Curve}
 use Rattle.pfr_chain.specs.Chain.{IsBlock1, IsChain}
-use Rattle.pfr_chain.specs.Form1.{IsSignedBy}
-use Rattle.pfr_chain.specs.Form2.{IsLongSignedBy}
 use Rattle.pfr_chain.specs.Types.{is_certificate}
 use Rattle.pfr_chain.specs.declared.form.Form.{Form}
 use Rattle.pfr_chain.specs.declared.form.Form.TheVariants.{One, Two}
@@ -22,7 +19,6 @@ use Rattle.pfr_chain.specs.Judge.{judge}
 use Rattle.pfr_chain.proofs.ChainLaw.{judge_ends as chain_ends, judge_holds as chain_holds}
 use Rattle.pfr_fuses.specs.FusesState.{FusesState, floor_of, row_of}
 use Rattle.pfr_fuses.specs.RootSlot.{layout_of}
-use Rattle.pfr_fuses.specs.declared.root_slot.RootSlot.{RootSlot}
 use Rattle.pfr_manifest.specs.declared.region.Region.{Region}
 use Rattle.pfr_manifest.specs.Judge.{judge_manifest}
 use Rattle.pfr_manifest.proofs.FindingLaw.{judge_ends as manifest_ends}
@@ -30,10 +26,10 @@ use Rattle.pfr_manifest.proofs.ReadingLaw.{judge_holds as manifest_holds}
 use Rattle.pfr_capsule.specs.CapsuleState.{CapsuleState, capsule_of}
 use Rattle.pfr_capsule.specs.Good.{IsGood, Serves, StandForBank}
 use Rattle.pfr_capsule.specs.Judge.{judge_capsule, judge_header, judge_maps, judge_numbers, judge_pages}
-use Rattle.pfr_flash.specs.Judging.{◌>>◌, require_none, told_as}
+use Rattle.pfr_flash.specs.Judging.{told_as}
 use Rattle.pfr_capsule.specs.Maps.{count_before, page_outside, uncovered_region, unerased_copy}
 use Rattle.pfr_capsule.specs.PageBytes.{incoherent_region}
-use Rattle.pfr_capsule.specs.PageHeader.{HasHeader, IsPageHeader, has_constants, page_header_of}
+use Rattle.pfr_capsule.specs.PageHeader.{HasHeader, IsPageHeader, page_header_of}
 use Rattle.pfr_capsule.specs.Pages.{copy_map, erase_map, pages_at}
 use Rattle.pfr_capsule.specs.Signed.{IsSigned, end_of, id_or_zero, key_of}
 use Rattle.pfr_capsule.specs.SignedJudge.{judge_capsule_chain, judge_inner_chain, judge_signed}
@@ -41,7 +37,7 @@ use Rattle.pfr_capsule.specs.declared.fail.CapsuleFail.TheVariants as causes
 use Rattle.pfr_capsule.specs.declared.page_header.PageHeader.{PageHeader}
 use Rattle.pfr_capsule.specs.declared.pages.Pages.{Pages}
 use Rattle.pfr_capsule.specs.declared.signed.Signed.{Signed}
-use Rattle.pfr_flash.proofs.JudgingLemmas.{passed_part, passed_unit, passed_test, passed_none, passed_last, passed_last_none, told_ok}
+use Rattle.pfr_flash.proofs.JudgingLemmas.{passed_part, passed_unit, passed_test, passed_none, passed_last_none, told_ok}
 use Rattle.pfr_flash.proofs.AreBytesLemmas.{AreBytes-bytes_at}
 use Rattle.pfr_capsule.specs.Lying.{LiesAt}
 use Rattle.pfr_capsule.proofs.GoodFacts.{parts_lie}

@@ -1,5 +1,5 @@
 -- What is read of the maps tells what becomes of a page.
-use Rattle.std.proofs.Common.{◌≡◌, ◌∙◌, ap, sym, refl, ℕ, ◌+◌, ◌-◌, ◌*◌, ◌/◌, ◌%◌, ◌<◌, ◌≤◌, Bool, true, false, if◌then◌else◌, List, length, take, drop, get_or, Option, Some, None, arith}
+use Rattle.std.proofs.Common.{◌≡◌, ◌∙◌, ap, sym, refl, ℕ, ◌+◌, ◌*◌, ◌/◌, ◌%◌, ◌<◌, ◌≤◌, Bool, true, false, if◌then◌else◌, List, length, drop, get_or, Option, Some, None, arith}
 use Rattle.pfr_flash.proofs.PartsLemmas.{part_of}
 use Rattle.pfr_flash.specs.Bytes.{bytes_at}
 use Rattle.pfr_capsule.specs.Maps.{map_bit, count_before, copied_before}

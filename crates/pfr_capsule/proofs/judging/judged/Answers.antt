@@ -1,7 +1,6 @@
-use Rattle.std.proofs.lemmas.Result.{err_from_is_err_and}
 use Rattle.std.proofs.Common.{◌∙◌, ap, ℕ, ◌/◌, List, length}
 use Rattle.pfr_flash.specs.FlashState.{size_of}
-use Rattle.pfr_flash.proofs.EndsLemmas.{then_ends, ends_reads}
+use Rattle.pfr_flash.proofs.EndsLemmas.{ends_reads}
 use Rattle.pfr_flash.proofs.RangeLemmas.{length-now}
 use Rattle.pfr_capsule.proofs.PagesRead.{ends_in_map}
 use Rattle.pfr_capsule.proofs.judging.judged.Goals as goal

@@ -1,22 +1,10 @@
-use Rattle.std.proofs.Common.{◌≡◌, sym, subst, ℕ, List, length, Result, Ok, Err, IfOk, OnOk}
+use Rattle.std.proofs.Common.{◌≡◌, ℕ, List}
 use Rattle.pfr_flash.specs.FlashState.{FlashState, now}
-use Rattle.pfr_flash.specs.Layout.{IsValidLayout}
-use Rattle.pfr_flash.specs.declared.layout.Layout.{Layout}
-use Rattle.pfr_flash.specs.declared.names.Bank.{Bank}
-use Rattle.pfr_flash.specs.Bytes.{AreBytes}
 use Rattle.pfr_flash.proofs.AnswerLemmas.{answered}
 use Rattle.pfr_flash.proofs.HoldingLemmas.{now_bytes}
 use Rattle.pfr_flash.proofs.RangeLemmas.{length-now}
-use Rattle.pfr_engine.specs.Acceptance.{Acceptance}
-use Rattle.pfr_fuses.specs.FusesState.{FusesState}
-use Rattle.pfr_fuses.specs.RootSlot.{layout_of}
-use Rattle.pfr_flash.specs.Answer.{Answers}
-use Rattle.pfr_capsule.specs.Answer.{capsule_failure}
 use Rattle.pfr_capsule.specs.CapsuleState.{CapsuleState}
 use Rattle.pfr_capsule.specs.Good.{IsGood, StandForBank}
-use Rattle.pfr_capsule.specs.Judge.{judge_capsule}
-use Rattle.pfr_capsule.specs.Lying.{LiesAt}
-use Rattle.pfr_capsule.specs.declared.fail.CapsuleFail.{CapsuleFail}
 use Rattle.pfr_capsule.proofs.GoodLaw.{judged_good, judged_lies, good_found}
 use Rattle.pfr_capsule.proofs.capsule.Capsule.judge.Goals as goal
 

@@ -1,7 +1,6 @@
 use Rattle.std.proofs.Common.{arith}
 use Rattle.pfr_flash.proofs.RangeLemmas.{length-now}
-use Rattle.std.proofs.lemmas.Result.{err_from_is_err_and}
-use Rattle.pfr_flash.proofs.EndsLemmas.{then_ends, ends_content}
+use Rattle.pfr_flash.proofs.EndsLemmas.{ends_content}
 use Rattle.pfr_capsule.proofs.PageLaws.{page_kept, page_blank, page_copied, payload_inside}
 use Rattle.pfr_capsule.proofs.pages.Pages.page.Goals as goal
 
