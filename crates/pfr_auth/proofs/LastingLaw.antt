@@ -111,11 +111,10 @@ trusted_by image nv bank accepts fuses m chain stand valid signed spelled svn ha
     manifest = m;
     chain = chain;
     provisioned = stand.provisioned;
-    layout = subst (λ (p : RootSlot). IsValidLayout (layout_of p bank) (length image)) stand.provision valid;
-    signed = subst (λ (row : List ℕ). IsChain image (layout_of stand.all.provision bank).manifest_at (layout_of stand.all.provision bank).manifest_len (manifest_type bank) stand.all.provision.root row accepts chain) stand.row
-        (subst (λ (p : RootSlot). IsChain image (layout_of p bank).manifest_at (layout_of p bank).manifest_len (manifest_type bank) p.root (row_of fuses (manifest_type bank)) accepts chain) stand.provision signed);
-    spelled = subst (λ (p : RootSlot). IsManifestOf (bytes_at image chain.content_at chain.length) m (layout_of p bank) (length image)) stand.provision spelled;
-    svn = subst (λ (floor : ℕ). floor ≤ m.svn) stand.floor svn;
+    layout = rw stand.provision at valid;
+    signed = rw (stand.provision, stand.row) at signed;
+    spelled = rw stand.provision at spelled;
+    svn = rw stand.floor at svn;
     hashed = hashed;
   },
   refl,
@@ -137,12 +136,6 @@ trust_lasts image later nv after bank accepts t bytes fuses =
     (λ k d below. region_lasts (get_or t.manifest.regions k d) image later bytes.size
     (of_filtered is_static (λ (r : Region). SameAt r.start (r.end - r.start) image later) t.manifest.regions bytes.static k d below) (t.hashed k d below))
 
-abbrev found_fuses : FusesState → Result FusesState FuseFail
-found_fuses fuses = Ok fuses
-
-same_ok : (a b : FusesState) → found_fuses a ≡ found_fuses b → a ≡ b
-same_ok a b h = cc
-
 -- the same for an answer
 pub answer_lasts : (image : List ℕ) (bank : Bank) (accepts : Acceptance) (fuses : FusesState) (layout : Layout) (answer : Result Manifest ActiveFail) → layout ≡ layout_of fuses.provision bank
     → IfOk answer (λ m. (nv : List ℕ) → StandFor nv fuses bank → (t : IsTrusted image nv bank accepts) × (t.manifest ≡ m))
@@ -150,7 +143,9 @@ pub answer_lasts : (image : List ℕ) (bank : Bank) (accepts : Acceptance) (fuse
 answer_lasts image bank accepts fuses layout (Ok m) is ok = λ nv later after stand bytes kept.
     let found = ok nv stand in
     let t : IsTrusted image nv bank accepts = found.0 in
-    let same_all : t.fuses ≡ stand.all = same_ok t.fuses stand.all (sym t.provisioned ∙ stand.provisioned) in
+    let was = t.provisioned in
+    let is_now = stand.provisioned in
+    let same_all : t.fuses ≡ stand.all = cc in
     let same_layout : layout ≡ layout_of t.fuses.provision bank = is ∙ ap (λ (p : RootSlot). layout_of p bank) (stand.provision ∙ ap (λ (f : FusesState). f.provision) (sym same_all)) in
     let rested : KeepsTrustedBytes (layout_of t.fuses.provision bank) t.manifest image later =
     subst (λ (l : Layout). KeepsTrustedBytes l t.manifest image later) same_layout (subst (λ (n : Manifest). KeepsTrustedBytes layout n image later) (sym found.1) bytes) in

@@ -30,12 +30,6 @@ use Rattle.pfr_auth.specs.declared.fail.ActiveFail.{ActiveFail}
 use Rattle.pfr_auth.specs.declared.fail.ActiveFail.TheVariants as causes
 use Rattle.pfr_flash.proofs.AnswerLemmas.{refused, told_refused}
 
--- ---- the manifest that a content spells
--- reading leaves it
-same_content : (old mid : FlashState) (place count : ℕ) (layout : Layout) → now mid ≡ now old →
-    judge_manifest (bytes_at (now old) place count) layout (length (now old)) ≡ judge_manifest (bytes_at (now mid) place count) layout (size_of mid)
-same_content old mid place count layout reads = rw (← reads, length-now mid) refl
-
 -- ---- the manifest that is signed, where what is asked of the chain are these values of the bank
 module _ (image : List ℕ) (bank : Bank) (fuses : FusesState) (accepts : Acceptance) (layout : Layout) (ty : ContentType) (root row : List ℕ)
     (laid : layout ≡ layout_of fuses.provision bank) (typed : ty ≡ manifest_type bank) (rooted : root ≡ fuses.provision.root) (cancelled : row ≡ row_of fuses ty) where
@@ -60,7 +54,7 @@ module _ (old : FlashState) (bank : Bank) (fuses : FusesState) (accepts : Accept
   signed_later : (mid : FlashState) (chain : Chain) → now mid ≡ now old → judge (now old) layout.manifest_at layout.manifest_len ty root row accepts ≡ Ok chain →
       judge_signed (now old) bank fuses accepts ≡ told_as causes.Manifest (judge_manifest (bytes_at (now mid) chain.content_at chain.length) layout (size_of mid))
   signed_later mid chain reads h =
-      signed_content (now old) bank fuses accepts layout ty root row laid typed rooted cancelled chain h ∙ ap (λ (r : Result Manifest ManifestFail). told_as causes.Manifest r) (same_content old mid chain.content_at chain.length layout reads)
+      signed_content (now old) bank fuses accepts layout ty root row laid typed rooted cancelled chain h ∙ rw (← reads, length-now mid) refl
 
   pub manifest_refused : (mid : FlashState) (chain : Chain) (cause : ManifestFail) → now mid ≡ now old → judge (now old) layout.manifest_at layout.manifest_len ty root row accepts ≡ Ok chain →
       Answers manifest_failure (Err cause) (judge_manifest (bytes_at (now mid) chain.content_at chain.length) layout (size_of mid)) →

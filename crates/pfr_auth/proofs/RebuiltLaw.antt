@@ -21,6 +21,7 @@ use Rattle.pfr_capsule.specs.Good.{IsGood}
 use Rattle.pfr_capsule.specs.PageBytes.{region_bytes}
 use Rattle.pfr_capsule.specs.Signed.{end_of}
 use Rattle.pfr_auth.specs.Trusted.{IsTrusted}
+use Rattle.pfr_capsule.proofs.GoodFacts.{good_laid}
 use Rattle.pfr_auth.proofs.RegionLemmas.{same_hash}
 
 -- A bank of the same size, whose manifest area begins with the capsule's signed manifest, and whose static regions
@@ -28,25 +29,19 @@ use Rattle.pfr_auth.proofs.RegionLemmas.{same_hash}
 module _ (image new nv : List ℕ) (place len : ℕ) (bank : Bank) (accepts : Acceptance) (g : IsGood image place len nv bank accepts) (sized : length image ≡ length new)
     (copied : bytes_at image g.capsule.signed_manifest.at g.capsule.signed_manifest.len ≡ bytes_at new (layout_of g.fuses.provision bank).manifest_at g.capsule.signed_manifest.len)
     (restored : All (λ (region : Region). is_static region ≡ true → bytes_of new region ≡ region_bytes image g.capsule.pages region) g.capsule.manifest.regions) where
-  -- where the manifest's content begins and ends in the capsule
-  begins : g.parts.capsule.content_at + 1024 ≤ g.parts.inner.content_at
-  begins = omega (arith, g.signed.inner.content_at, g.signed.inner.block.right_length.least)
-
-  ends : end_of g.parts.inner ≤ g.parts.capsule.content_at + (layout_of g.fuses.provision bank).manifest_len
-  ends = omega (arith, g.signed.inner.content_at, g.signed.inner.length, g.signed.inner.block.within)
-
   pub rebuilt_trusted : (t : IsTrusted new nv bank accepts) × (t.manifest ≡ g.capsule.manifest)
   rebuilt_trusted =
       let layout : Layout = layout_of g.fuses.provision bank in
       let fuses : FusesState = g.fuses in
+      let laid = good_laid image nv place len bank accepts g in
       let c : Chain = g.parts.capsule in
       let i : Chain = g.parts.inner in
       let from : g.capsule.signed_manifest.at ≡ c.content_at = ap (λ (s : CapsuleState). s.signed_manifest.at) g.found in
       let long : g.capsule.signed_manifest.len ≡ end_of i - c.content_at = ap (λ (s : CapsuleState). s.signed_manifest.len) g.found in
       let there : bytes_at image c.content_at (end_of i - c.content_at) ≡ bytes_at new layout.manifest_at (end_of i - c.content_at) = rw (from, long) at copied in
       let content : bytes_at image i.content_at i.length ≡ bytes_at new (layout.manifest_at + (i.content_at - c.content_at)) i.length =
-      (let e : c.content_at + (i.content_at - c.content_at) ≡ i.content_at = omega (arith, begins) in
-      rw e at (same_part image new c.content_at layout.manifest_at (end_of i - c.content_at) (i.content_at - c.content_at) i.length there (omega (arith, begins)))) in
+      (let e : c.content_at + (i.content_at - c.content_at) ≡ i.content_at = omega arith in
+      rw e at (same_part image new c.content_at layout.manifest_at (end_of i - c.content_at) (i.content_at - c.content_at) i.length there (omega arith))) in
       let M : List ℕ → Type 0 = λ bytes. IsManifestOf bytes g.parts.manifest layout (length image) in
       let same : g.capsule.manifest ≡ g.parts.manifest = ap (λ (s : CapsuleState). s.manifest) g.found in
       let R : Manifest → Type 0 = λ m. All (λ (region : Region). is_static region ≡ true → bytes_of new region ≡ region_bytes image g.capsule.pages region) m.regions in
@@ -58,7 +53,7 @@ module _ (image new nv : List ℕ) (place len : ℕ) (bank : Bank) (accepts : Ac
         provisioned = g.provisioned;
         layout = subst (λ (size : ℕ). IsValidLayout layout size) sized g.layout;
         signed = IsChain-moved image new c.content_at layout.manifest_at (min c.length layout.manifest_len) layout.manifest_len (end_of i - c.content_at) (manifest_type bank) fuses.provision.root (row_of fuses (manifest_type bank)) accepts i there
-            (omega (arith, begins)) (omega (arith, begins, ends)) g.signed.inner;
+            (omega arith) (omega arith) g.signed.inner;
         spelled = rw sized at (subst M content g.signed.spelled);
         svn = g.signed.svn;
         hashed = λ k d h. same_hash (region_bytes image g.capsule.pages (get_or g.parts.manifest.regions k d)) (bytes_of new (get_or g.parts.manifest.regions k d)) (get_or g.parts.manifest.regions k d).hash (held k d h) (g.paged.coherent k d h);

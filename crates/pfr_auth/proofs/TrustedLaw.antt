@@ -1,5 +1,5 @@
 -- The active image is judged well exactly where it is trusted.
-use Rattle.std.proofs.Common.{◌≡◌, ◌∙◌, ap, refl, subst, ℕ, ◌≤◌, nat_le, List, length, All, Result, Ok}
+use Rattle.std.proofs.Common.{◌≡◌, ◌∙◌, ap, sym, refl, subst, ℕ, ◌≤◌, nat_le, List, length, All, Result, Ok}
 use Rattle.std.proofs.lemmas.Bool.{le-leb, leb-true}
 use Rattle.pfr_flash.specs.Bytes.{bytes_at}
 use Rattle.pfr_flash.specs.Layout.{IsValidLayout}
@@ -47,23 +47,9 @@ signed_holds image bank fuses accepts m bytes h =
     }
 
 -- ---- only the provision, the floor and the row of the bank's manifests are looked at
-judge_signed-same : (image : List ℕ) (bank : Bank) (accepts : Acceptance) (fuses other : FusesState) → fuses.provision ≡ other.provision
-    → row_of fuses (manifest_type bank) ≡ row_of other (manifest_type bank) → judge_signed image bank fuses accepts ≡ judge_signed image bank other accepts
-unfolding judge_signed
-judge_signed-same image bank accepts fuses other provision row = rw (provision, row) refl
-
-pub judge_active-same : (image : List ℕ) (bank : Bank) (accepts : Acceptance) (fuses other : FusesState) → fuses.provision ≡ other.provision → floor_of fuses bank ≡ floor_of other bank
-    → row_of fuses (manifest_type bank) ≡ row_of other (manifest_type bank) → judge_active image bank fuses accepts ≡ judge_active image bank other accepts
-unfolding judge_active
-judge_active-same image bank accepts fuses other provision floor row = rw (judge_signed-same image bank accepts fuses other provision row, floor) refl
-
-IsSigned-same : (image : List ℕ) (bank : Bank) (accepts : Acceptance) (fuses other : FusesState) (m : Manifest) → fuses.provision ≡ other.provision
-    → row_of fuses (manifest_type bank) ≡ row_of other (manifest_type bank) → IsSigned image bank fuses accepts m → IsSigned image bank other accepts m
-IsSigned-same image bank accepts fuses other m provision row h = record {
-  chain = h.chain;
-  signed = rw (provision, row) at h.signed;
-  spelled = rw provision at h.spelled;
-}
+stands_same : (image nv : List ℕ) (bank : Bank) (accepts : Acceptance) (fuses : FusesState) (p : StandFor nv fuses bank) → judge_active image bank fuses accepts ≡ judge_active image bank p.all accepts
+unfolding judge_active judge_signed
+stands_same image nv bank accepts fuses p = rw (p.provision, p.floor, p.row) refl
 
 -- the fuses that a store says stand for it
 pub stands_whole : (nv : List ℕ) (fuses : FusesState) (bank : Bank) → fuses_of nv ≡ Ok fuses → StandFor nv fuses bank
@@ -86,17 +72,17 @@ judged_parts image bank accepts fuses m j =
 pub judged_trusted : (image nv : List ℕ) (bank : Bank) (accepts : Acceptance) (fuses : FusesState) (m : Manifest) → StandFor nv fuses bank
     → IsValidLayout (layout_of fuses.provision bank) (length image) → AreBytes image → judge_active image bank fuses accepts ≡ Ok m → (t : IsTrusted image nv bank accepts) × (t.manifest ≡ m)
 judged_trusted image nv bank accepts fuses m p l bytes j =
-    let k = judged_parts image bank accepts fuses m j in
-    let s : IsSigned image bank p.all accepts m = IsSigned-same image bank accepts fuses p.all m p.provision p.row (signed_holds image bank fuses accepts m bytes k.0) in
+    let k = judged_parts image bank accepts p.all m (sym (stands_same image nv bank accepts fuses p) ∙ j) in
+    let s = signed_holds image bank p.all accepts m bytes k.0 in
     let t : IsTrusted image nv bank accepts = record {
       fuses = p.all;
       manifest = m;
       chain = s.chain;
       provisioned = p.provisioned;
-      layout = subst (λ (slot : RootSlot). IsValidLayout (layout_of slot bank) (length image)) p.provision l;
+      layout = rw p.provision at l;
       signed = s.signed;
       spelled = s.spelled;
-      svn = subst (λ (floor : ℕ). floor ≤ m.svn) p.floor k.1;
+      svn = k.1;
       hashed = k.2;
     } in
     (t, refl)
@@ -122,5 +108,4 @@ trusted_found image nv bank accepts fuses p t =
     let is = p.provisioned in
     let here = t.provisioned in
     let e : t.fuses ≡ p.all = cc in
-    judge_active-same image bank accepts fuses p.all p.provision p.floor p.row
-    ∙ subst (λ (f : FusesState). judge_active image bank f accepts ≡ Ok t.manifest) e (trusted_judged image nv bank accepts t)
+    stands_same image nv bank accepts fuses p ∙ (rw e at (trusted_judged image nv bank accepts t))

@@ -28,6 +28,7 @@ fn is_hashed<F: Flash>(flash: &mut F, region: &Region) -> Result<bool, FlashFail
 }
 
 /// Compares the hashes of the regions, in order.
+#[tactic(auto, using(pfr_flash::proofs::EndsLemmas::then_ends))]
 pub fn check_regions<F: Flash>(flash: &mut F, regions: &Regions) -> Result<(), ActiveFail>
     requires { All (IsInside (size_of (F.device flash.old))) regions.now }
     ensures exact { Answers active_failure result (judge_regions (now (F.device flash.old)) 0 regions.now) }

@@ -17,6 +17,7 @@ use pfr_fuses::Fuses;
 use pfr_manifest::Manifest;
 
 /// The manifest that is signed in the bank's manifest area.
+#[tactic(auto, using(pfr_flash::proofs::EndsLemmas::then_ends))]
 fn signed_manifest<F: Flash, E: Engine>(
     flash: &mut F,
     bank: Bank,
@@ -46,7 +47,7 @@ fn signed_manifest<F: Flash, E: Engine>(
 }
 
 /// The manifest of the bank's active image, as the judgement alone.
-#[tactic(auto, unfolding(crate::specs::Judge::judge_active))]
+#[tactic(auto, using(pfr_flash::proofs::EndsLemmas::then_ends), unfolding(crate::specs::Judge::judge_active))]
 pub fn judged<F: Flash, E: Engine>(
     flash: &mut F,
     bank: Bank,

@@ -1,58 +1,78 @@
--- What a good capsule says of places: it lies within the length, its pages can be asked for, its regions lie in the bank.
-use Rattle.std.proofs.Common.{◌≡◌, ap, sym, subst, ℕ, ◌+◌, ◌-◌, ◌%◌, ◌≤◌, min, List, length, All, arith}
+-- A capsule that is signed, framed and served lies where it is judged, and so do its parts. What a good one says of places:
+-- it lies within the length, its pages can be asked for, its regions lie in the bank.
+use Rattle.std.proofs.Common.{◌≡◌, ℕ, ◌+◌, ◌%◌, ◌≤◌, min, List, length, All, arith}
+use Rattle.pfr_flash.specs.declared.layout.Layout.{Layout}
 use Rattle.pfr_flash.specs.declared.names.Bank.{Bank}
 use Rattle.pfr_engine.specs.Acceptance.{Acceptance}
+use Rattle.pfr_fuses.specs.FusesState.{FusesState}
 use Rattle.pfr_fuses.specs.RootSlot.{layout_of}
 use Rattle.pfr_manifest.specs.Regions.{IsRegion}
-use Rattle.pfr_manifest.specs.declared.manifest.Manifest.{Manifest}
-use Rattle.pfr_capsule.specs.CapsuleState.{CapsuleState}
+use Rattle.pfr_capsule.specs.CapsuleState.{CapsuleState, capsule_of}
 use Rattle.pfr_capsule.specs.Good.{IsGood, Serves}
+use Rattle.pfr_capsule.specs.Lying.{LiesAt}
+use Rattle.pfr_capsule.specs.PageHeader.{HasHeader}
 use Rattle.pfr_capsule.specs.Pages.{HasIndex, pages_at}
-use Rattle.pfr_capsule.specs.Signed.{end_of}
-use Rattle.pfr_capsule.specs.declared.pages.Pages.{Pages}
+use Rattle.pfr_capsule.specs.Signed.{IsSigned, end_of}
+use Rattle.pfr_capsule.specs.declared.page_header.PageHeader.{PageHeader}
+use Rattle.pfr_capsule.specs.declared.signed.Signed.{Signed}
 use Rattle.pfr_capsule.proofs.PagesRead.{has_pages_at}
 
+-- where the contents of a capsule and of its manifest begin and end
+pub record IsLaid (place len manifest_len : ℕ) (signed : Signed) : Type 0 where
+  pub capsule_begins : place + 1024 ≤ signed.capsule.content_at
+  pub capsule_ends : end_of signed.capsule ≤ place + len
+  pub inner_begins : signed.capsule.content_at + 1024 ≤ signed.inner.content_at
+  pub inner_ends : end_of signed.inner ≤ signed.capsule.content_at + min signed.capsule.length manifest_len
+
+module _ (image : List ℕ) (place len : ℕ) (bank : Bank) (layout : Layout) (fuses : FusesState) (accepts : Acceptance) (signed : Signed) (s : IsSigned image place len bank layout fuses accepts signed) where
+  pub parts_laid : IsLaid place len layout.manifest_len signed
+  parts_laid = record {
+    capsule_begins = omega (arith, s.capsule.content_at, s.capsule.block.right_length.least);
+    capsule_ends = omega (arith, s.capsule.content_at, s.capsule.length, s.capsule.block.within);
+    inner_begins = omega (arith, s.inner.content_at, s.inner.block.right_length.least);
+    inner_ends = omega (arith, s.inner.content_at, s.inner.length, s.inner.block.within);
+  }
+
+  pub parts_lie : (header : PageHeader) → HasHeader image (end_of signed.inner) (end_of signed.capsule) header → (capsule : CapsuleState) → Serves image capsule.pages header.payload_len signed.manifest.regions
+      → capsule ≡ capsule_of image place signed (pages_at image (end_of signed.inner + 128) header.map_bits) → LiesAt image place len capsule
+  parts_lie header framed capsule serves found =
+      let l = parts_laid in
+      let fills = framed.fills in
+      let payload = rw found at serves.payload in
+      rw found (record {
+        within = omega arith;
+        signed_manifest = record { low = omega arith; high = omega arith };
+        erase = record { low = omega arith; high = omega arith };
+        copy = record { low = omega arith; high = omega arith };
+        payload = record { low = omega arith; high = omega (arith, payload) };
+      })
+
 module _ (image nv : List ℕ) (place len : ℕ) (bank : Bank) (accepts : Acceptance) (g : IsGood image place len nv bank accepts) where
-  -- where the capsule's and the manifest's content begin
-  pub capsule_begins : place + 1024 ≤ g.parts.capsule.content_at
-  capsule_begins = omega (arith, g.signed.capsule.content_at, g.signed.capsule.block.right_length.least)
+  pub good_laid : IsLaid place len (layout_of g.fuses.provision bank).manifest_len g.parts
+  good_laid = parts_laid image place len bank (layout_of g.fuses.provision bank) g.fuses accepts g.parts g.signed
 
-  pub inner_begins : g.parts.capsule.content_at + 1024 ≤ g.parts.inner.content_at
-  inner_begins = omega (arith, g.signed.inner.content_at, g.signed.inner.block.right_length.least)
+  good_lies : LiesAt image place len g.capsule
+  good_lies = parts_lie image place len bank (layout_of g.fuses.provision bank) g.fuses accepts g.parts g.signed g.header g.framed g.capsule g.paged g.found
 
-  -- where they end
   pub capsule_ends : place + g.capsule.length ≡ end_of g.parts.capsule
-  capsule_ends = let is : g.capsule.length ≡ end_of g.parts.capsule - place = ap (λ (c : CapsuleState). c.length) g.found in omega (arith, is, capsule_begins)
-
-  pub inner_ends : end_of g.parts.inner ≤ g.parts.capsule.content_at + min g.parts.capsule.length (layout_of g.fuses.provision bank).manifest_len
-  inner_ends = omega (arith, g.signed.inner.content_at, g.signed.inner.length, g.signed.inner.block.within)
+  capsule_ends = rw g.found (omega (arith, good_laid.capsule_begins))
 
   pub good_within : g.capsule.length ≤ len
-  good_within = omega (arith, capsule_ends, g.signed.capsule.content_at, g.signed.capsule.length, g.signed.capsule.block.within)
+  good_within = good_lies.within
 
   -- the signed manifest stands behind the capsule's block, and fits the manifest area
   pub manifest_inside : place + g.capsule.length ≤ length image → g.capsule.signed_manifest.at + g.capsule.signed_manifest.len ≤ length image
-  manifest_inside inside =
-      let from : g.capsule.signed_manifest.at ≡ g.parts.capsule.content_at = ap (λ (c : CapsuleState). c.signed_manifest.at) g.found in
-      let long : g.capsule.signed_manifest.len ≡ end_of g.parts.inner - g.parts.capsule.content_at = ap (λ (c : CapsuleState). c.signed_manifest.len) g.found in
-      omega (arith, from, long, inside, capsule_ends, inner_begins, inner_ends)
+  manifest_inside inside = omega (arith, good_lies.signed_manifest.high)
 
   pub manifest_fits : g.capsule.signed_manifest.len ≤ (layout_of g.fuses.provision bank).manifest_len
-  manifest_fits =
-      let long : g.capsule.signed_manifest.len ≡ end_of g.parts.inner - g.parts.capsule.content_at = ap (λ (c : CapsuleState). c.signed_manifest.len) g.found in
-      omega (arith, long, inner_begins, inner_ends)
+  manifest_fits = rw g.found (omega (arith, good_laid.inner_begins, good_laid.inner_ends))
 
   pub good_regions : All (IsRegion (layout_of g.fuses.provision bank) (length image)) g.capsule.manifest.regions
-  good_regions =
-      let same : g.parts.manifest ≡ g.capsule.manifest = ap (λ (c : CapsuleState). c.manifest) (sym g.found) in
-      subst (λ (m : Manifest). All (IsRegion (layout_of g.fuses.provision bank) (length image)) m.regions) same g.signed.spelled.each_region
+  good_regions = rw g.found g.signed.spelled.each_region
 
   pub good_pages : length image % 65536 ≡ 0 → length image ≤ 67108864 → place + g.capsule.length ≤ length image → HasIndex image g.capsule.pages
   good_pages blocks most inside =
-      let at : ℕ = end_of g.parts.inner + 128 in
-      let here : Pages = pages_at image at g.header.map_bits in
-      let same : g.capsule.pages ≡ here = ap (λ (c : CapsuleState). c.pages) g.found in
-      let s : Serves image here g.header.payload_len g.parts.manifest.regions = subst (λ (pages : Pages). Serves image pages g.header.payload_len g.parts.manifest.regions) same g.paged in
       let h = g.framed in
-      subst (λ (pages : Pages). HasIndex image pages) (sym same)
-      (has_pages_at image at g.header (omega (arith, h.map_bits, most)) (omega (arith, h.map_bits, blocks)) (omega (arith, h.fills, inside, capsule_ends)) s.payload)
+      let payload = rw g.found at g.paged.payload in
+      let ends = capsule_ends in
+      rw g.found (has_pages_at image (end_of g.parts.inner + 128) g.header (omega (arith, h.map_bits, most)) (omega (arith, h.map_bits, blocks)) (omega (arith, h.fills, inside, ends)) payload)

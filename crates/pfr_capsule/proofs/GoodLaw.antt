@@ -10,10 +10,7 @@ use Rattle.pfr_flash.specs.declared.names.Bank.{Bank}
 use Rattle.pfr_flash.specs.declared.names.Bank.TheVariants.{Bmc, Pch}
 use Rattle.pfr_flash.specs.declared.names.ContentType.{ContentType}
 use Rattle.pfr_engine.specs.Acceptance.{Acceptance}
-use Rattle.pfr_engine.specs.declared.engine.Curve.{Curve}
 use Rattle.pfr_chain.specs.Chain.{IsBlock1, IsChain}
-use Rattle.pfr_chain.specs.Form1.{IsSignedBy}
-use Rattle.pfr_chain.specs.Form2.{IsLongSignedBy}
 use Rattle.pfr_chain.specs.Types.{is_certificate}
 use Rattle.pfr_chain.specs.declared.form.Form.{Form}
 use Rattle.pfr_chain.specs.declared.form.Form.TheVariants.{One, Two}
@@ -22,7 +19,6 @@ use Rattle.pfr_chain.specs.Judge.{judge}
 use Rattle.pfr_chain.proofs.ChainLaw.{judge_ends as chain_ends, judge_holds as chain_holds}
 use Rattle.pfr_fuses.specs.FusesState.{FusesState, floor_of, row_of}
 use Rattle.pfr_fuses.specs.RootSlot.{layout_of}
-use Rattle.pfr_fuses.specs.declared.root_slot.RootSlot.{RootSlot}
 use Rattle.pfr_manifest.specs.declared.region.Region.{Region}
 use Rattle.pfr_manifest.specs.Judge.{judge_manifest}
 use Rattle.pfr_manifest.proofs.FindingLaw.{judge_ends as manifest_ends}
@@ -30,10 +26,10 @@ use Rattle.pfr_manifest.proofs.ReadingLaw.{judge_holds as manifest_holds}
 use Rattle.pfr_capsule.specs.CapsuleState.{CapsuleState, capsule_of}
 use Rattle.pfr_capsule.specs.Good.{IsGood, Serves, StandForBank}
 use Rattle.pfr_capsule.specs.Judge.{judge_capsule, judge_header, judge_maps, judge_numbers, judge_pages}
-use Rattle.pfr_flash.specs.Judging.{◌>>◌, require_none, told_as}
+use Rattle.pfr_flash.specs.Judging.{told_as}
 use Rattle.pfr_capsule.specs.Maps.{count_before, page_outside, uncovered_region, unerased_copy}
 use Rattle.pfr_capsule.specs.PageBytes.{incoherent_region}
-use Rattle.pfr_capsule.specs.PageHeader.{HasHeader, IsPageHeader, has_constants, page_header_of}
+use Rattle.pfr_capsule.specs.PageHeader.{HasHeader, IsPageHeader, page_header_of}
 use Rattle.pfr_capsule.specs.Pages.{copy_map, erase_map, pages_at}
 use Rattle.pfr_capsule.specs.Signed.{IsSigned, end_of, id_or_zero, key_of}
 use Rattle.pfr_capsule.specs.SignedJudge.{judge_capsule_chain, judge_inner_chain, judge_signed}
@@ -41,37 +37,22 @@ use Rattle.pfr_capsule.specs.declared.fail.CapsuleFail.TheVariants as causes
 use Rattle.pfr_capsule.specs.declared.page_header.PageHeader.{PageHeader}
 use Rattle.pfr_capsule.specs.declared.pages.Pages.{Pages}
 use Rattle.pfr_capsule.specs.declared.signed.Signed.{Signed}
-use Rattle.pfr_flash.proofs.JudgingLemmas.{passed_part, passed_unit, passed_test, passed_none, passed_last, passed_last_none, told_ok}
+use Rattle.pfr_flash.proofs.JudgingLemmas.{passed_part, passed_unit, passed_test, passed_none, passed_last_none, told_ok}
 use Rattle.pfr_flash.proofs.AreBytesLemmas.{AreBytes-bytes_at}
 use Rattle.pfr_capsule.specs.Lying.{LiesAt}
-use Rattle.pfr_capsule.proofs.LyingLaw.{parts_lie}
-use Rattle.pfr_capsule.proofs.MapsLaw.{none_copied, copied_none, none_outside, outside_none, none_uncovered, uncovered_none, none_incoherent, incoherent_none}
+use Rattle.pfr_capsule.proofs.GoodFacts.{parts_lie}
+use Rattle.pfr_capsule.proofs.MapsLaw.{none_copied, none_outside, none_uncovered, none_incoherent}
 
 -- ---- the header
-constants_hold : (header : PageHeader) → has_constants header ≡ true → IsPageHeader header
-constants_hold header h = grind (arith, nat_tests)
-
-constants_end : (header : PageHeader) → IsPageHeader header → has_constants header ≡ true
-constants_end header h = grind (arith, nat_tests)
-
 numbers_hold : (header : PageHeader) (at end size : ℕ) → judge_numbers header at end size ≡ Ok tt
     → IsPageHeader header × (header.map_bits ≡ size / 4096) × (at + 128 + header.map_bits / 8 + header.map_bits / 8 + header.payload_len ≡ end)
 unfolding judge_numbers
-numbers_hold header at end size h =
-    let filled : ℕ = at + 128 + header.map_bits / 8 + header.map_bits / 8 + header.payload_len in
-    let a = passed_test causes.PbcHeader (has_constants header) _ tt h in
-    let b = passed_test causes.MapBits (header.map_bits == size / 4096) _ tt a.1 in
-    (constants_hold header a.0, eqb-true header.map_bits (size / 4096) b.0, eqb-true filled end (passed_last causes.BodyLength (filled == end) b.1))
+numbers_hold header at end size h = grind (arith, nat_tests)
 
 numbers_end : (header : PageHeader) (at end size : ℕ) → IsPageHeader header → header.map_bits ≡ size / 4096 → at + 128 + header.map_bits / 8 + header.map_bits / 8 + header.payload_len ≡ end
     → judge_numbers header at end size ≡ Ok tt
 unfolding judge_numbers
-numbers_end header at end size constants bits fills =
-    let a : has_constants header ≡ true = constants_end header constants in
-    let b : (header.map_bits == size / 4096) ≡ true = eq-eqb header.map_bits (size / 4096) bits in
-    let filled : ℕ = at + 128 + header.map_bits / 8 + header.map_bits / 8 + header.payload_len in
-    let d : (filled == end) ≡ true = eq-eqb filled end fills in
-    rw (a, b, d) refl
+numbers_end header at end size constants bits fills = grind (arith, nat_tests)
 
 header_holds : (image : List ℕ) (at end : ℕ) (header : PageHeader) → judge_header image at end ≡ Ok header → HasHeader image at end header
 unfolding judge_header
@@ -102,11 +83,11 @@ maps_hold image pages payload_len regions h coherent =
     let b = passed_none causes.PageOutside (page_outside erase regions pages.bits) _ tt a.1 in
     let d = passed_test causes.PayloadLength (payload_len == 4096 * count_before copy pages.bits) _ tt b.1 in
     record {
-      erased = none_copied erase copy pages.bits a.0;
-      within_regions = none_outside erase regions pages.bits b.0;
+      erased = (none_copied erase copy pages.bits).0 a.0;
+      within_regions = (none_outside erase regions pages.bits).0 b.0;
       payload = eqb-true payload_len (4096 * count_before copy pages.bits) d.0;
-      covered = none_uncovered erase regions pages.bits (passed_last_none causes.StaticNotCovered (uncovered_region erase regions pages.bits) d.1);
-      coherent = none_incoherent image pages regions coherent;
+      covered = (none_uncovered erase regions pages.bits).0 (passed_last_none causes.StaticNotCovered (uncovered_region erase regions pages.bits) d.1);
+      coherent = (none_incoherent image pages regions).0 coherent;
     }
 
 maps_end : (image : List ℕ) (pages : Pages) (payload_len : ℕ) (regions : List Region) → Serves image pages payload_len regions
@@ -115,10 +96,10 @@ unfolding judge_maps
 maps_end image pages payload_len regions s =
     let erase : List ℕ = erase_map image pages in
     let copy : List ℕ = copy_map image pages in
-    let a = copied_none erase copy pages.bits s.erased in
-    let b = outside_none erase regions pages.bits s.within_regions in
+    let a = (none_copied erase copy pages.bits).1 s.erased in
+    let b = (none_outside erase regions pages.bits).1 s.within_regions in
     let d : (payload_len == 4096 * count_before copy pages.bits) ≡ true = eq-eqb payload_len (4096 * count_before copy pages.bits) s.payload in
-    let e = uncovered_none erase regions pages.bits s.covered in
+    let e = (none_uncovered erase regions pages.bits).1 s.covered in
     rw (a, b, d, e) refl
 
 pages_hold : (image : List ℕ) (at : ℕ) (header : PageHeader) (regions : List Region) (pages : Pages) → judge_pages image at header regions ≡ Ok pages
@@ -130,13 +111,6 @@ pages_hold image at header regions pages h =
     let is : here ≡ pages = cc in
     let P : Pages → Type 0 = λ p. (judge_maps (erase_map image p) (copy_map image p) p.bits header.payload_len regions ≡ Ok tt) × (p ≡ here) in
     subst P is (a.0, refl)
-
-pages_end : (image : List ℕ) (at : ℕ) (header : PageHeader) (regions : List Region) → Serves image (pages_at image at header.map_bits) header.payload_len regions
-    → judge_pages image at header regions ≡ Ok (pages_at image at header.map_bits)
-unfolding judge_pages
-pages_end image at header regions s =
-    let maps = maps_end image (pages_at image at header.map_bits) header.payload_len regions s in
-    rw maps refl
 
 -- ---- what is signed
 signed_ends : (image : List ℕ) (place len : ℕ) (bank : Bank) (layout : Layout) (fuses : FusesState) (accepts : Acceptance) (signed : Signed) →
@@ -170,59 +144,24 @@ signed_holds image place len bank layout fuses accepts signed bytes h =
     })
 
 -- only the provision, the floor and both rows of the bank are looked at
-judge_signed-same : (image : List ℕ) (place len : ℕ) (bank : Bank) (layout : Layout) (accepts : Acceptance) (fuses other : FusesState) → fuses.provision ≡ other.provision → floor_of fuses bank ≡ floor_of other bank
-    → row_of fuses (capsule_type bank) ≡ row_of other (capsule_type bank) → row_of fuses (manifest_type bank) ≡ row_of other (manifest_type bank)
-    → judge_signed image place len bank layout fuses accepts ≡ judge_signed image place len bank layout other accepts
-unfolding judge_signed judge_capsule_chain judge_inner_chain
-judge_signed-same image place len bank layout accepts fuses other provision floor capsule_row manifest_row = rw (provision, floor, capsule_row, manifest_row) refl
-
-IsSigned-same : (image : List ℕ) (place len : ℕ) (bank : Bank) (layout : Layout) (accepts : Acceptance) (fuses other : FusesState) (signed : Signed) → fuses.provision ≡ other.provision → floor_of fuses bank ≡ floor_of other bank
-    → row_of fuses (capsule_type bank) ≡ row_of other (capsule_type bank) → row_of fuses (manifest_type bank) ≡ row_of other (manifest_type bank)
-    → IsSigned image place len bank layout fuses accepts signed → IsSigned image place len bank layout other accepts signed
-IsSigned-same image place len bank layout accepts fuses other signed provision floor capsule_row manifest_row s = record {
-  capsule = rw (provision, capsule_row) at s.capsule;
-  inner = rw (provision, manifest_row) at s.inner;
-  spelled = s.spelled;
-  svn = rw floor at s.svn;
-}
-
-pub judge_capsule-same : (image : List ℕ) (place len : ℕ) (bank : Bank) (layout : Layout) (accepts : Acceptance) (fuses other : FusesState) → fuses.provision ≡ other.provision → floor_of fuses bank ≡ floor_of other bank
-    → row_of fuses (capsule_type bank) ≡ row_of other (capsule_type bank) → row_of fuses (manifest_type bank) ≡ row_of other (manifest_type bank)
-    → judge_capsule image place len bank layout fuses accepts ≡ judge_capsule image place len bank layout other accepts
-unfolding judge_capsule
-judge_capsule-same image place len bank layout accepts fuses other provision floor capsule_row manifest_row =
-    rw (judge_signed-same image place len bank layout accepts fuses other provision floor capsule_row manifest_row) refl
+stands_same : (image nv : List ℕ) (place len : ℕ) (bank : Bank) (accepts : Acceptance) (fuses : FusesState) (p : StandForBank nv fuses bank) →
+    judge_capsule image place len bank (layout_of fuses.provision bank) fuses accepts ≡ judge_capsule image place len bank (layout_of p.all.provision bank) p.all accepts
+unfolding judge_capsule judge_signed judge_capsule_chain judge_inner_chain
+stands_same image nv place len bank accepts fuses p = rw (p.provision, p.floor, p.capsule_row, p.manifest_row) refl
 
 -- ---- the keys that signed
-form1_key : (key : Option ℕ) (block : List ℕ) (curve : Curve) (type : ContentType) (row : List ℕ) (accepts : Acceptance) → is_certificate type ≡ false → IsSignedBy key block curve type row accepts → key ≡ Some (id_or_zero key)
-form1_key None block curve type row accepts plain s = let e = s.certificate in cc
-form1_key (Some id) block curve type row accepts plain s = refl
-
-form2_key : (key : Option ℕ) (block : List ℕ) (type : ContentType) (row : List ℕ) (accepts : Acceptance) → is_certificate type ≡ false → IsLongSignedBy key block type row accepts → key ≡ Some (id_or_zero key)
-form2_key None block type row accepts plain s = let e = s.certificate in cc
-form2_key (Some id) block type row accepts plain s = refl
-
 block1_key : (form : Form) (key : Option ℕ) (block : List ℕ) (type : ContentType) (root row : List ℕ) (accepts : Acceptance) → is_certificate type ≡ false → IsBlock1 form block type root row accepts key → key ≡ Some (id_or_zero key)
-block1_key One key block type root row accepts plain s = form1_key key block s.curve type row accepts plain s.signer
-block1_key Two key block type root row accepts plain s = form2_key key block type row accepts plain s.signer
+block1_key One None block type root row accepts plain s = let e = s.signer.certificate in cc
+block1_key Two None block type root row accepts plain s = let e = s.signer.certificate in cc
+block1_key One (Some id) block type root row accepts plain s = refl
+block1_key Two (Some id) block type root row accepts plain s = refl
 
 chain_key : (image : List ℕ) (place len : ℕ) (type : ContentType) (root row : List ℕ) (accepts : Acceptance) (chain : Chain) → is_certificate type ≡ false → IsChain image place len type root row accepts chain → chain.key ≡ Some (key_of chain)
 chain_key image place len type root row accepts chain plain s = block1_key s.block.form chain.key (bytes_at image place s.blen) type root row accepts plain s.signed
 
-no_capsule_certificate : (bank : Bank) → is_certificate (capsule_type bank) ≡ false
-no_capsule_certificate Bmc = refl
-no_capsule_certificate Pch = refl
-
-no_manifest_certificate : (bank : Bank) → is_certificate (manifest_type bank) ≡ false
-no_manifest_certificate Bmc = refl
-no_manifest_certificate Pch = refl
-
-module _ (image : List ℕ) (place len : ℕ) (bank : Bank) (layout : Layout) (fuses : FusesState) (accepts : Acceptance) (signed : Signed) (s : IsSigned image place len bank layout fuses accepts signed) where
-  capsule_key_is : signed.capsule.key ≡ Some (key_of signed.capsule)
-  capsule_key_is = chain_key image place len (capsule_type bank) fuses.provision.root (row_of fuses (capsule_type bank)) accepts signed.capsule (no_capsule_certificate bank) s.capsule
-
-  manifest_key_is : signed.inner.key ≡ Some (key_of signed.inner)
-  manifest_key_is = chain_key image signed.capsule.content_at (min signed.capsule.length layout.manifest_len) (manifest_type bank) fuses.provision.root (row_of fuses (manifest_type bank)) accepts signed.inner (no_manifest_certificate bank) s.inner
+no_certificates : (bank : Bank) → (is_certificate (capsule_type bank) ≡ false) × (is_certificate (manifest_type bank) ≡ false)
+no_certificates Bmc = (refl, refl)
+no_certificates Pch = (refl, refl)
 
 -- ---- What is judged well is good, where what is signed was found to be.
 -- the parts of a capsule that was judged well
@@ -234,24 +173,6 @@ record Parts (image : List ℕ) (place len : ℕ) (bank : Bank) (layout : Layout
   paged : Serves image capsule.pages header.payload_len signed.manifest.regions
   found : capsule ≡ capsule_of image place signed (pages_at image (end_of signed.inner + 128) header.map_bits)
 
-assembled : (image : List ℕ) (place len : ℕ) (bank : Bank) (layout : Layout) (fuses : FusesState) (accepts : Acceptance) (capsule : CapsuleState) (signed : Signed) (header : PageHeader) (pages : Pages) →
-    judge_signed image place len bank layout fuses accepts ≡ Ok signed → judge_header image (end_of signed.inner) (end_of signed.capsule) ≡ Ok header →
-    judge_pages image (end_of signed.inner + 128) header signed.manifest.regions ≡ Ok pages →
-    (require_none causes.Incoherent (incoherent_region image pages signed.manifest.regions) >> Ok (capsule_of image place signed pages)) ≡ Ok capsule → Parts image place len bank layout fuses accepts capsule
-assembled image place len bank layout fuses accepts capsule signed header pages judged framed paged h =
-    let a = pages_hold image (end_of signed.inner + 128) header signed.manifest.regions pages paged in
-    let b = passed_none causes.Incoherent (incoherent_region image pages signed.manifest.regions) (Ok (capsule_of image place signed pages)) capsule h in
-    let is : capsule_of image place signed pages ≡ capsule = cc in
-    let P : CapsuleState → Type 0 = λ c. Serves image c.pages header.payload_len signed.manifest.regions in
-    record {
-      signed = signed;
-      header = header;
-      judged = judged;
-      framed = header_holds image (end_of signed.inner) (end_of signed.capsule) header framed;
-      paged = subst P is (maps_hold image pages header.payload_len signed.manifest.regions a.0 b.0);
-      found = sym is ∙ ap (λ (p : Pages). capsule_of image place signed p) a.1;
-    }
-
 judged_parts : (image : List ℕ) (place len : ℕ) (bank : Bank) (layout : Layout) (fuses : FusesState) (accepts : Acceptance) (capsule : CapsuleState) →
     judge_capsule image place len bank layout fuses accepts ≡ Ok capsule → Parts image place len bank layout fuses accepts capsule
 unfolding judge_capsule
@@ -259,29 +180,38 @@ judged_parts image place len bank layout fuses accepts capsule h =
     let a = passed_part (judge_signed image place len bank layout fuses accepts) _ capsule h in
     let b = passed_part (judge_header image (end_of a.0.inner) (end_of a.0.capsule)) _ capsule a.2 in
     let d = passed_part (judge_pages image (end_of a.0.inner + 128) b.0 a.0.manifest.regions) _ capsule b.2 in
-    assembled image place len bank layout fuses accepts capsule a.0 b.0 d.0 a.1 b.1 d.1 d.2
+    let e = pages_hold image (end_of a.0.inner + 128) b.0 a.0.manifest.regions d.0 d.1 in
+    let f = passed_none causes.Incoherent (incoherent_region image d.0 a.0.manifest.regions) (Ok (capsule_of image place a.0 d.0)) capsule d.2 in
+    let is : capsule_of image place a.0 d.0 ≡ capsule = let last = f.1 in cc in
+    record {
+      signed = a.0;
+      header = b.0;
+      judged = a.1;
+      framed = header_holds image (end_of a.0.inner) (end_of a.0.capsule) b.0 b.1;
+      paged = subst (λ (c : CapsuleState). Serves image c.pages b.0.payload_len a.0.manifest.regions) is (maps_hold image d.0 b.0.payload_len a.0.manifest.regions e.0 f.0);
+      found = sym is ∙ ap (capsule_of image place a.0) e.1;
+    }
 
 pub judged_good : (image nv : List ℕ) (place len : ℕ) (bank : Bank) (accepts : Acceptance) (fuses : FusesState) (capsule : CapsuleState) → StandForBank nv fuses bank
     → IsValidLayout (layout_of fuses.provision bank) (length image) → AreBytes image
     → judge_capsule image place len bank (layout_of fuses.provision bank) fuses accepts ≡ Ok capsule → (g : IsGood image place len nv bank accepts) × (g.capsule ≡ capsule)
 judged_good image nv place len bank accepts fuses capsule p valid bytes h =
-    let layout : Layout = layout_of fuses.provision bank in
-    let j = judged_parts image place len bank layout fuses accepts capsule h in
-    let signed : IsSigned image place len bank layout fuses accepts j.signed = signed_holds image place len bank layout fuses accepts j.signed bytes j.judged in
-    let Q : RootSlot → Type 0 = λ slot. IsSigned image place len bank (layout_of slot bank) p.all accepts j.signed in
-    let V : RootSlot → Type 0 = λ slot. IsValidLayout (layout_of slot bank) (length image) in
+    let layout : Layout = layout_of p.all.provision bank in
+    let j = judged_parts image place len bank layout p.all accepts capsule (sym (stands_same image nv place len bank accepts fuses p) ∙ h) in
+    let signed : IsSigned image place len bank layout p.all accepts j.signed = signed_holds image place len bank layout p.all accepts j.signed bytes j.judged in
+    let plain = no_certificates bank in
     let g : IsGood image place len nv bank accepts = record {
       fuses = p.all;
       parts = j.signed;
       header = j.header;
       capsule = capsule;
       provisioned = p.provisioned;
-      layout = subst V p.provision valid;
-      signed = subst Q p.provision (IsSigned-same image place len bank layout accepts fuses p.all j.signed p.provision p.floor p.capsule_row p.manifest_row signed);
+      layout = rw p.provision at valid;
+      signed = signed;
       framed = j.framed;
       paged = j.paged;
-      capsule_key = capsule_key_is image place len bank layout fuses accepts j.signed signed ∙ ap (λ (c : CapsuleState). Some c.capsule_key) (sym j.found);
-      manifest_key = manifest_key_is image place len bank layout fuses accepts j.signed signed ∙ ap (λ (c : CapsuleState). Some c.manifest_key) (sym j.found);
+      capsule_key = chain_key _ _ _ _ _ _ _ _ plain.0 signed.capsule ∙ ap (λ (c : CapsuleState). Some c.capsule_key) (sym j.found);
+      manifest_key = chain_key _ _ _ _ _ _ _ _ plain.1 signed.inner ∙ ap (λ (c : CapsuleState). Some c.manifest_key) (sym j.found);
       found = j.found;
     } in
     (g, refl)
@@ -296,18 +226,16 @@ judged_lies image place len bank layout fuses accepts capsule bytes h =
 -- ---- What is good is judged well.
 pub good_judged : (image nv : List ℕ) (place len : ℕ) (bank : Bank) (accepts : Acceptance) (g : IsGood image place len nv bank accepts) →
     judge_capsule image place len bank (layout_of g.fuses.provision bank) g.fuses accepts ≡ Ok g.capsule
-unfolding judge_capsule
+unfolding judge_capsule judge_pages
 good_judged image nv place len bank accepts g =
     let here : Pages = pages_at image (end_of g.parts.inner + 128) g.header.map_bits in
     let regions : List Region = g.parts.manifest.regions in
-    let same : g.capsule.pages ≡ here = ap (λ (c : CapsuleState). c.pages) g.found in
-    let P : Pages → Type 0 = λ pages. Serves image pages g.header.payload_len regions in
-    let serves : Serves image here g.header.payload_len regions = subst P same g.paged in
+    let serves : Serves image here g.header.payload_len regions = rw g.found at g.paged in
     let a = signed_ends image place len bank (layout_of g.fuses.provision bank) g.fuses accepts g.parts g.signed in
     let b = header_ends image (end_of g.parts.inner) (end_of g.parts.capsule) g.header g.framed in
-    let d = pages_end image (end_of g.parts.inner + 128) g.header regions serves in
-    let e = incoherent_none image here regions serves.coherent in
-    rw (a, b, d, e) (ap (λ (c : CapsuleState). Ok c) (sym g.found))
+    let d = maps_end image here g.header.payload_len regions serves in
+    let e = (none_incoherent image here regions).1 serves.coherent in
+    rw (a, b, d, e, g.found) refl
 
 pub good_found : (image nv : List ℕ) (place len : ℕ) (bank : Bank) (accepts : Acceptance) (fuses : FusesState) → StandForBank nv fuses bank → (g : IsGood image place len nv bank accepts) →
     judge_capsule image place len bank (layout_of fuses.provision bank) fuses accepts ≡ Ok g.capsule
@@ -315,7 +243,4 @@ good_found image nv place len bank accepts fuses p g =
     let is = p.provisioned in
     let here = g.provisioned in
     let e : g.fuses ≡ p.all = cc in
-    let P : FusesState → Type 0 = λ f. judge_capsule image place len bank (layout_of f.provision bank) f accepts ≡ Ok g.capsule in
-    judge_capsule-same image place len bank (layout_of fuses.provision bank) accepts fuses p.all p.provision p.floor p.capsule_row p.manifest_row
-    ∙ ap (λ (slot : RootSlot). judge_capsule image place len bank (layout_of slot bank) p.all accepts) p.provision
-    ∙ subst P e (good_judged image nv place len bank accepts g)
+    stands_same image nv place len bank accepts fuses p ∙ (rw e at (good_judged image nv place len bank accepts g))

@@ -1,5 +1,5 @@
 -- The least number that passes a test, and the first element of a list that does.
-use Rattle.std.proofs.Common.{◌≡◌, ◌∙◌, ap, sym, refl, ℕ, zero, suc, ◌+◌, ◌-◌, ◌<◌, ◌≤◌, Bool, true, false, not, ◌&&◌, ◌||◌, cond, List, [], ◌∷◌, length, drop, get_or, All, ◌⊎◌, inl, inr, Option, Some, None, arith, add-one}
+use Rattle.std.proofs.Common.{◌≡◌, ◌↔◌, ◌∙◌, ap, sym, refl, ℕ, zero, suc, ◌+◌, ◌-◌, ◌<◌, ◌≤◌, Bool, true, false, not, ◌&&◌, ◌||◌, cond, List, [], ◌∷◌, length, drop, get_or, All, ◌⊎◌, inl, inr, Option, Some, None, arith, add-one}
 use Rattle.std.specs.List.{list_any, position_from}
 use Rattle.std.proofs.lemmas.List.{drop_more, drop_all}
 use Rattle.std.proofs.lemmas.List.Elements.{All-nil, All-cons, All-head, All-tail}
@@ -76,9 +76,6 @@ least_passes test (suc n) k h = elim (or_tells test n k (least_below test n) h) 
   | inr here ↦ (omega (arith, here.2), ap test (sym here.2) ∙ here.1, λ j below. none_below test n here.0 j (omega (arith, here.2)))
 ]
 
-pub passes_least : (test : ℕ → Bool) (n k : ℕ) → k < n → test k ≡ true → ((j : ℕ) → j < k → test j ≡ false) → least_below test n ≡ Some k
-passes_least test n k inside passes before = least_found test k n inside (below_none test k before) passes
-
 -- a test of two bits, the second of which is to be missing
 pub one_alone : (a b : Bool) → a ≡ true → b ≡ false → (a && not b) ≡ true
 one_alone a b h k = rw (h, k) refl
@@ -124,18 +121,18 @@ pub first_done : {X : Type 0} (test : X → Bool) (xs : List X) (k : ℕ) → le
 first_done test xs k h = rw (drop_all k xs h) refl
 
 -- ---- what the first element tells: there is none, or which it is
-pub none_first : {X : Type 0} (test : X → Bool) (k : ℕ) (xs : List X) → position_from test k xs ≡ None → All (λ x. test x ≡ false) xs
-none_first {X} test k [] h = All-nil (λ (x : X). test x ≡ false)
-none_first {X} test k (x ∷ xs) h =
-    let p : (test x ≡ false) × (position_from test (k + 1) xs ≡ None) = this_none (test x) k (position_from test (k + 1) xs) h in
-    All-cons (λ (y : X). test y ≡ false) x xs p.0 (none_first test (k + 1) xs p.1)
+pub none_first : {X : Type 0} (test : X → Bool) (P : X → Type 0) → ((x : X) → test x ≡ false ↔ P x) → (xs : List X) → position_from test 0 xs ≡ None ↔ All P xs
+none_first {X} test P each xs = (λ h. left 0 xs h, λ h. none 0 xs h)
+  where
+    left : (k : ℕ) (ys : List X) → position_from test k ys ≡ None → All P ys
+    left k [] h = All-nil P
+    left k (y ∷ ys) h =
+        let p = this_none (test y) k (position_from test (k + 1) ys) h in
+        All-cons P y ys ((each y).0 p.0) (left (k + 1) ys p.1)
 
-pub first_none : {X : Type 0} (test : X → Bool) (k : ℕ) (xs : List X) → All (λ x. test x ≡ false) xs → position_from test k xs ≡ None
-first_none {X} test k [] h = refl
-first_none {X} test k (x ∷ xs) h =
-    let here : test x ≡ false = All-head (λ (y : X). test y ≡ false) x xs h in
-    let rest : position_from test (k + 1) xs ≡ None = first_none test (k + 1) xs (All-tail (λ (y : X). test y ≡ false) x xs h) in
-    rw (here, rest) refl
+    none : (k : ℕ) (ys : List X) → All P ys → position_from test k ys ≡ None
+    none k [] h = refl
+    none k (y ∷ ys) h = rw ((each y).1 (All-head P y ys h), none (k + 1) ys (All-tail P y ys h)) refl
 
 -- it passes, and none before it does
 pub first_passes : {X : Type 0} (test : X → Bool) (xs : List X) (k : ℕ) (d : X) → position_from test 0 xs ≡ Some k → (k < length xs) × (test (get_or xs k d) ≡ true) × ((j : ℕ) → j < k → test (get_or xs j d) ≡ false)

@@ -10,5 +10,4 @@ pub mod RegionBytesLaw
 pub mod GoodLaw
 pub mod GoodFacts
 pub mod MovedLaw
-pub mod LyingLaw
 pub mod ServesLaw

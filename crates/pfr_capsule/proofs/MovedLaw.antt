@@ -91,9 +91,6 @@ module _ (a b : List ℕ) (at at' bits len : ℕ) (same : (x y off count : ℕ) 
 -- ---- a good capsule, over two banks of one size
 module _ (a b nv : List ℕ) (p q len len' : ℕ) (bank : Bank) (accepts : Acceptance) (g : IsGood a p len nv bank accepts)
     (sized : length a ≡ length b) (blocks : length a % 65536 ≡ 0) (same : bytes_at a p g.capsule.length ≡ bytes_at b q g.capsule.length) (room : g.capsule.length ≤ len') where
-  capsule_there : Chain
-  capsule_there = moved p q g.parts.capsule
-
   parts_there : Signed
   parts_there = record { capsule = moved p q g.parts.capsule; inner = moved g.parts.capsule.content_at (q + (g.parts.capsule.content_at - p)) g.parts.inner; manifest = g.parts.manifest }
 
@@ -102,17 +99,11 @@ module _ (a b nv : List ℕ) (p q len len' : ℕ) (bank : Bank) (accepts : Accep
   same_at x y off count at at' fits = rw (at, at') (same_part a b p q g.capsule.length off count same fits)
 
   -- where the capsule's and the manifest's content begin and end
-  capsule_begins : p + 1024 ≤ g.parts.capsule.content_at
-  capsule_begins = facts.capsule_begins a nv p len bank accepts g
+  laid : facts.IsLaid p len (layout_of g.fuses.provision bank).manifest_len g.parts
+  laid = facts.good_laid a nv p len bank accepts g
 
   long : p + g.capsule.length ≡ end_of g.parts.capsule
   long = facts.capsule_ends a nv p len bank accepts g
-
-  inner_begins : g.parts.capsule.content_at + 1024 ≤ g.parts.inner.content_at
-  inner_begins = facts.inner_begins a nv p len bank accepts g
-
-  inner_ends : end_of g.parts.inner ≤ g.parts.capsule.content_at + min g.parts.capsule.length (layout_of g.fuses.provision bank).manifest_len
-  inner_ends = facts.inner_ends a nv p len bank accepts g
 
   signed_there : IsSigned b q len' bank (layout_of g.fuses.provision bank) g.fuses accepts parts_there
   unfolding parts_there
@@ -122,21 +113,17 @@ module _ (a b nv : List ℕ) (p q len len' : ℕ) (bank : Bank) (accepts : Accep
       let c : Chain = g.parts.capsule in
       let i : Chain = g.parts.inner in
       let there : ℕ = q + (c.content_at - p) in
-      let body : bytes_at a c.content_at c.length ≡ bytes_at b there c.length = same_at c.content_at there (c.content_at - p) c.length (omega (arith, capsule_begins)) refl (omega (arith, long, capsule_begins)) in
+      let body : bytes_at a c.content_at c.length ≡ bytes_at b there c.length = same_at c.content_at there (c.content_at - p) c.length (omega (arith, laid.capsule_begins)) refl (omega (arith, long, laid.capsule_begins)) in
       let content : bytes_at a i.content_at i.length ≡ bytes_at b (there + (i.content_at - c.content_at)) i.length =
-      same_at i.content_at (there + (i.content_at - c.content_at)) (i.content_at - p) i.length (omega (arith, capsule_begins, inner_begins)) (omega (arith, capsule_begins, inner_begins)) (omega (arith, long, capsule_begins, inner_begins, inner_ends)) in
+      same_at i.content_at (there + (i.content_at - c.content_at)) (i.content_at - p) i.length (omega (arith, laid.capsule_begins, laid.inner_begins)) (omega (arith, laid.capsule_begins, laid.inner_begins)) (omega (arith, long, laid.capsule_begins, laid.inner_begins, laid.inner_ends)) in
       let M : List ℕ → Type 0 = λ bytes. IsManifestOf bytes g.parts.manifest layout (length a) in
       record {
         capsule = IsChain-moved a b p q len len' g.capsule.length (capsule_type bank) fuses.provision.root (row_of fuses (capsule_type bank)) accepts c same (omega (arith, long)) (omega (arith, long, room)) g.signed.capsule;
         inner = IsChain-moved a b c.content_at there (min c.length layout.manifest_len) (min c.length layout.manifest_len) c.length (manifest_type bank) fuses.provision.root (row_of fuses (manifest_type bank)) accepts i body
-            (omega (arith, inner_begins, inner_ends)) (omega (arith, inner_begins, inner_ends)) g.signed.inner;
+            (omega (arith, laid.inner_begins, laid.inner_ends)) (omega (arith, laid.inner_begins, laid.inner_ends)) g.signed.inner;
         spelled = rw sized at (subst M content g.signed.spelled);
         svn = g.signed.svn;
       }
-
-  -- where the header stands
-  header_there : ℕ
-  header_there = q + (end_of g.parts.inner - p)
 
   framed_there : HasHeader b (end_of parts_there.inner) (end_of parts_there.capsule) g.header
   unfolding parts_there
@@ -144,11 +131,11 @@ module _ (a b nv : List ℕ) (p q len len' : ℕ) (bank : Bank) (accepts : Accep
       let at : ℕ = end_of g.parts.inner in
       let h = g.framed in
       record {
-        within = omega (arith, h.within, capsule_begins, inner_begins);
-        spelled = h.spelled ∙ ap page_header_of (same_at at (end_of parts_there.inner) (at - p) 128 (omega (arith, capsule_begins, inner_begins)) (omega (arith, capsule_begins, inner_begins)) (omega (arith, long, h.within, capsule_begins, inner_begins)));
+        within = omega (arith, h.within, laid.capsule_begins, laid.inner_begins);
+        spelled = h.spelled ∙ ap page_header_of (same_at at (end_of parts_there.inner) (at - p) 128 (omega (arith, laid.capsule_begins, laid.inner_begins)) (omega (arith, laid.capsule_begins, laid.inner_begins)) (omega (arith, long, h.within, laid.capsule_begins, laid.inner_begins)));
         constants = h.constants;
         map_bits = h.map_bits ∙ ap (λ (n : ℕ). n / 4096) sized;
-        fills = omega (arith, h.fills, capsule_begins, inner_begins);
+        fills = omega (arith, h.fills, laid.capsule_begins, laid.inner_begins);
       }
 
   -- the capsule that stands there
@@ -167,7 +154,7 @@ module _ (a b nv : List ℕ) (p q len len' : ℕ) (bank : Bank) (accepts : Accep
       let P : Pages → Type 0 = λ pages. Serves a pages g.header.payload_len g.parts.manifest.regions in
       let s : Serves a here g.header.payload_len g.parts.manifest.regions = subst P is g.paged in
       serves_moved a b at (end_of parts_there.inner + 128) bits (bits / 8 + bits / 8 + g.header.payload_len)
-      (λ x y off count from to fits. same_at x y (at - p + off) count (omega (arith, from, capsule_begins, inner_begins)) (omega (arith, to, capsule_begins, inner_begins)) (omega (arith, fits, long, h.fills, capsule_begins, inner_begins)))
+      (λ x y off count from to fits. same_at x y (at - p + off) count (omega (arith, from, laid.capsule_begins, laid.inner_begins)) (omega (arith, to, laid.capsule_begins, laid.inner_begins)) (omega (arith, fits, long, h.fills, laid.capsule_begins, laid.inner_begins)))
       (omega (arith, s.payload)) (layout_of g.fuses.provision bank) (length a) (omega (arith, h.map_bits, blocks)) g.header.payload_len g.parts.manifest.regions g.signed.spelled.each_region s
 
   -- A good capsule is one wherever its bytes stand in a bank of this size, and is the same capsule.
@@ -199,14 +186,14 @@ module _ (a b nv : List ℕ) (p q len len' : ℕ) (bank : Bank) (accepts : Accep
 
   pub length_moved : found_there.length ≡ g.capsule.length
   unfolding parts_there found_there
-  length_moved = omega (arith, long, capsule_begins)
+  length_moved = omega (arith, long, laid.capsule_begins)
 
   pub digest_moved : found_there.digest ≡ g.capsule.digest
   unfolding parts_there found_there
   digest_moved =
       let is : g.capsule.digest ≡ sha256 (bytes_at a p (end_of g.parts.capsule - p)) = ap (λ (c : CapsuleState). c.digest) g.found in
       let here : end_of g.parts.capsule - p ≡ g.capsule.length = ap (λ (c : CapsuleState). c.length) (sym g.found) in
-      let there : end_of parts_there.capsule - q ≡ g.capsule.length = omega (arith, long, capsule_begins) in
+      let there : end_of parts_there.capsule - q ≡ g.capsule.length = omega (arith, long, laid.capsule_begins) in
       ap (λ (n : ℕ). sha256 (bytes_at b q n)) there ∙ ap sha256 (sym same) ∙ ap (λ (n : ℕ). sha256 (bytes_at a p n)) (sym here) ∙ sym is
 
   pub keys_moved : (found_there.capsule_key ≡ g.capsule.capsule_key) × (found_there.manifest_key ≡ g.capsule.manifest_key)

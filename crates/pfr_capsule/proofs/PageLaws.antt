@@ -1,6 +1,6 @@
 -- What is read of the maps tells what becomes of a page.
-use Rattle.std.proofs.Common.{◌≡◌, ◌∙◌, ap, sym, refl, ℕ, ◌+◌, ◌-◌, ◌*◌, ◌/◌, ◌%◌, ◌<◌, ◌≤◌, Bool, true, false, if◌then◌else◌, List, length, take, drop, get_or, Option, Some, None, arith}
-use Rattle.std.proofs.lemmas.List.{drop-drop, drop-take, take-take}
+use Rattle.std.proofs.Common.{◌≡◌, ◌∙◌, ap, sym, refl, ℕ, ◌+◌, ◌*◌, ◌/◌, ◌%◌, ◌<◌, ◌≤◌, Bool, true, false, if◌then◌else◌, List, length, drop, get_or, Option, Some, None, arith}
+use Rattle.pfr_flash.proofs.PartsLemmas.{part_of}
 use Rattle.pfr_flash.specs.Bytes.{bytes_at}
 use Rattle.pfr_capsule.specs.Maps.{map_bit, count_before, copied_before}
 use Rattle.pfr_capsule.specs.Pages.{HasIndex, erase_map, copy_map, page_in, page_of}
@@ -10,21 +10,14 @@ use Rattle.pfr_capsule.proofs.CountLaws.{bit_of_front, bit_of_rest, count_of_fro
 use Rattle.pfr_capsule.proofs.IndexLaws.{indexed_inside}
 
 -- ---- a part of a map that was read
-part_of_map : (image : List ℕ) (at whole i count : ℕ) → i + count ≤ whole → bytes_at image (at + i) count ≡ take count (drop i (bytes_at image at whole))
-part_of_map image at whole i count fits =
-    let m : ℕ = whole - i in
-    let is : i + m ≡ whole = omega arith in
-    let shorter : count ≤ m = omega arith in
-    rw (← is, drop-take i m (drop at image), take-take count m (drop i (drop at image)) shorter, drop-drop i at image) refl
-
 bit_of_part : (image : List ℕ) (at whole i count m : ℕ) → i + count ≤ whole → m < 8 * count → map_bit (bytes_at image (at + i) count) m ≡ map_bit (bytes_at image at whole) (8 * i + m)
 bit_of_part image at whole i count m fits h =
-    rw (part_of_map image at whole i count fits, bit_of_front (drop i (bytes_at image at whole)) count m h) (sym (bit_of_rest (bytes_at image at whole) i m))
+    rw (← part_of image at whole i count fits, bit_of_front (drop i (bytes_at image at whole)) count m h) (sym (bit_of_rest (bytes_at image at whole) i m))
 
 count_of_part : (image : List ℕ) (at whole i count m : ℕ) → i + count ≤ whole → m ≤ 8 * count →
     count_before (bytes_at image at whole) (8 * i) + count_before (bytes_at image (at + i) count) m ≡ count_before (bytes_at image at whole) (8 * i + m)
 count_of_part image at whole i count m fits h =
-    rw (part_of_map image at whole i count fits, count_of_front (drop i (bytes_at image at whole)) count m h) (sym (count_of_rest (bytes_at image at whole) i m))
+    rw (← part_of image at whole i count fits, count_of_front (drop i (bytes_at image at whole)) count m h) (sym (count_of_rest (bytes_at image at whole) i m))
 
 -- a byte of the erase map
 pub erase_bit : (image byte : List ℕ) (pages : Pages) (n : ℕ) (erased : Bool) → HasIndex image pages → n < pages.bits → byte ≡ bytes_at image (pages.erase_at + n / 8) 1 → erased ≡ map_bit byte (n % 8) →

@@ -1,10 +1,12 @@
 -- The parts of the judgement of a capsule, as its calls find them one after the other.
-use Rattle.std.proofs.Common.{◌≡◌, ◌∙◌, ap, refl, sym, ℕ, ◌+◌, ◌<◌, ◌≤◌, nat_le, false, List, length, Result, Ok, Err}
+use Rattle.std.proofs.Common.{◌≡◌, ◌∙◌, ap, refl, sym, ℕ, ◌+◌, ◌<◌, ◌≤◌, nat_le, false, List, length, None, Result, Ok, Err}
 use Rattle.std.proofs.lemmas.Bool.{le-leb, lt-leb}
 use Rattle.pfr_flash.specs.Bytes.{bytes_at}
 use Rattle.pfr_flash.specs.FlashState.{FlashState, now, size_of}
 use Rattle.pfr_flash.specs.declared.layout.Layout.{Layout}
 use Rattle.pfr_flash.specs.declared.names.Bank.{Bank}
+use Rattle.pfr_flash.specs.Reading.{EndsAt}
+use Rattle.pfr_flash.proofs.EndsLemmas.{ends_content}
 use Rattle.pfr_flash.proofs.RangeLemmas.{length-now}
 use Rattle.pfr_engine.specs.Acceptance.{Acceptance}
 use Rattle.pfr_chain.specs.declared.judging.Chain.{Chain}
@@ -37,21 +39,14 @@ header_judged image at end size bytes header fits read is long answer h =
     rw (within, said, same) refl
 
 -- ---- what is signed, as the chains and the manifest are found one after the other
-module _ (old mid late : FlashState) (place len : ℕ) (bank : Bank) (layout : Layout) (fuses : FusesState) (accepts : Acceptance) (capsule inner : Chain)
-    (first : now mid ≡ now old) (second : now late ≡ now mid)
+module _ {old mid late : FlashState} (place len : ℕ) (bank : Bank) (layout : Layout) (fuses : FusesState) (accepts : Acceptance) (capsule inner : Chain) (first : EndsAt None old mid) (second : EndsAt None mid late)
     (outer_found : judge_capsule_chain (now old) place len bank fuses accepts ≡ Ok capsule) (inner_found : judge_inner_chain (now mid) bank layout fuses accepts capsule ≡ Ok inner) where
-  -- reading leaves what is judged
-  same_content : judge_manifest (bytes_at (now old) inner.content_at inner.length) layout (length (now old)) ≡ judge_manifest (bytes_at (now late) inner.content_at inner.length) layout (size_of late)
-  same_content =
-      let same : now late ≡ now old = second ∙ first in
-      rw (← same, length-now late) refl
-
   rest : judge_signed (now old) place len bank layout fuses accepts ≡ (told_as causes.Manifest (judge_manifest (bytes_at (now late) inner.content_at inner.length) layout (size_of late)) >>= λ manifest.
       require causes.SvnFloor (nat_le (floor_of fuses bank) manifest.svn) >> Ok (record { capsule = capsule; inner = inner; manifest = manifest }))
   unfolding judge_signed
   rest =
-      let found : judge_inner_chain (now old) bank layout fuses accepts capsule ≡ Ok inner = ap (λ (image : List ℕ). judge_inner_chain image bank layout fuses accepts capsule) (sym first) ∙ inner_found in
-      rw (outer_found, found, same_content) refl
+      let found : judge_inner_chain (now old) bank layout fuses accepts capsule ≡ Ok inner = rw (ends_content first) at inner_found in
+      rw (outer_found, found, ← ends_content first, ← ends_content second, length-now late) refl
 
   pub manifest_refused : (cause : ManifestFail) → Answers manifest_failure (Err cause) (judge_manifest (bytes_at (now late) inner.content_at inner.length) layout (size_of late)) →
       Answers capsule_failure (Err (causes.Manifest cause)) (judge_signed (now old) place len bank layout fuses accepts)
@@ -76,7 +71,7 @@ module _ (old mid late : FlashState) (place len : ℕ) (bank : Bank) (layout : L
       IsSigned (now old) place len bank layout fuses accepts (record { capsule = capsule; inner = inner; manifest = manifest })
   signed_is manifest outer within spelled above = record {
     capsule = outer;
-    inner = rw first at within;
-    spelled = (let same : now late ≡ now old = second ∙ first in rw (← length-now late, same) at spelled);
+    inner = rw (ends_content first) at within;
+    spelled = rw (← length-now late, ends_content second, ends_content first) at spelled;
     svn = above;
   }

@@ -1,7 +1,6 @@
 -- Where each page of a region holds what a capsule gives for it, the region holds what was hashed.
-use Rattle.std.proofs.Common.{◌≡◌, ◌∙◌, ap, sym, refl, ℕ, zero, suc, ◌+◌, ◌-◌, ◌*◌, ◌/◌, ◌%◌, ◌<◌, List, ◌++◌, drop, arith}
-use Rattle.std.proofs.Math.Seq.{take-add}
-use Rattle.std.proofs.lemmas.List.{drop-drop}
+use Rattle.std.proofs.Common.{◌≡◌, ◌∙◌, ap, sym, refl, ℕ, zero, suc, ◌+◌, ◌-◌, ◌*◌, ◌/◌, ◌%◌, ◌<◌, List, ◌++◌, arith}
+use Rattle.pfr_flash.proofs.PartsLemmas.{bytes_at-append}
 use Rattle.pfr_flash.specs.Bytes.{bytes_at}
 use Rattle.pfr_manifest.specs.Hashes.{bytes_of}
 use Rattle.pfr_manifest.specs.declared.region.Region.{Region}
@@ -9,9 +8,6 @@ use Rattle.pfr_capsule.specs.Maps.{IsPageOf}
 use Rattle.pfr_capsule.specs.PageBytes.{page_bytes, bytes_of_pages, region_bytes}
 use Rattle.pfr_capsule.specs.Pages.{page_of}
 use Rattle.pfr_capsule.specs.declared.pages.Pages.{Pages}
-
-bytes_joined : (bytes : List ℕ) (at done count : ℕ) → bytes_at bytes at done ++ bytes_at bytes (at + done) count ≡ bytes_at bytes at (done + count)
-bytes_joined bytes at done count = rw (take-add done count (drop at bytes), drop-drop done at bytes) refl
 
 pages_hold : (new image : List ℕ) (pages : Pages) (first count : ℕ) → ((i : ℕ) → i < count → bytes_at new (4096 * (first + i)) 4096 ≡ page_bytes image (page_of image pages (first + i))) →
     bytes_at new (4096 * first) (4096 * count) ≡ bytes_of_pages image pages first count
@@ -22,13 +18,11 @@ pages_hold new image pages first (suc count) each =
     let place : 4096 * (first + count) ≡ 4096 * first + 4096 * count = omega arith in
     let before : bytes_at new (4096 * first) (4096 * count) ≡ bytes_of_pages image pages first count = pages_hold new image pages first count (λ i below. each i (omega arith)) in
     let last : bytes_at new (4096 * first + 4096 * count) 4096 ≡ page_bytes image (page_of image pages (first + count)) = rw place at (each count (omega arith)) in
-    rw long (sym (bytes_joined new (4096 * first) (4096 * count) 4096) ∙ ap (λ (bytes : List ℕ). bytes ++ bytes_at new (4096 * first + 4096 * count) 4096) before ∙ ap (λ (bytes : List ℕ). bytes_of_pages image pages first count ++ bytes) last)
+    rw long (sym (bytes_at-append new (4096 * first) (4096 * count) 4096) ∙ ap (λ (bytes : List ℕ). bytes ++ bytes_at new (4096 * first + 4096 * count) 4096) before ∙ ap (λ (bytes : List ℕ). bytes_of_pages image pages first count ++ bytes) last)
 
 pub region_holds : (new image : List ℕ) (pages : Pages) (region : Region) → region.start % 4096 ≡ 0 → region.end % 4096 ≡ 0 →
     ((n : ℕ) → IsPageOf region n → bytes_at new (4096 * n) 4096 ≡ page_bytes image (page_of image pages n)) → bytes_of new region ≡ region_bytes image pages region
 region_holds new image pages region start end each =
-    let first : ℕ = region.start / 4096 in
-    let count : ℕ = region.end / 4096 - region.start / 4096 in
     let place : 4096 * (region.start / 4096) ≡ region.start = omega arith in
     let long : 4096 * (region.end / 4096 - region.start / 4096) ≡ region.end - region.start = omega arith in
     let is : bytes_at new (4096 * (region.start / 4096)) (4096 * (region.end / 4096 - region.start / 4096)) ≡ bytes_of_pages image pages (region.start / 4096) (region.end / 4096 - region.start / 4096) =

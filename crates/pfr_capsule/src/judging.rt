@@ -49,7 +49,7 @@ fn check_numbers(header: &PageHeader, at: u32, end: u32, size: u32) -> Result<()
 }
 
 /// The page-block header at a place, for a body that ends there.
-#[tactic(auto, unfolding(crate::specs::Judge::judge_header))]
+#[tactic(auto, using(pfr_flash::proofs::EndsLemmas::then_ends), unfolding(crate::specs::Judge::judge_header))]
 fn header_at<F: Flash>(flash: &mut F, at: u32, end: u32) -> Result<PageHeader, CapsuleFail>
     requires begins { at ≤ end }
     requires ends { end ≤ size_of (F.device flash.old) }
@@ -101,7 +101,7 @@ fn check_maps(
 }
 
 /// The pages whose maps and payload stand from a place on, as the header in front of it says.
-#[tactic(auto, unfolding(crate::specs::Judge::judge_pages))]
+#[tactic(auto, using(pfr_flash::proofs::EndsLemmas::then_ends), unfolding(crate::specs::Judge::judge_pages))]
 fn pages_at<F: Flash>(
     flash: &mut F,
     at: u32,
@@ -138,7 +138,7 @@ fn pages_at<F: Flash>(
 }
 
 /// The capsule at a place within a length, as the judgement alone.
-#[tactic(auto, unfolding(crate::specs::Judge::judge_capsule))]
+#[tactic(auto, using(pfr_flash::proofs::EndsLemmas::then_ends), unfolding(crate::specs::Judge::judge_capsule))]
 pub fn judged<F: Flash, E: Engine>(
     flash: &mut F,
     place: u32,

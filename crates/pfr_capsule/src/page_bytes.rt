@@ -40,6 +40,7 @@ fn feed_page<F: Flash, H: Digest>(
 }
 
 // adds what the pages of a region give to the hasher's message
+#[tactic(auto, using(pfr_flash::proofs::EndsLemmas::then_ends))]
 fn feed_region<F: Flash, H: Digest>(
     flash: &mut F,
     pages: &Pages,
@@ -84,6 +85,7 @@ fn is_coherent<F: Flash>(flash: &mut F, pages: &Pages, region: &Region) -> Resul
 }
 
 /// The number of the first static region for which the pages give bytes that don't have its hash.
+#[tactic(auto, using(pfr_flash::proofs::EndsLemmas::then_ends))]
 pub fn incoherent_region<F: Flash>(
     flash: &mut F,
     pages: &Pages,

@@ -38,6 +38,7 @@ impl Pages {
     /// What becomes of page `n`.
     ///
     /// It reads a byte of the erase map, and at most eight of the copy map.
+    #[tactic(auto, using(pfr_flash::proofs::EndsLemmas::then_ends))]
     pub fn page<F: Flash>(&self, flash: &mut F, n: u32) -> Result<Page, FlashFail>
         requires size { size_of (F.device flash.old) ≤ 67108864 }
         requires index { HasIndex (now (F.device flash.old)) self.now }

@@ -86,7 +86,7 @@ pub fn key_of(chain: &Chain) -> u8
 }
 
 /// What is signed in the capsule at a place within a length.
-#[tactic(auto, unfolding(crate::specs::SignedJudge::judge_signed))]
+#[tactic(auto, using(pfr_flash::proofs::EndsLemmas::then_ends), unfolding(crate::specs::SignedJudge::judge_signed))]
 pub fn signed_at<F: Flash, E: Engine>(
     flash: &mut F,
     place: u32,

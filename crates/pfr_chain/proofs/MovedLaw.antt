@@ -60,28 +60,3 @@ IsChain-moved a b p q len len' n type root row accepts chain same spans room h =
       content_at = omega (arith, h.content_at);
       length = h.length ∙ ap content_length head;
     }
-
--- within another length
-pub IsChain-within : (image : List ℕ) (place len len' : ℕ) (type : ContentType) (root row : List ℕ) (accepts : Acceptance) (chain : Chain) → span_of place chain ≤ len'
-    → IsChain image place len type root row accepts chain → IsChain image place len' type root row accepts chain
-IsChain-within image place len len' type root row accepts chain room h =
-    let b = h.block in
-    record {
-      blen = h.blen;
-      block = record {
-        form = b.form;
-        block0_magic = b.block0_magic;
-        block1_magic = b.block1_magic;
-        type_number = b.type_number;
-        block_length = b.block_length;
-        right_length = b.right_length;
-        not_empty = b.not_empty;
-        within = omega (arith, h.content_at, h.length);
-        certificate = b.certificate;
-        digest256 = b.digest256;
-        digest384 = b.digest384;
-      };
-      signed = h.signed;
-      content_at = h.content_at;
-      length = h.length;
-    }

@@ -14,6 +14,7 @@ use sha2::{Digest, Sha256, Sha384};
 const PIECE: u32 = 4096;
 
 // adds a flash's bytes to the hasher's message
+#[tactic(auto, using(pfr_flash::proofs::EndsLemmas::then_ends))]
 fn feed<F: Flash, H: Digest>(
     flash: &mut F,
     at: u32,

@@ -49,7 +49,7 @@ fn signing_key<E: Engine>(
 }
 
 // the same, as the judgement alone
-#[tactic(auto, unfolding(crate::specs::Judge::judge))]
+#[tactic(auto, using(pfr_flash::proofs::EndsLemmas::then_ends), unfolding(crate::specs::Judge::judge))]
 fn judged<F: Flash, E: Engine>(
     flash: &mut F,
     place: u32,

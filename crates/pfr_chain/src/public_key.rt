@@ -16,6 +16,7 @@ pub struct PublicKey {
 }
 
 impl PublicKey {
+    /// The key that an entry at a place of a block has.
     #[tactic(auto, unfolding(crate::specs::Keys::public_key_at))]
     pub fn read(bytes: &[u8], at: usize) -> PublicKey
         requires { at + 112 ≤ length bytes.now }

@@ -16,6 +16,7 @@ pub struct Signature {
 }
 
 impl Signature {
+    /// The signature that an entry at a place of a block has.
     #[tactic(auto, unfolding(crate::specs::Keys::signature_at))]
     pub fn read(bytes: &[u8], at: usize) -> Signature
         requires { at + 100 ≤ length bytes.now }

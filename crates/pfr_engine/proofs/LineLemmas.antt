@@ -1,10 +1,6 @@
 -- Reading lines one after the other.
-use Rattle.std.proofs.Common.{◌≡◌, ℕ, ◌+◌, ◌-◌, ◌<◌, ◌≤◌, ◌==◌, Bool, true, false, nat_lt, List, [], ◌∷◌, ◌++◌, length, take, drop, Some, None, Result, Ok, Err, position, cond, refl, sym, ◌∙◌, ap, subst, arith, append_assoc, length-drop}
-use Rattle.std.specs.List.{position_or_len}
-use Rattle.std.proofs.lemmas.List.{take_all}
-use Rattle.std.proofs.lemmas.List.Splits.{slice_split_first, slice_split_none, length-slice_split}
-use Rattle.std.proofs.lemmas.List.Sums.{fails_before_first}
-use Rattle.std.proofs.lemmas.Bool.Decides.{nat_tests, Decides-ltb}
+use Rattle.std.proofs.Common.{◌≡◌, ℕ, ◌+◌, ◌<◌, ◌==◌, List, [], ◌∷◌, ◌++◌, length, Result, Ok, Err, refl, sym, ◌∙◌, ap, arith, append_assoc}
+use Rattle.std.proofs.lemmas.List.Splits.{length-slice_split}
 use Rattle.pfr_engine.specs.declared.row.Row.{Row}
 use Rattle.pfr_engine.specs.declared.engine_fail.EngineFail.{EngineFail}
 use Rattle.pfr_engine.specs.declared.engine_fail.EngineFail.TheVariants.{NoMemory, Text}
@@ -28,41 +24,6 @@ pushed front row (Err e) = refl
 
 some_lines : (text : List ℕ) → 0 < length (lines_in text)
 some_lines text = rw (length-slice_split (λ byte. byte == 10) text) (omega arith)
-
-found : (b : Bool) (n end : ℕ) → cond b (Some n) None ≡ Some end → (b ≡ true) × (n ≡ end)
-found true n end h = (refl, cc)
-found false n end h = cc
-
-not_found : (b : Bool) (n : ℕ) → cond b (Some n) None ≡ None → b ≡ false
-not_found true n h = cc
-not_found false n h = refl
-
--- the first line of a text and what stands behind its newline
-first_line : (text : List ℕ) (end : ℕ) → position (λ byte. byte == 10) text ≡ Some end →
-    lines_in text ≡ take end text ∷ lines_in (drop (end + 1) text)
-first_line text end h =
-    let newline : ℕ → Bool = λ byte. byte == 10 in
-    let f = found (nat_lt (position_or_len newline text) (length text)) (position_or_len newline text) end h in
-    let within : position_or_len newline text < length text = (Decides-ltb (position_or_len newline text) (length text)).0 f.0 in
-    let P : ℕ → Type 0 = λ n. lines_in text ≡ take n text ∷ lines_in (drop (n + 1) text) in
-    subst P f.1 (slice_split_first newline text 0 within)
-
--- the same, as slices have the two parts
-pub first_parts : (text : List ℕ) (end : ℕ) → position (λ byte. byte == 10) text ≡ Some end →
-    lines_in text ≡ take (end - 0) text ∷ lines_in (take (length text - (end + 1)) (drop (end + 1) text))
-first_parts text end h =
-    let a : end - 0 ≡ end = omega arith in
-    let b : take (length text - (end + 1)) (drop (end + 1) text) ≡ drop (end + 1) text =
-    take_all (length text - (end + 1)) (drop (end + 1) text) (omega (arith, length-drop (end + 1) text)) in
-    rw (a, b) (first_line text end h)
-
--- a text without a newline is one line
-pub last_line : (text : List ℕ) → position (λ byte. byte == 10) text ≡ None → lines_in text ≡ text ∷ []
-last_line text h =
-    let newline : ℕ → Bool = λ byte. byte == 10 in
-    let f = not_found (nat_lt (position_or_len newline text) (length text)) (position_or_len newline text) h in
-    let past : length text ≤ position_or_len newline text = grind (arith, nat_tests) in
-    slice_split_none newline text (λ k d i. fails_before_first newline text k d (omega arith))
 
 pub advance : (line : ℕ) (text first others : List ℕ) (front front' : List Row) (row : Row) (all : Result (List Row) EngineFail) →
     lines_in text ≡ first ∷ lines_in others → judge_line line first ≡ Ok row → front' ≡ front ++ row ∷ [] →

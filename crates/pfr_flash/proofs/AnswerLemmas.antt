@@ -1,5 +1,5 @@
 -- Answers of calls, and of the parts that they are made of.
-use Rattle.std.proofs.Common.{◌≡◌, ap, Option, Some, None, Result, Err, MatchOption}
+use Rattle.std.proofs.Common.{◌≡◌, ap, Option, Some, None, Result, Ok, Err, IfOk, MatchOption}
 use Rattle.pfr_flash.specs.Answer.{Answers}
 use Rattle.pfr_flash.specs.Judging.{told_as}
 
@@ -20,3 +20,8 @@ pub told_refused : {X E G F : Type 0} (there : E → Option F) (here : G → Opt
     → Answers there (Err cause) judged → Answers here (Err (tell cause)) (told_as tell judged)
 told_refused {X} {E} {G} there here tell cause judged same h =
     same_failure (there cause) (here (tell cause)) same (λ (e : judged ≡ Err cause). ap (λ (r : Result X E). told_as tell r) e) h
+
+-- what holds of all that the judgement finds holds of what is answered
+pub answered : {X E F : Type 0} (failure : E → Option F) (result judged : Result X E) (P : X → Type 0) → Answers failure result judged → ((x : X) → judged ≡ Ok x → P x) → IfOk result P
+answered failure (Ok x) judged P h holds = holds x h
+answered failure (Err cause) judged P h holds = tt

@@ -37,34 +37,15 @@ record IsReadHeader (text : List ℕ) (m : Manifest) : Type 0 where
   pub length : number_at text 28 ≡ m.length
   pub is : header_at text ≡ bare m
 
-header_of : (svn bkc : ℕ) (revision reserved oem : List ℕ) (count : ℕ) → Manifest
-header_of svn bkc revision reserved oem count = record { svn = svn; bkc = bkc; revision = revision; reserved = reserved; oem = oem; length = count; regions = []; rules = [] }
-
-text_of : (svn bkc a b c d e f : ℕ) (oem : List ℕ) (count : ℕ) → List ℕ
-text_of svn bkc a b c d e f oem count = 29 ∷ 206 ∷ 179 ∷ 2 ∷ svn ∷ bkc ∷ a ∷ b ∷ c ∷ d ∷ e ∷ f ∷ (oem ++ little_bytes 4 count)
-
-header_parts : (svn bkc a b c d e f : ℕ) (oem : List ℕ) (count : ℕ) → length oem ≡ 16 → count < 2 ^ 32 → IsReadHeader (text_of svn bkc a b c d e f oem count) (header_of svn bkc (a ∷ b ∷ []) (c ∷ d ∷ e ∷ f ∷ []) oem count)
-unfolding little_at text_of header_of
-header_parts svn bkc a b c d e f oem count long fits =
+header_fields : (svn bkc : ℕ) (revision reserved oem : List ℕ) (count : ℕ) (regions : List Region) (rules : List Rule) → length revision ≡ 2 → length reserved ≡ 4 → length oem ≡ 16 → count < 2 ^ 32 →
+    IsReadHeader (header_bytes (record { svn = svn; bkc = bkc; revision = revision; reserved = reserved; oem = oem; length = count; regions = regions; rules = rules })) (record { svn = svn; bkc = bkc; revision = revision; reserved = reserved; oem = oem; length = count; regions = regions; rules = rules })
+unfolding header_bytes little_at
+header_fields svn bkc (a ∷ b ∷ []) (c ∷ d ∷ e ∷ f ∷ []) oem count regions rules p q long fits =
     let l = length-append oem (little_bytes 4 count) in
     let o : take 16 (oem ++ little_bytes 4 count) ≡ oem = take_at oem (little_bytes 4 count) 16 long in
     let n : take 4 (drop 16 (oem ++ little_bytes 4 count)) ≡ little_bytes 4 count = ap (take 4) (drop_at oem (little_bytes 4 count) 16 long) in
     let number : little_number 4 (take 4 (drop 16 (oem ++ little_bytes 4 count))) ≡ count = ap (little_number 4) n ∙ number_read count fits in
-    record {
-      long = omega arith;
-      magic = refl;
-      svn = refl;
-      length = number;
-      is = ap (λ t. header_of svn bkc (a ∷ b ∷ []) (c ∷ d ∷ e ∷ f ∷ []) t (little_number 4 (take 4 (drop 16 (oem ++ little_bytes 4 count))))) o
-          ∙ ap (λ t. header_of svn bkc (a ∷ b ∷ []) (c ∷ d ∷ e ∷ f ∷ []) oem t) number;
-    }
-
-header_fields : (svn bkc : ℕ) (revision reserved oem : List ℕ) (count : ℕ) (regions : List Region) (rules : List Rule) → length revision ≡ 2 → length reserved ≡ 4 → length oem ≡ 16 → count < 2 ^ 32 →
-    IsReadHeader (header_bytes (record { svn = svn; bkc = bkc; revision = revision; reserved = reserved; oem = oem; length = count; regions = regions; rules = rules })) (record { svn = svn; bkc = bkc; revision = revision; reserved = reserved; oem = oem; length = count; regions = regions; rules = rules })
-unfolding header_bytes text_of header_of
-header_fields svn bkc (a ∷ b ∷ []) (c ∷ d ∷ e ∷ f ∷ []) oem count regions rules p q r s =
-    let h = header_parts svn bkc a b c d e f oem count r s in
-    record { long = h.long; magic = h.magic; svn = h.svn; length = h.length; is = h.is }
+    record { long = omega arith; magic = refl; svn = refl; length = number; is = rw (o, number) refl }
 header_fields svn bkc _ _ oem count regions rules p q r s = absurd (omega arith)
 
 header_read : (m : Manifest) → IsHeaderWide m → IsReadHeader (header_bytes m) m
@@ -91,8 +72,7 @@ region_found mask (a ∷ b ∷ c ∷ d ∷ []) hashes.None start end more p q r 
   long = omega arith;
   whole = omega arith;
   hash = refl;
-  is = ap (λ n. region_of mask (a ∷ b ∷ c ∷ d ∷ []) hashes.None n (little_number 4 (little_bytes 4 end))) (number_read start q)
-      ∙ ap (λ n. region_of mask (a ∷ b ∷ c ∷ d ∷ []) hashes.None start n) (number_read end r);
+  is = rw (number_read start q, number_read end r) refl;
 }
 region_found mask (a ∷ b ∷ c ∷ d ∷ []) (hashes.Sha256 digest) start end more p q r s =
     let e : take 32 (take 48 (digest ++ more)) ≡ digest = take-take 32 48 (digest ++ more) (omega arith) ∙ take_at digest more 32 s in
@@ -101,8 +81,7 @@ region_found mask (a ∷ b ∷ c ∷ d ∷ []) (hashes.Sha256 digest) start end 
       long = omega arith;
       whole = omega (arith, length-take 48 (digest ++ more), length-append digest more);
       hash = ap (λ t. Some (hashes.Sha256 t)) e;
-      is = ap (λ n. region_of mask (a ∷ b ∷ c ∷ d ∷ []) (hashes.Sha256 digest) n (little_number 4 (little_bytes 4 end))) (number_read start q)
-          ∙ ap (λ n. region_of mask (a ∷ b ∷ c ∷ d ∷ []) (hashes.Sha256 digest) start n) (number_read end r);
+      is = rw (number_read start q, number_read end r) refl;
     }
 region_found mask (a ∷ b ∷ c ∷ d ∷ []) (hashes.Sha384 digest) start end more p q r s =
     let e : take 48 (take 48 (digest ++ more)) ≡ digest = take-take 48 48 (digest ++ more) (omega arith) ∙ take_at digest more 48 s in
@@ -111,8 +90,7 @@ region_found mask (a ∷ b ∷ c ∷ d ∷ []) (hashes.Sha384 digest) start end 
       long = omega arith;
       whole = omega (arith, length-take 48 (digest ++ more), length-append digest more);
       hash = ap (λ t. Some (hashes.Sha384 t)) e;
-      is = ap (λ n. region_of mask (a ∷ b ∷ c ∷ d ∷ []) (hashes.Sha384 digest) n (little_number 4 (little_bytes 4 end))) (number_read start q)
-          ∙ ap (λ n. region_of mask (a ∷ b ∷ c ∷ d ∷ []) (hashes.Sha384 digest) start n) (number_read end r);
+      is = rw (number_read start q, number_read end r) refl;
     }
 region_found mask _ hash start end more p q r s = absurd (omega arith)
 
@@ -214,10 +192,7 @@ module _ (layout : Layout) (size : ℕ) where
       let judged = region_judged region next place here layout size w is refl room (omega arith) ends in
       let step = step_region (turns_left here) (turns_left (with_region here region)) (region_bytes region ++ next) place here layout size (turns-region here region room (omega arith)) some region judged in
       let rest : drop (region_len region) (region_bytes region ++ next) ≡ next = drop_at (region_bytes region) next (region_len region) long in
-      ap (λ text. judge_entries (turns_left here) text place here layout size) (append_assoc (region_bytes region) (flat_map region_bytes others) more)
-      ∙ step
-      ∙ ap (λ text. judge_entries (turns_left (with_region here region)) text (place + region_len region) (with_region here region) layout size) rest
-      ∙ regions_found m more result others (done ++ region ∷ []) all (e ∙ sym (append_assoc done (region ∷ []) others)) few wide each order last (place + region_len region)
+      rw (append_assoc (region_bytes region) (flat_map region_bytes others) more, step, rest) (regions_found m more result others (done ++ region ∷ []) all (e ∙ sym (append_assoc done (region ∷ []) others)) few wide each order last (place + region_len region))
 
   -- the entries of a list of rules, behind others
   rules_found : (m : Manifest) (more : List ℕ) (result : Result Manifest ManifestFail) (todo done all : List Rule) → all ≡ done ++ todo → length m.regions ≤ 64 → length all ≤ 64 → All IsRuleWide all
@@ -237,10 +212,7 @@ module _ (layout : Layout) (size : ℕ) where
       let judged = rule_judged rule next place here layout size w room in
       let step = step_rule (turns_left here) (turns_left (with_rule here rule)) (rule_bytes rule ++ next) place here layout size (turns-rule here rule few_regions room) some rule judged in
       let rest : drop 40 (rule_bytes rule ++ next) ≡ next = drop_at (rule_bytes rule) next 40 long in
-      ap (λ text. judge_entries (turns_left here) text place here layout size) (append_assoc (rule_bytes rule) (flat_map rule_bytes others) more)
-      ∙ step
-      ∙ ap (λ text. judge_entries (turns_left (with_rule here rule)) text (place + 40) (with_rule here rule) layout size) rest
-      ∙ rules_found m more result others (done ++ rule ∷ []) all (e ∙ sym (append_assoc done (rule ∷ []) others)) few_regions few wide last (place + 40)
+      rw (append_assoc (rule_bytes rule) (flat_map rule_bytes others) more, step, rest) (rules_found m more result others (done ++ rule ∷ []) all (e ∙ sym (append_assoc done (rule ∷ []) others)) few_regions few wide last (place + 40))
 
 all_blank : (n : ℕ) → list_all (λ byte. byte == 255) (replicate n 255) ≡ true
 all_blank zero = refl

@@ -1,5 +1,5 @@
 -- Search by halves in a table of stretches.
-use Rattle.std.proofs.Common.{◌≡◌, ◌≢◌, Bool, true, false, ◌&&◌, nat_le, nat_lt, refl, ℕ, ◌+◌, ◌-◌, ◌*◌, ◌/◌, ◌^◌, ◌<◌, ◌≤◌, List, length, get_or, ⊎_elim, add-one, sym, ap, ◌∙◌, arith}
+use Rattle.std.proofs.Common.{◌≡◌, ◌≢◌, Bool, true, false, ◌&&◌, nat_lt, refl, ℕ, ◌+◌, ◌-◌, ◌*◌, ◌/◌, ◌^◌, ◌<◌, ◌≤◌, List, length, get_or, ⊎_elim, inl, inr, add-one, sym, ap, ◌∙◌, arith}
 use Rattle.std.proofs.Math.Nat.{mul-le-mul_left, pow-suc, pow-le-pow_right}
 use Rattle.std.specs.List.{list_any}
 use Rattle.std.proofs.lemmas.Bool.{cases_lt, lt-ltb, ltb-true}
@@ -12,13 +12,10 @@ use Rattle.pfr_manifest.specs.Stretches.{IsTable, lets_write}
 
 -- the ends rise with the stretches
 ends_rise : (stretches : List Stretch) → IsTable stretches → (i j : ℕ) (d : Stretch) → i ≤ j → j < length stretches → (get_or stretches i d).end ≤ (get_or stretches j d).end
-ends_rise stretches is i j d h k = ⊎_elim (λ less. earlier less) (λ more. same more) (cases_lt i j)
-  where
-    earlier : i < j → (get_or stretches i d).end ≤ (get_or stretches j d).end
-    earlier less = let some = (is.each j d k).some in omega (arith, is.in_order i j d less k)
-
-    same : j ≤ i → (get_or stretches i d).end ≤ (get_or stretches j d).end
-    same more = let e : i ≡ j = omega arith in rw e (omega arith)
+ends_rise stretches is i j d h k = elim (cases_lt i j) [
+  | inl less ↦ let some = (is.each j d k).some in omega (arith, is.in_order i j d less k)
+  | inr more ↦ let e : i ≡ j = omega arith in rw e (omega arith)
+]
 
 -- The first stretch that ends behind a place is the one from low up to high. So many were looked at.
 pub record IsHalving (stretches : List Stretch) (at low high looks : ℕ) : Type 0 where
@@ -74,34 +71,28 @@ module _ {stretches : List Stretch} {at low high looks middle : ℕ} (is : IsTab
 
 -- among 64 that is seven times at most
 pub seven_looks : (looks count : ℕ) → count ≤ 64 → 2 ^ looks ≤ 2 * count + 1 → looks ≤ 7
-seven_looks looks count few cost = ⊎_elim (λ less. omega arith) (λ more. absurd (over more)) (cases_lt looks 8)
-  where
-    over : 8 ≤ looks → ⊥
-    over more = let p : 2 ^ 8 ≤ 2 ^ looks = pow-le-pow_right (omega arith) more in omega arith
+seven_looks looks count few cost = elim (cases_lt looks 8) [
+  | inl less ↦ omega arith
+  | inr more ↦ let p : 2 ^ 8 ≤ 2 ^ looks = pow-le-pow_right (omega arith) more in omega arith
+]
 
 -- ---- the first stretch that ends behind a page's begin tells whether the bus may write the page
 ended_lets_none : (page : ℕ) (stretch : Stretch) → stretch.end ≤ 4096 * page → lets_write page stretch ≡ false
-ended_lets_none page stretch h = no_room stretch.writable (nat_le stretch.start (4096 * page))
-  where
-    no_room : (writable starts : Bool) → (writable && (starts && nat_le (4096 * page + 4096) stretch.end)) ≡ false
-    no_room writable starts = grind (arith, nat_tests)
+ended_lets_none page stretch h = grind (arith, nat_tests)
 
 later_lets_none : (page : ℕ) (stretch : Stretch) → 4096 * page < stretch.start → lets_write page stretch ≡ false
-later_lets_none page stretch h = no_room stretch.writable (nat_le (4096 * page + 4096) stretch.end)
-  where
-    no_room : (writable ends : Bool) → (writable && (nat_le stretch.start (4096 * page) && ends)) ≡ false
-    no_room writable ends = grind (arith, nat_tests)
+later_lets_none page stretch h = grind (arith, nat_tests)
 
 module _ (stretches : List Stretch) (page first : ℕ) (d : Stretch) (is : IsTable stretches)
     (below : (k : ℕ) (d : Stretch) → k < first → (get_or stretches k d).end ≤ 4096 * page) (above : (k : ℕ) (d : Stretch) → first ≤ k → k < length stretches → 4096 * page < (get_or stretches k d).end) where
   -- the others let the bus write nothing of the page
   other_lets_none : (k : ℕ) → k < length stretches → k ≢ first → lets_write page (get_or stretches k d) ≡ false
-  other_lets_none k h other = ⊎_elim (λ less. ended_lets_none page (get_or stretches k d) (below k d less)) (λ more. later more) (cases_lt k first)
-    where
-      later : first ≤ k → lets_write page (get_or stretches k d) ≡ false
-      later more =
-          let past : first < k = ⊎_elim (λ less. less) (λ less. absurd (other (omega arith))) (cases_lt first k) in
-          later_lets_none page (get_or stretches k d) (omega (arith, is.in_order first k d past h, above first d (omega arith) (omega arith)))
+  other_lets_none k h other = elim (cases_lt k first) [
+    | inl less ↦ ended_lets_none page (get_or stretches k d) (below k d less)
+    | inr more ↦
+        let past : first < k = ⊎_elim (λ less. less) (λ less. absurd (other (omega arith))) (cases_lt first k) in
+        later_lets_none page (get_or stretches k d) (omega (arith, is.in_order first k d past h, above first d (omega arith) (omega arith)))
+  ]
 
   by_first : (has : Bool) → nat_lt first (length stretches) ≡ has → (lets : Bool) → lets_write page (get_or stretches first d) ≡ lets → list_any (lets_write page) stretches ≡ (has && lets)
   by_first false e lets f = list_any_none (lets_write page) stretches (All-from_get_or (λ (s : Stretch). lets_write page s ≡ false) stretches d (λ k h. other_lets_none k h (λ (same : k ≡ first). let t = lt-ltb first (length stretches) (omega arith) in cc)))

@@ -18,7 +18,7 @@ use Rattle.pfr_manifest.specs.Answer.{manifest_failure}
 use Rattle.pfr_flash.specs.Judging.{◌>>◌}
 use Rattle.pfr_manifest.specs.Judge.{judge_entry, judge_tail, judge_entries, turns_left, region_len, with_region, with_rule}
 use Rattle.pfr_flash.proofs.BytesLemmas.{length-bytes_at}
-use Rattle.pfr_manifest.proofs.AnswerLemmas.{refuses_whole}
+use Rattle.pfr_flash.proofs.AnswerLemmas.{refused}
 use Rattle.pfr_manifest.proofs.EntryLemmas.{judge_none, step_err, step_tail, step_region, step_rule, turns_some, turns-region, turns-rule}
 
 -- A loop has read the entries up to a place. What is left, behind those of m, is to be judged as all of them.
@@ -58,7 +58,7 @@ module _ {old mid : FlashState} {place size at : ℕ} {m : Manifest} {layout : L
   judged_here result h = ap (λ rest. judge_entry (take 64 rest) at m layout bank) (sym (left_is mid (ends_content r.ends))) ∙ h
 
   pub entry_refused : (cause : ManifestFail) → at < size → Answers manifest_failure (Err cause) (entry_there mid place size at m layout bank) → Answers manifest_failure (Err cause) all
-  entry_refused cause left = refuses_whole manifest_failure cause _ all
+  entry_refused cause left = refused manifest_failure cause _ all
       (λ e. sym r.exact ∙ step_err (turns_left m) _ _ at m layout bank turns_more (some_left left) cause (judged_here (Err cause) e))
 
   pub tail_judged : (later : FlashState) (result : Result (Unit {0}) ManifestFail) → at < size → entry_there mid place size at m layout bank ≡ Ok entries.Tail → now later ≡ now old
@@ -69,7 +69,7 @@ module _ {old mid : FlashState} {place size at : ℕ} {m : Manifest} {layout : L
 
   pub tail_refused : (later : FlashState) (cause : ManifestFail) → at < size → entry_there mid place size at m layout bank ≡ Ok entries.Tail → now later ≡ now old
       → Answers manifest_failure (Err cause) (judge_tail (bytes_at (now later) (place + at) (size - at))) → Answers manifest_failure (Err cause) all
-  tail_refused later cause left h content = refuses_whole manifest_failure cause _ all (λ e. tail_judged later (Err cause) left h content e)
+  tail_refused later cause left h content = refused manifest_failure cause _ all (λ e. tail_judged later (Err cause) left h content e)
 
   pub region_read : (region : Region) (regions : List Region) (len : ℕ) → at < size → entry_there mid place size at m layout bank ≡ Ok (entries.Region region)
       → length m.regions < 64 → regions ≡ m.regions ++ region ∷ [] → len ≡ region_len region

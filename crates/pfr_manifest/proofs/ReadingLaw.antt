@@ -1,7 +1,8 @@
 -- A judgement that ends well has found a manifest.
-use Rattle.std.proofs.Common.{◌≡◌, ℕ, zero, suc, ◌+◌, ◌-◌, ◌<◌, ◌≤◌, ◌==◌, ◌&&◌, nat_lt, Bool, true, false, if◌then◌else◌, List, [], ◌∷◌, ◌++◌, length, take, drop, replicate, slice_index, All, Result, Ok, Err, refl, sym, ◌∙◌, ap, arith, subst, append_assoc, length-take, length-append}
+use Rattle.std.proofs.Common.{◌≡◌, ℕ, zero, suc, ◌+◌, ◌-◌, ◌<◌, ◌≤◌, ◌==◌, ◌&&◌, nat_lt, Bool, true, false, List, [], ◌∷◌, ◌++◌, length, take, drop, replicate, slice_index, All, Result, Ok, refl, sym, ◌∙◌, ap, arith, subst, append_assoc, length-take, length-append}
 use Rattle.std.specs.List.{flat_map, list_all}
 use Rattle.std.proofs.lemmas.List.{length-replicate, append-nil, take-append-drop, take-take, length_push, nil_from_length}
+use Rattle.std.proofs.lemmas.Grind.{flat_map-append}
 use Rattle.std.proofs.lemmas.List.Elements.{All-push, All-nil}
 use Rattle.std.proofs.lemmas.Bool.Decides.{nat_tests, Decides-eqb}
 use Rattle.pfr_flash.specs.declared.layout.Layout.{Layout}
@@ -12,7 +13,6 @@ use Rattle.pfr_manifest.specs.declared.entry.Entry.{Entry}
 use Rattle.pfr_manifest.specs.declared.entry.Entry.TheVariants as entries
 use Rattle.pfr_manifest.specs.declared.fail.ManifestFail.{ManifestFail}
 use Rattle.pfr_manifest.specs.declared.fail.ManifestFail.TheVariants.{Tail}
-use Rattle.pfr_flash.specs.Judging.{◌>>=◌, ◌>>◌}
 use Rattle.pfr_flash.specs.Bytes.{AreBytes}
 use Rattle.pfr_manifest.specs.Regions.{IsRegion, IsInOrder}
 use Rattle.pfr_manifest.specs.Spelling.{header_bytes, region_bytes, rule_bytes, body_bytes}
@@ -34,57 +34,30 @@ record IsGood (layout : Layout) (size : ℕ) (m : Manifest) : Type 0 where
   pub wide : IsWide m
 
 -- how an entry was judged
-data EntryIs (entry : List ℕ) (place : ℕ) (m : Manifest) (layout : Layout) (size : ℕ) : Entry → Type 0 where
-  is_tail : EntryIs entry place m layout size entries.Tail
-  is_region : (region : Region) → slice_index entry 0 ≡ 1 → judge_definition entry place m ≡ Ok region → judge_region region m.regions layout size ≡ Ok tt → EntryIs entry place m layout size (entries.Region region)
-  is_rule : (rule : Rule) → slice_index entry 0 ≡ 2 → judge_rule entry place m ≡ Ok rule → EntryIs entry place m layout size (entries.Rule rule)
+abbrev EntryIs : (entry : List ℕ) (place : ℕ) (m : Manifest) (layout : Layout) (size : ℕ) → Entry → Type 0
+EntryIs entry place m layout size entries.Tail = Unit {0}
+EntryIs entry place m layout size (entries.Region region) = (slice_index entry 0 ≡ 1) × (judge_definition entry place m ≡ Ok region) × (judge_region region m.regions layout size ≡ Ok tt)
+EntryIs entry place m layout size (entries.Rule rule) = (slice_index entry 0 ≡ 2) × (judge_rule entry place m ≡ Ok rule)
 
 module _ (layout : Layout) (size : ℕ) where
-  region_is : (entry : List ℕ) (place : ℕ) (m : Manifest) (found : Entry) → slice_index entry 0 ≡ 1
-      → (judge_definition entry place m >>= λ region. (judge_region region m.regions layout size >> Ok (entries.Region region))) ≡ Ok found → EntryIs entry place m layout size found
-  region_is entry place m found first h =
-      let d = passed_part (judge_definition entry place m) (λ region. (judge_region region m.regions layout size >> Ok (entries.Region region))) found h in
-      let r = passed_unit (judge_region d.0 m.regions layout size) (Ok (entries.Region d.0)) found d.2 in
-      let e : entries.Region d.0 ≡ found = cc in
-      subst (EntryIs entry place m layout size) e (is_region d.0 first d.1 r.0)
-
-  rule_is : (entry : List ℕ) (place : ℕ) (m : Manifest) (found : Entry) → slice_index entry 0 ≡ 2
-      → (judge_rule entry place m >>= λ rule. Ok (entries.Rule rule)) ≡ Ok found → EntryIs entry place m layout size found
-  rule_is entry place m found first h =
-      let d = passed_part (judge_rule entry place m) (λ rule. Ok (entries.Rule rule)) found h in
-      let e : entries.Rule d.0 ≡ found = cc in
-      subst (EntryIs entry place m layout size) e (is_rule d.0 first d.1)
-
-  by_type : (entry : List ℕ) (place : ℕ) (m : Manifest) (found : Entry) (tail region rule : Bool) (cause : ManifestFail) → (region ≡ true → slice_index entry 0 ≡ 1) → (rule ≡ true → slice_index entry 0 ≡ 2)
-      → (if tail then Ok entries.Tail else (if region then (judge_definition entry place m >>= λ region. (judge_region region m.regions layout size >> Ok (entries.Region region)))
-      else (if rule then (judge_rule entry place m >>= λ rule. Ok (entries.Rule rule)) else Err cause))) ≡ Ok found → EntryIs entry place m layout size found
-  by_type entry place m found true region rule cause a b h = let e : entries.Tail ≡ found = cc in subst (EntryIs entry place m layout size) e is_tail
-  by_type entry place m found false true rule cause a b h = region_is entry place m found (a refl) h
-  by_type entry place m found false false true cause a b h = rule_is entry place m found (b refl) h
-  by_type entry place m found false false false cause a b h = cc
-
   entry_is : (entry : List ℕ) (place : ℕ) (m : Manifest) (found : Entry) → judge_entry entry place m layout size ≡ Ok found → EntryIs entry place m layout size found
   unfolding judge_entry
-  entry_is entry place m found h = by_type entry place m found (slice_index entry 0 == 255) (slice_index entry 0 == 1) (slice_index entry 0 == 2) _
-      (λ e. (Decides-eqb (slice_index entry 0) 1).0 e) (λ e. (Decides-eqb (slice_index entry 0) 2).0 e) h
+  entry_is entry place m entries.Tail h = tt
+  entry_is entry place m (entries.Region region) h = grind (arith, nat_tests)
+  entry_is entry place m (entries.Rule rule) h = grind (arith, nat_tests)
 
   -- one more region
-  record RegionRead (entry : List ℕ) (m : Manifest) (region : Region) : Type 0 where
-    pub read : IsReadRegion entry region
-    pub no_rules : m.rules ≡ []
-    pub good : IsGood layout size (with_region m region)
-
-  region_read : (entry : List ℕ) (place : ℕ) (m : Manifest) (region : Region) → AreBytes entry → IsGood layout size m → slice_index entry 0 ≡ 1 → judge_definition entry place m ≡ Ok region → judge_region region m.regions layout size ≡ Ok tt → RegionRead entry m region
+  region_read : (entry : List ℕ) (place : ℕ) (m : Manifest) (region : Region) → AreBytes entry → IsGood layout size m → slice_index entry 0 ≡ 1 → judge_definition entry place m ≡ Ok region → judge_region region m.regions layout size ≡ Ok tt
+      → IsReadRegion entry region × (m.rules ≡ []) × IsGood layout size (with_region m region)
   region_read entry place m region bytes good first defined judged =
       let d = definition_holds entry place m region defined in
       let j = region_holds region m.regions layout size judged in
       let hash = d.4 in
       let read : IsReadRegion entry region = subst (IsReadRegion entry) (sym hash.2) (region_spelled entry hash.0 bytes first d.1 d.2 hash.1) in
-      let long = length_push m.regions region in
-      record {
-        read = read;
-        no_rules = nil_from_length m.rules d.0;
-        good = record {
+      let long = length_push m.regions region in (
+        read,
+        nil_from_length m.rules d.0,
+        record {
           svn = good.svn;
           few_regions = omega arith;
           few_rules = good.few_rules;
@@ -95,24 +68,19 @@ module _ (layout : Layout) (size : ℕ) where
             regions = All-push IsRegionWide m.regions region good.wide.regions read.wide;
             rules = good.wide.rules;
           };
-        };
-      }
+        },
+      )
 
   -- one more rule
-  record RuleRead (entry : List ℕ) (m : Manifest) (rule : Rule) : Type 0 where
-    pub whole : 40 ≤ length entry
-    pub read : IsReadRule entry rule
-    pub good : IsGood layout size (with_rule m rule)
-
-  rule_read : (entry : List ℕ) (place : ℕ) (m : Manifest) (rule : Rule) → IsGood layout size m → slice_index entry 0 ≡ 2 → judge_rule entry place m ≡ Ok rule → RuleRead entry m rule
+  rule_read : (entry : List ℕ) (place : ℕ) (m : Manifest) (rule : Rule) → IsGood layout size m → slice_index entry 0 ≡ 2 → judge_rule entry place m ≡ Ok rule
+      → (40 ≤ length entry) × IsReadRule entry rule × IsGood layout size (with_rule m rule)
   rule_read entry place m rule good first judged =
       let d = rule_holds entry place m rule judged in
       let read : IsReadRule entry rule = subst (IsReadRule entry) (sym d.2) (rule_spelled entry first d.0) in
-      let long = length_push m.rules rule in
-      record {
-        whole = d.0;
-        read = read;
-        good = record {
+      let long = length_push m.rules rule in (
+        d.0,
+        read,
+        record {
           svn = good.svn;
           few_regions = good.few_regions;
           few_rules = omega arith;
@@ -123,44 +91,34 @@ module _ (layout : Layout) (size : ℕ) where
             regions = good.wide.regions;
             rules = All-push IsRuleWide m.rules rule good.wide.rules read.wide;
           };
-        };
-      }
+        },
+      )
 
 -- a text one entry longer
-flat_map-push : {X : Type 0} (f : X → List ℕ) (xs : List X) (x : X) → flat_map f (xs ++ x ∷ []) ≡ flat_map f xs ++ f x
-flat_map-push f [] x = append-nil (f x)
-flat_map-push f (y ∷ ys) x = ap (λ t. f y ++ t) (flat_map-push f ys x) ∙ sym (append_assoc (f y) (flat_map f ys) (f x))
-
-header-region : (m : Manifest) (region : Region) → header_bytes (with_region m region) ≡ header_bytes m
+header-same : (m : Manifest) (regions : List Region) (rules : List Rule) → header_bytes (record m { regions = regions; rules = rules }) ≡ header_bytes m
 unfolding header_bytes
-header-region m region = refl
+header-same m regions rules = refl
 
-header-rule : (m : Manifest) (rule : Rule) → header_bytes (with_rule m rule) ≡ header_bytes m
-unfolding header_bytes
-header-rule m rule = refl
-
-grown : (front middle more : List ℕ) → front ++ (middle ++ more) ++ [] ≡ front ++ middle ++ [] ++ more
-grown front middle more =
-    append-nil (front ++ (middle ++ more)) ∙ sym (append_assoc front middle more) ∙ ap (λ t. t ++ more) (sym (append-nil (front ++ middle)))
+grown_region : (front regions more : List ℕ) → front ++ (regions ++ (more ++ [])) ++ [] ≡ front ++ regions ++ [] ++ more
+grown_region front regions more = simp (append_assoc, append-nil)
 
 body-region : (m : Manifest) (region : Region) → m.rules ≡ [] → body_bytes (with_region m region) ≡ body_bytes m ++ region_bytes region
 body-region m region none =
-    ap (λ h. h ++ flat_map region_bytes (m.regions ++ region ∷ []) ++ flat_map rule_bytes m.rules) (header-region m region)
-    ∙ ap (λ t. header_bytes m ++ t ++ flat_map rule_bytes m.rules) (flat_map-push region_bytes m.regions region)
-    ∙ ap (λ rules. header_bytes m ++ (flat_map region_bytes m.regions ++ region_bytes region) ++ flat_map rule_bytes rules) none
-    ∙ grown (header_bytes m) (flat_map region_bytes m.regions) (region_bytes region)
-    ∙ ap (λ rules. header_bytes m ++ flat_map region_bytes m.regions ++ flat_map rule_bytes rules ++ region_bytes region) (sym none)
+    ap (λ h. h ++ flat_map region_bytes (m.regions ++ region ∷ []) ++ flat_map rule_bytes m.rules) (header-same m (m.regions ++ region ∷ []) m.rules)
+    ∙ rw (flat_map-append region_bytes m.regions (region ∷ []), none) (grown_region (header_bytes (record m { rules = [] })) (flat_map region_bytes m.regions) (region_bytes region))
+
+grown_rule : (front rules more : List ℕ) → front ++ (rules ++ (more ++ [])) ≡ front ++ rules ++ more
+grown_rule front rules more = simp (append_assoc, append-nil)
 
 body-rule : (m : Manifest) (rule : Rule) → body_bytes (with_rule m rule) ≡ body_bytes m ++ rule_bytes rule
 body-rule m rule =
-    ap (λ h. h ++ flat_map region_bytes m.regions ++ flat_map rule_bytes (m.rules ++ rule ∷ [])) (header-rule m rule)
-    ∙ ap (λ t. header_bytes m ++ flat_map region_bytes m.regions ++ t) (flat_map-push rule_bytes m.rules rule)
-    ∙ sym (append_assoc (header_bytes m ++ flat_map region_bytes m.regions) (flat_map rule_bytes m.rules) (rule_bytes rule))
+    ap (λ h. h ++ flat_map region_bytes m.regions ++ flat_map rule_bytes (m.rules ++ rule ∷ [])) (header-same m m.regions (m.rules ++ rule ∷ []))
+    ∙ rw (flat_map-append rule_bytes m.rules (rule ∷ [])) (grown_rule (header_bytes m ++ flat_map region_bytes m.regions) (flat_map rule_bytes m.rules) (rule_bytes rule))
 
 -- what the entries that were read make of a text: the body, and fewer than 128 bytes of 0xFF
-record Ends (layout : Layout) (size : ℕ) (text : List ℕ) (m last : Manifest) : Type 0 where
+record Ends (layout : Layout) (size : ℕ) (text : List ℕ) (long : ℕ) (last : Manifest) : Type 0 where
   pub good : IsGood layout size last
-  pub long : last.length ≡ m.length
+  pub length : last.length ≡ long
   pub tail : ℕ
   pub spelled : text ≡ body_bytes last ++ replicate tail 255
   pub short : tail < 128
@@ -190,58 +148,44 @@ module _ (layout : Layout) (size : ℕ) where
   -- how the rest of the entries ends, whatever was read before
   abbrev RestHolds : ℕ → Type 0
   RestHolds turns = (rest : List ℕ) (place : ℕ) (m last : Manifest) (front : List ℕ) → AreBytes rest → IsGood layout size m → front ≡ body_bytes m
-      → judge_entries turns rest place m layout size ≡ Ok last → Ends layout size (front ++ rest) m last
+      → judge_entries turns rest place m layout size ≡ Ok last → Ends layout size (front ++ rest) m.length last
 
   after_holds : (turns : ℕ) → RestHolds turns → (rest : List ℕ) (place : ℕ) (m last : Manifest) (front : List ℕ) → AreBytes rest → IsGood layout size m → front ≡ body_bytes m
       → (found : Entry) → EntryIs (take 64 rest) place m layout size found
-      → after_entry (λ left next read. judge_entries turns left next read layout size) rest place m found ≡ Ok last → Ends layout size (front ++ rest) m last
-  after_holds turns further rest place m last front bytes good is _ is_tail h =
+      → after_entry (λ left next read. judge_entries turns left next read layout size) rest place m found ≡ Ok last → Ends layout size (front ++ rest) m.length last
+  after_holds turns further rest place m last front bytes good is entries.Tail how h =
       let p = passed_unit (judge_tail rest) (Ok m) last h in
       let t = tail_holds rest p.0 in
       let e : m ≡ last = cc in
-      subst (Ends layout size (front ++ rest) m) e (record {
+      subst (Ends layout size (front ++ rest) m.length) e (record {
         good = good;
-        long = refl;
+        length = refl;
         tail = length rest;
         spelled = ap (λ t. t ++ rest) is ∙ ap (λ t. body_bytes m ++ t) t.1;
         short = t.0;
       })
-  after_holds turns further rest place m last front bytes good is _ (is_region region first defined judged) h =
-      let r = region_read layout size (take 64 rest) place m region (AreBytes-take 64 rest bytes) good first defined judged in
+  after_holds turns further rest place m last front bytes good is (entries.Region region) how h =
+      let r = region_read layout size (take 64 rest) place m region (AreBytes-take 64 rest bytes) good how.0 how.1 how.2 in
       let n : ℕ = region_len region in
-      let within : n ≤ length (take 64 rest) = r.read.whole in
-      let piece : take n rest ≡ region_bytes region = sym (take-take n 64 rest (omega (arith, length-take 64 rest))) ∙ r.read.spelled in
-      let next : front ++ take n rest ≡ body_bytes (with_region m region) = ap (λ t. t ++ take n rest) is ∙ ap (λ t. body_bytes m ++ t) piece ∙ sym (body-region m region r.no_rules) in
+      let within : n ≤ length (take 64 rest) = r.0.whole in
+      let piece : take n rest ≡ region_bytes region = sym (take-take n 64 rest (omega (arith, length-take 64 rest))) ∙ r.0.spelled in
+      let next : front ++ take n rest ≡ body_bytes (with_region m region) = ap (λ t. t ++ take n rest) is ∙ ap (λ t. body_bytes m ++ t) piece ∙ sym (body-region m region r.1) in
       let rest_of : (front ++ take n rest) ++ drop n rest ≡ front ++ rest = append_assoc front (take n rest) (drop n rest) ∙ ap (λ t. front ++ t) (take-append-drop n rest) in
-      let ends = further (drop n rest) (place + n) (with_region m region) last (front ++ take n rest) (AreBytes-drop n rest bytes) r.good next h in
-      record {
-        good = ends.good;
-        long = ends.long;
-        tail = ends.tail;
-        spelled = sym rest_of ∙ ends.spelled;
-        short = ends.short;
-      }
-  after_holds turns further rest place m last front bytes good is _ (is_rule rule first judged) h =
-      let r = rule_read layout size (take 64 rest) place m rule good first judged in
-      let within : 40 ≤ length (take 64 rest) = r.whole in
-      let piece : take 40 rest ≡ rule_bytes rule = sym (take-take 40 64 rest (omega arith)) ∙ r.read.spelled in
+      rw rest_of at (further (drop n rest) (place + n) (with_region m region) last (front ++ take n rest) (AreBytes-drop n rest bytes) r.2 next h)
+  after_holds turns further rest place m last front bytes good is (entries.Rule rule) how h =
+      let r = rule_read layout size (take 64 rest) place m rule good how.0 how.1 in
+      let within : 40 ≤ length (take 64 rest) = r.0 in
+      let piece : take 40 rest ≡ rule_bytes rule = sym (take-take 40 64 rest (omega arith)) ∙ r.1.spelled in
       let next : front ++ take 40 rest ≡ body_bytes (with_rule m rule) = ap (λ t. t ++ take 40 rest) is ∙ ap (λ t. body_bytes m ++ t) piece ∙ sym (body-rule m rule) in
       let rest_of : (front ++ take 40 rest) ++ drop 40 rest ≡ front ++ rest = append_assoc front (take 40 rest) (drop 40 rest) ∙ ap (λ t. front ++ t) (take-append-drop 40 rest) in
-      let ends = further (drop 40 rest) (place + 40) (with_rule m rule) last (front ++ take 40 rest) (AreBytes-drop 40 rest bytes) r.good next h in
-      record {
-        good = ends.good;
-        long = ends.long;
-        tail = ends.tail;
-        spelled = sym rest_of ∙ ends.spelled;
-        short = ends.short;
-      }
+      rw rest_of at (further (drop 40 rest) (place + 40) (with_rule m rule) last (front ++ take 40 rest) (AreBytes-drop 40 rest bytes) r.2 next h)
 
-  none_left : (m last : Manifest) (front : List ℕ) → IsGood layout size m → front ≡ body_bytes m → ◌≡◌ {A = Result Manifest ManifestFail} (Ok m) (Ok last) → Ends layout size (front ++ []) m last
+  none_left : (m last : Manifest) (front : List ℕ) → IsGood layout size m → front ≡ body_bytes m → ◌≡◌ {A = Result Manifest ManifestFail} (Ok m) (Ok last) → Ends layout size (front ++ []) m.length last
   none_left m last front good is h =
       let e : m ≡ last = cc in
-      subst (Ends layout size (front ++ []) m) e (record {
+      subst (Ends layout size (front ++ []) m.length) e (record {
         good = good;
-        long = refl;
+        length = refl;
         tail = 0;
         spelled = ap (λ t. t ++ []) is;
         short = omega arith;
@@ -275,15 +219,12 @@ judge_holds bytes layout size m are h =
       in_order = tt;
       wide = record { header = header_wide front are_front long; regions = All-nil IsRegionWide; rules = All-nil IsRuleWide };
     }) in
-    let body : front ≡ body_bytes p.0 =
-    spelled ∙ sym (append-nil (header_bytes p.0)) ∙ sym (append-nil (header_bytes p.0 ++ []))
-    ∙ ap (λ regions. header_bytes p.0 ++ flat_map region_bytes regions ++ []) (sym none.0)
-    ∙ ap (λ rules. header_bytes p.0 ++ flat_map region_bytes p.0.regions ++ flat_map rule_bytes rules) (sym none.1) in
+    let body : front ≡ body_bytes p.0 = simp (none.0, none.1, append-nil) spelled in
     let ends = entries_hold layout size (turns_left p.0) (drop 32 bytes) 32 p.0 m front (AreBytes-drop 32 bytes are) good body p.2 in
     let whole : bytes ≡ body_bytes m ++ replicate ends.tail 255 = sym (take-append-drop 32 bytes) ∙ ends.spelled in
     let header_long : p.0.length ≡ length bytes = ap (λ (m : Manifest). m.length) head.6 ∙ head.3 in
     let sum : length bytes ≡ length (body_bytes m) + ends.tail = ap length whole ∙ length-append (body_bytes m) (replicate ends.tail 255) ∙ ap (λ n. length (body_bytes m) + n) (length-replicate ends.tail 255) in
-    let same : m.length ≡ length bytes = ends.long ∙ header_long in
+    let same : m.length ≡ length bytes = ends.length ∙ header_long in
     let tail : ends.tail ≡ m.length - length (body_bytes m) = omega arith in
     record {
       spelled = whole ∙ ap (λ n. body_bytes m ++ replicate n 255) tail;

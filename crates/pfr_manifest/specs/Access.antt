@@ -5,7 +5,6 @@ use Rattle.pfr_flash.specs.declared.layout.Layout.{Layout}
 use Rattle.pfr_manifest.specs.declared.manifest.Manifest.{Manifest}
 use Rattle.pfr_manifest.specs.declared.region.Region.{Region}
 use Rattle.pfr_manifest.specs.Regions.{is_static, is_writable}
-use Rattle.pfr_manifest.specs.Stretches.{stretches_of, writable_by}
 
 -- the regions with a hash
 abbrev pub static_regions : Manifest → List Region
@@ -24,7 +23,3 @@ abbrev pub IsWritable : Manifest → Layout → ℕ → Type 0
 IsWritable m layout page =
     Any (λ region. (is_writable region ≡ true) × IsPageWithin page region.start region.end) m.regions
     ⊎ IsPageWithin page layout.staging_at (layout.staging_at + layout.area_len)
-
--- the same as a test
-abbrev pub writable_in : Manifest → Layout → ℕ → Bool
-writable_in m layout page = writable_by (stretches_of m) layout page

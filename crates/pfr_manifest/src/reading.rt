@@ -69,6 +69,7 @@ fn tail_at<F: Flash>(flash: &mut F, place: u32, left: u32) -> Result<(), Manifes
 }
 
 /// The entries behind a header, with what stands in it.
+#[tactic(auto, using(pfr_flash::proofs::EndsLemmas::then_ends))]
 fn entries_at<F: Flash>(
     flash: &mut F,
     place: u32,
@@ -105,7 +106,7 @@ fn entries_at<F: Flash>(
 }
 
 /// The manifest at a place, or the first cause against it.
-#[tactic(auto, unfolding(crate::specs::Judge::judge_manifest))]
+#[tactic(auto, using(pfr_flash::proofs::EndsLemmas::then_ends), unfolding(crate::specs::Judge::judge_manifest))]
 pub fn judged<F: Flash>(
     flash: &mut F,
     place: u32,

@@ -30,29 +30,15 @@ use Rattle.pfr_script.specs.Hex.{decoded, judge_slot, judge_tear}
 use Rattle.pfr_script.specs.Line.{judge_alone, judge_provision, judge_torn, judge_read_fault, judge_words, judge_first}
 use Rattle.pfr_script.specs.Grammar.{device_word, SaysSlot, SaysTear, IsNth, SaysTorn, Says}
 use Rattle.pfr_script.proofs.NumberLemmas.{numerals, some_digit, above_zero}
-use Rattle.pfr_script.proofs.WordLemmas.{bind_ok, then_ok, require_ok, ok_same, word_said, word_some, one_ok, two_ok, three_ok, one_said, two_said, three_said}
+use Rattle.pfr_flash.proofs.JudgingLemmas.{passed_part, passed_unit, passed_last}
+use Rattle.pfr_script.proofs.WordLemmas.{ok_same, word_said, word_some, one_ok, two_ok, three_ok, one_said, two_said, three_said}
 
 -- devices
 
-known_ok : {A E : Type 0} (cause : E) (o : Option A) (x : A) → known cause o ≡ Ok x → o ≡ Some x
-known_ok cause (Some y) x h = ap Some (ok_same y x h)
-known_ok cause None x h = cc
-
-some_same : {A : Type 0} (x y : A) → Some x ≡ Some y → x ≡ y
-some_same x y h = cc
-
-device_by : (bmc pch nv : Bool) (word : List ℕ) (device : Device) → (bmc ≡ true → word ≡ codes "bmc") → (pch ≡ true → word ≡ codes "pch") → (nv ≡ true → word ≡ codes "nv") →
-    (if bmc then Some Bmc else if pch then Some Pch else if nv then Some Nv else None) ≡ Some device → word ≡ device_word device
-device_by true pch nv word device f g k h = let P : Device → Type 0 = λ d. word ≡ device_word d in subst P (some_same Bmc device h) (f refl)
-device_by false true nv word device f g k h = let P : Device → Type 0 = λ d. word ≡ device_word d in subst P (some_same Pch device h) (g refl)
-device_by false false true word device f g k h = let P : Device → Type 0 = λ d. word ≡ device_word d in subst P (some_same Nv device h) (k refl)
-device_by false false false word device f g k h = cc
-
 device_is : (word : List ℕ) (device : Device) → known causes.Word (device_of word) ≡ Ok device → word ≡ device_word device
-device_is word device h =
-    device_by (bytes_eq word (codes "bmc")) (bytes_eq word (codes "pch")) (bytes_eq word (codes "nv")) word device
-    (bytes_eq-Decides word (codes "bmc")).0 (bytes_eq-Decides word (codes "pch")).0 (bytes_eq-Decides word (codes "nv")).0
-    (known_ok causes.Word (device_of word) device h)
+device_is word Bmc h = grind (arith, bytes_eq-Decides)
+device_is word Pch h = grind (arith, bytes_eq-Decides)
+device_is word Nv h = grind (arith, bytes_eq-Decides)
 
 device_said : (device : Device) → device_of (device_word device) ≡ Some device
 device_said Bmc = refl
@@ -78,10 +64,10 @@ number_is : (word : List ℕ) (n : ℕ) → judge_number word ≡ Ok n → (word
 unfolding judge_number
 number_is word n h =
     let value = digits_value 10 word in
-    let a = then_ok (require causes.Number (is_numeral word)) (require causes.Number (nat_le value 4294967295) >> Ok value) n h in
-    let b = then_ok (require causes.Number (nat_le value 4294967295)) (Ok value) n a.1 in
-    let p = and_parts (list_all is_ascii_digit word) (begins_above_zero word) (require_ok causes.Number (is_numeral word) a.0) in
-    let range : nat_le value 4294967295 ≡ true = require_ok causes.Number (nat_le value 4294967295) b.0 in
+    let a = passed_unit (require causes.Number (is_numeral word)) (require causes.Number (nat_le value 4294967295) >> Ok value) n h in
+    let b = passed_unit (require causes.Number (nat_le value 4294967295)) (Ok value) n a.1 in
+    let p = and_parts (list_all is_ascii_digit word) (begins_above_zero word) (passed_last causes.Number (is_numeral word) a.0) in
+    let range : nat_le value 4294967295 ≡ true = passed_last causes.Number (nat_le value 4294967295) b.0 in
     let most : value ≤ 4294967295 = grind (arith, nat_tests) in
     let same : value ≡ n = ok_same value n b.1 in
     let least : 1 ≤ value = above_zero word p.0 p.1 in
@@ -110,9 +96,9 @@ decoded_ok (Err e) bytes h = cc
 slot_is : (word bytes : List ℕ) → judge_slot word ≡ Ok bytes → SaysSlot word bytes
 unfolding judge_slot
 slot_is word bytes h =
-    let a = bind_ok (decoded (decode_of word)) (λ b. require causes.Length (length b == 72) >> Ok b) bytes h in
-    let b = then_ok (require causes.Length (length a.0 == 72)) (Ok a.0) bytes a.2 in
-    let count : (length a.0 == 72) ≡ true = require_ok causes.Length (length a.0 == 72) b.0 in
+    let a = passed_part (decoded (decode_of word)) (λ b. require causes.Length (length b == 72) >> Ok b) bytes h in
+    let b = passed_unit (require causes.Length (length a.0 == 72)) (Ok a.0) bytes a.2 in
+    let count : (length a.0 == 72) ≡ true = passed_last causes.Length (length a.0 == 72) b.0 in
     let same : a.0 ≡ bytes = ok_same a.0 bytes b.1 in
     let is : length a.0 ≡ 72 = grind (arith, nat_tests) in
     record { hex = decoded_ok (decode_of word) a.0 a.1 ∙ ap Ok same; count = ap length (sym same) ∙ is }
@@ -132,9 +118,9 @@ tear_by true word tear is some h =
     let P : Option (List ℕ) → Type 0 = λ t. SaysTear t word in
     subst P (ok_same None tear h) (is refl)
 tear_by false word tear is some h =
-    let a = bind_ok (decoded (decode_of word)) (λ bytes. require causes.Length (nat_le (length bytes) 4096) >> Ok (Some bytes)) tear h in
-    let b = then_ok (require causes.Length (nat_le (length a.0) 4096)) (Ok (Some a.0)) tear a.2 in
-    let range : nat_le (length a.0) 4096 ≡ true = require_ok causes.Length (nat_le (length a.0) 4096) b.0 in
+    let a = passed_part (decoded (decode_of word)) (λ bytes. require causes.Length (nat_le (length bytes) 4096) >> Ok (Some bytes)) tear h in
+    let b = passed_unit (require causes.Length (nat_le (length a.0) 4096)) (Ok (Some a.0)) tear a.2 in
+    let range : nat_le (length a.0) 4096 ≡ true = passed_last causes.Length (nat_le (length a.0) 4096) b.0 in
     let most : length a.0 ≤ 4096 = grind (arith, nat_tests) in
     let hex : decode_of word ≡ Ok a.0 = decoded_ok (decode_of word) a.0 a.1 in
     let P : Option (List ℕ) → Type 0 = λ t. SaysTear t word in
@@ -180,8 +166,8 @@ pub record IsSlotLine (words : List (List ℕ)) (line : Line) : Type 0 where
 provision_is : (words : List (List ℕ)) (line : Line) → judge_provision words ≡ Ok line → IsSlotLine words line
 unfolding judge_provision
 provision_is words line h =
-    let a = bind_ok (one_word words) (λ word. judge_slot word >>= λ bytes. Ok (Happens (Provision (slot_of bytes)))) line h in
-    let b = bind_ok (judge_slot a.0) (λ bytes. Ok (Happens (Provision (slot_of bytes)))) line a.2 in
+    let a = passed_part (one_word words) (λ word. judge_slot word >>= λ bytes. Ok (Happens (Provision (slot_of bytes)))) line h in
+    let b = passed_part (judge_slot a.0) (λ bytes. Ok (Happens (Provision (slot_of bytes)))) line a.2 in
     record { word = a.0; bytes = b.0; says = slot_is a.0 b.0 b.1; words_are = (one_ok words a.0 a.1).0; line_is = ok_same (Happens (Provision (slot_of b.0))) line b.2 }
 
 provision_said : (word bytes : List ℕ) → SaysSlot word bytes → judge_provision (word ∷ []) ≡ Ok (Happens (Provision (slot_of bytes)))
@@ -202,11 +188,11 @@ pub record IsTornLine (what : ArmWhat) (words : List (List ℕ)) (line : Line) :
 torn_is : (what : ArmWhat) (words : List (List ℕ)) (line : Line) → judge_torn what words ≡ Ok line → IsTornLine what words line
 unfolding judge_torn
 torn_is what words line h =
-    let a = bind_ok (three_words words) (λ parts. known causes.Word (device_of parts.0) >>= λ device. judge_number parts.1 >>= λ nth. judge_tear parts.2 >>= λ tear. Ok (Arms device what nth tear)) line h in
+    let a = passed_part (three_words words) (λ parts. known causes.Word (device_of parts.0) >>= λ device. judge_number parts.1 >>= λ nth. judge_tear parts.2 >>= λ tear. Ok (Arms device what nth tear)) line h in
     let parts = a.0 in
-    let b = bind_ok (known causes.Word (device_of parts.0)) (λ device. judge_number parts.1 >>= λ nth. judge_tear parts.2 >>= λ tear. Ok (Arms device what nth tear)) line a.2 in
-    let c = bind_ok (judge_number parts.1) (λ nth. judge_tear parts.2 >>= λ tear. Ok (Arms b.0 what nth tear)) line b.2 in
-    let d = bind_ok (judge_tear parts.2) (λ tear. Ok (Arms b.0 what c.0 tear)) line c.2 in
+    let b = passed_part (known causes.Word (device_of parts.0)) (λ device. judge_number parts.1 >>= λ nth. judge_tear parts.2 >>= λ tear. Ok (Arms device what nth tear)) line a.2 in
+    let c = passed_part (judge_number parts.1) (λ nth. judge_tear parts.2 >>= λ tear. Ok (Arms b.0 what nth tear)) line b.2 in
+    let d = passed_part (judge_tear parts.2) (λ tear. Ok (Arms b.0 what c.0 tear)) line c.2 in
     let w = three_ok words parts a.1 in
     let n = number_is parts.1 c.0 c.1 in
     record {
@@ -242,10 +228,10 @@ pub record IsReadLine (words : List (List ℕ)) (line : Line) : Type 0 where
 read_is : (words : List (List ℕ)) (line : Line) → judge_read_fault words ≡ Ok line → IsReadLine words line
 unfolding judge_read_fault
 read_is words line h =
-    let a = bind_ok (two_words words) (λ parts. known causes.Word (device_of parts.0) >>= λ device. judge_number parts.1 >>= λ nth. Ok (Arms device ReadFault nth None)) line h in
+    let a = passed_part (two_words words) (λ parts. known causes.Word (device_of parts.0) >>= λ device. judge_number parts.1 >>= λ nth. Ok (Arms device ReadFault nth None)) line h in
     let parts = a.0 in
-    let b = bind_ok (known causes.Word (device_of parts.0)) (λ device. judge_number parts.1 >>= λ nth. Ok (Arms device ReadFault nth None)) line a.2 in
-    let c = bind_ok (judge_number parts.1) (λ nth. Ok (Arms b.0 ReadFault nth None)) line b.2 in
+    let b = passed_part (known causes.Word (device_of parts.0)) (λ device. judge_number parts.1 >>= λ nth. Ok (Arms device ReadFault nth None)) line a.2 in
+    let c = passed_part (judge_number parts.1) (λ nth. Ok (Arms b.0 ReadFault nth None)) line b.2 in
     let w = two_ok words parts a.1 in
     let n = number_is parts.1 c.0 c.1 in
     record {

@@ -1,4 +1,3 @@
-pub mod PieceLemmas
 pub mod NumberLemmas
 pub mod HexLemmas
 pub mod GrowLemmas

@@ -7,18 +7,10 @@ use Rattle.pfr_auth.proofs.hashes.check_regions.Goals as goal
 pub loop-k-init : goal.loop-k-init
 loop-k-init g c = record { ends = EndsAt-refl _; exact = refl }
 
-pub returns-in_err-is_hashed-clause-ends : goal.returns-in_err-is_hashed-clause-ends
-returns-in_err-is_hashed-clause-ends g c =
-    let p = err_from_is_err_and c.from_residual.result c.from_residual.ensures.1 in
-    rw (p.1, p.2) (then_ends c.loop-k.invariant.ends c.in_err-is_hashed.ensures.ends)
-
 pub returns-then-not-branch-clause-exact : goal.returns-then-not-branch-clause-exact
 returns-then-not-branch-clause-exact g c =
     sym c.loop-k.invariant.exact ∙ region_refused _ c.args.regions.now c.loop-k.k c.get.result.now (omega (arith, c.len-k-end.ensures.value, c.loop-k-test.true)) c.get.ensures
     (found_of _ _ _ _ _ (ends_content c.loop-k.invariant.ends) c.in_ok-is_hashed.ensures.exact c.if-not-branch.true)
-
-pub returns-then-not-branch-clause-ends : goal.returns-then-not-branch-clause-ends
-returns-then-not-branch-clause-ends g c = then_ends c.loop-k.invariant.ends c.in_ok-is_hashed.ensures.ends
 
 pub loop-k-preserved : goal.loop-k-preserved
 loop-k-preserved g c = record {

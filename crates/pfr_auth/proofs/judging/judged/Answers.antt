@@ -10,11 +10,3 @@ returns-in_err-check_regions-clause-exact g c =
     rw (p.1, p.2) (regions_refused (g.F.Flash.device c.args.flash.now) (g.F.Flash.device c.signed_manifest.new.flash)
     c.args.bank c.args.fuses.now (g.E.Engine.accepts c.args.engine.now) c.in_ok-manifest.manifest c.in_err-check_regions.field-0.0 (ends_content c.in_ok-manifest.ensures.ends) c.in_ok-manifest.ensures.exact
     (omega (arith, c.if-from-floor.false, c.floor.ensures.exact, c.from.ensures)) c.in_err-check_regions.ensures.exact)
-
-pub returns-in_err-check_regions-clause-ends : goal.returns-in_err-check_regions-clause-ends
-returns-in_err-check_regions-clause-ends g c =
-    let p = err_from_is_err_and c.from_residual-in_err-check_regions.result c.from_residual-in_err-check_regions.ensures.1 in
-    rw (p.1, p.2) (then_ends c.in_ok-manifest.ensures.ends c.in_err-check_regions.ensures.ends)
-
-pub returns-clause-ends : goal.returns-clause-ends
-returns-clause-ends g c = then_ends c.in_ok-manifest.ensures.ends c.in_ok-check_regions.ensures.ends

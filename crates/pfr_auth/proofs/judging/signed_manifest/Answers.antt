@@ -9,30 +9,16 @@ use Rattle.pfr_auth.proofs.judging.signed_manifest.Goals as goal
 pub returns-in_err-chain-clause-exact : goal.returns-in_err-chain-clause-exact
 returns-in_err-chain-clause-exact g c =
     let p = err_from_is_err_and c.from_residual.result c.from_residual.ensures.1 in
-    let old : FlashState = g.F.Flash.device c.args.flash.now in
-    rw (p.1, p.2) (chain_refused old c.args.bank c.args.fuses.now (g.E.Engine.accepts c.args.engine.now) c.args.layout.now c.manifest_type-ty.result c.provision-provision.result.now.root c.row-cancelled.result.now
-    c.requires.layout c.manifest_type-ty.ensures (ap (λ (slot : RootSlot). slot.root) c.provision-provision.ensures) c.row-cancelled.ensures
+    rw (p.1, p.2) (chain_refused (g.F.Flash.device c.args.flash.now) _ _ _ _ _ _ _ c.requires.layout c.manifest_type-ty.ensures (ap (λ (slot : RootSlot). slot.root) c.provision-provision.ensures) c.row-cancelled.ensures
     c.in_err-chain.field-0.0 c.in_err-chain.ensures.exact)
 
 pub returns-in_err-read-clause-exact : goal.returns-in_err-read-clause-exact
 returns-in_err-read-clause-exact g c =
     let p = err_from_is_err_and c.from_residual-in_err-read.result c.from_residual-in_err-read.ensures.1 in
-    let old : FlashState = g.F.Flash.device c.args.flash.now in
-    rw (p.1, p.2) (manifest_refused old c.args.bank c.args.fuses.now (g.E.Engine.accepts c.args.engine.now) c.args.layout.now c.manifest_type-ty.result c.provision-provision.result.now.root c.row-cancelled.result.now
-    c.requires.layout c.manifest_type-ty.ensures (ap (λ (slot : RootSlot). slot.root) c.provision-provision.ensures) c.row-cancelled.ensures
+    rw (p.1, p.2) (manifest_refused (g.F.Flash.device c.args.flash.now) _ _ _ _ _ _ _ c.requires.layout c.manifest_type-ty.ensures (ap (λ (slot : RootSlot). slot.root) c.provision-provision.ensures) c.row-cancelled.ensures
     (g.F.Flash.device c.verify.new.flash) c.in_ok-chain.chain c.in_err-read.field-0.0 (ends_content c.in_ok-chain.ensures.ends) c.in_ok-chain.ensures.exact c.in_err-read.ensures.exact)
 
 pub returns-clause-exact : goal.returns-clause-exact
 returns-clause-exact g c =
-    let old : FlashState = g.F.Flash.device c.args.flash.now in
-    manifest_found old c.args.bank c.args.fuses.now (g.E.Engine.accepts c.args.engine.now) c.args.layout.now c.manifest_type-ty.result c.provision-provision.result.now.root c.row-cancelled.result.now
-    c.requires.layout c.manifest_type-ty.ensures (ap (λ (slot : RootSlot). slot.root) c.provision-provision.ensures) c.row-cancelled.ensures
+    manifest_found (g.F.Flash.device c.args.flash.now) _ _ _ _ _ _ _ c.requires.layout c.manifest_type-ty.ensures (ap (λ (slot : RootSlot). slot.root) c.provision-provision.ensures) c.row-cancelled.ensures
     (g.F.Flash.device c.verify.new.flash) c.in_ok-chain.chain c.in_ok-read.field-0 (ends_content c.in_ok-chain.ensures.ends) c.in_ok-chain.ensures.exact c.in_ok-read.ensures.exact
-
-pub returns-in_err-read-clause-ends : goal.returns-in_err-read-clause-ends
-returns-in_err-read-clause-ends g c =
-    let p = err_from_is_err_and c.from_residual-in_err-read.result c.from_residual-in_err-read.ensures.1 in
-    rw (p.1, p.2) (then_ends c.in_ok-chain.ensures.ends c.in_err-read.ensures.ends)
-
-pub returns-clause-ends : goal.returns-clause-ends
-returns-clause-ends g c = then_ends c.in_ok-chain.ensures.ends c.in_ok-read.ensures.ends

@@ -22,8 +22,3 @@ returns-clause-exact g c =
     let old : FlashState = g.F.Flash.device c.args.flash.now in
     header_judged (now old) c.args.at c.args.end c.size-size.result c.read.new.into c.read-header.result (omega (arith, c.requires.begins, c.if-end-at.false)) c.in_ok-read.ensures.bytes c.read-header.ensures (c.size-size.ensures ∙ sym (length-now old))
     (Ok tt) (sym c.in_ok-check_numbers.ensures.exact)
-
-pub returns-in_err-check_numbers-clause-ends : goal.returns-in_err-check_numbers-clause-ends
-returns-in_err-check_numbers-clause-ends g c =
-    let p = err_from_is_err_and c.from_residual-in_err-check_numbers.result c.from_residual-in_err-check_numbers.ensures.1 in
-    rw (p.1, p.2, c.in_err-check_numbers.ensures.found) c.in_ok-read.ensures.reads.ends

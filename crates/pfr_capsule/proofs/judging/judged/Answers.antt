@@ -1,7 +1,6 @@
-use Rattle.std.proofs.lemmas.Result.{err_from_is_err_and}
 use Rattle.std.proofs.Common.{◌∙◌, ap, ℕ, ◌/◌, List, length}
 use Rattle.pfr_flash.specs.FlashState.{size_of}
-use Rattle.pfr_flash.proofs.EndsLemmas.{then_ends, ends_reads}
+use Rattle.pfr_flash.proofs.EndsLemmas.{ends_reads}
 use Rattle.pfr_flash.proofs.RangeLemmas.{length-now}
 use Rattle.pfr_capsule.proofs.PagesRead.{ends_in_map}
 use Rattle.pfr_capsule.proofs.judging.judged.Goals as goal
@@ -14,29 +13,3 @@ incoherent_region-requires-clause-inside g c =
 
 pub returns-clause-regions : goal.returns-clause-regions
 returns-clause-regions g c = rw (length-now (g.F.Flash.device c.args.flash.now)) at c.in_ok-signed.ensures.ok.spelled.each_region
-
-pub returns-in_err-header-clause-ends : goal.returns-in_err-header-clause-ends
-returns-in_err-header-clause-ends g c =
-    let p = err_from_is_err_and c.from_residual-in_err-header.result c.from_residual-in_err-header.ensures.1 in
-    rw (p.1, p.2) (then_ends (c.in_ok-signed.ensures.ends) c.in_err-header.ensures.ends)
-
-pub returns-in_err-pages-clause-ends : goal.returns-in_err-pages-clause-ends
-returns-in_err-pages-clause-ends g c =
-    let p = err_from_is_err_and c.from_residual-in_err-pages.result c.from_residual-in_err-pages.ensures.1 in
-    rw (p.1, p.2) (then_ends (then_ends c.in_ok-signed.ensures.ends c.in_ok-header.ensures.ends) c.in_err-pages.ensures.ends)
-
-pub returns-in_err-k-clause-ends : goal.returns-in_err-k-clause-ends
-returns-in_err-k-clause-ends g c =
-    let p = err_from_is_err_and c.from_residual-in_err-k.result c.from_residual-in_err-k.ensures.1 in
-    rw (p.1, p.2) (then_ends (then_ends (then_ends c.in_ok-signed.ensures.ends c.in_ok-header.ensures.ends) c.in_ok-pages.ensures.ends) c.in_err-k.ensures.ends)
-
-pub returns-in_err-digest-clause-ends : goal.returns-in_err-digest-clause-ends
-returns-in_err-digest-clause-ends g c =
-    let p = err_from_is_err_and c.from_residual-in_err-digest.result c.from_residual-in_err-digest.ensures.1 in
-    rw (p.1, p.2) (then_ends (then_ends (then_ends (then_ends c.in_ok-signed.ensures.ends c.in_ok-header.ensures.ends) c.in_ok-pages.ensures.ends) c.in_ok-k.ensures.ends) c.in_err-digest.ensures.ends)
-
-pub returns-in-Some-clause-ends : goal.returns-in-Some-clause-ends
-returns-in-Some-clause-ends g c = then_ends (then_ends (then_ends c.in_ok-signed.ensures.ends c.in_ok-header.ensures.ends) c.in_ok-pages.ensures.ends) c.in_ok-k.ensures.ends
-
-pub returns-clause-ends : goal.returns-clause-ends
-returns-clause-ends g c = then_ends (then_ends (then_ends (then_ends c.in_ok-signed.ensures.ends c.in_ok-header.ensures.ends) c.in_ok-pages.ensures.ends) c.in_ok-k.ensures.ends) c.in_ok-digest.ensures.ends

@@ -1,41 +1,22 @@
-use Rattle.std.proofs.Common.{◌≡◌, ◌∙◌, ap, sym, ℕ, ◌+◌, ◌/◌, List, length, take, replicate, arith}
+use Rattle.std.proofs.Common.{◌≡◌, ◌∙◌, ap, sym, ℕ, ◌+◌, ◌/◌, List, length, take, replicate, rules, arith}
 use Rattle.pfr_flash.specs.Bytes.{bytes_at}
 use Rattle.pfr_flash.specs.FlashState.{FlashState, now}
 use Rattle.pfr_flash.proofs.RangeLemmas.{length-now}
-use Rattle.std.proofs.lemmas.Result.{err_from_is_err_and}
 use Rattle.pfr_flash.proofs.EndsLemmas.{then_ends}
 use Rattle.pfr_capsule.proofs.PagesRead.{pages_judged, has_index, long_front}
 use Rattle.pfr_capsule.proofs.judging.pages_at.Goals as goal
 
-pub returns-in_err-read-2-clause-ends : goal.returns-in_err-read-2-clause-ends
-returns-in_err-read-2-clause-ends g c =
-    let p = err_from_is_err_and c.from_residual-in_err-read-2.result c.from_residual-in_err-read-2.ensures.1 in
-    rw (p.1, p.2) (then_ends c.in_ok-read.ensures.reads.ends c.in_err-read-2.ensures.reads.ends)
-
-pub returns-in_err-check_maps-clause-ends : goal.returns-in_err-check_maps-clause-ends
-returns-in_err-check_maps-clause-ends g c =
-    let p = err_from_is_err_and c.from_residual-in_err-check_maps.result c.from_residual-in_err-check_maps.ensures.1 in
-    rw (p.1, p.2, c.in_err-check_maps.ensures.found) (then_ends c.in_ok-read.ensures.reads.ends c.in_ok-read-2.ensures.reads.ends)
-
-pub returns-clause-exact : goal.returns-clause-exact
-returns-clause-exact g c =
+pub returns : goal.returns
+returns g c =
     let old : FlashState = g.F.Flash.device c.args.flash.now in
     let bytes : ℕ = c.args.header.now.map_bits / 8 in
     let long : length {A = ℕ} (take bytes (replicate 2048 0)) ≡ bytes = long_front bytes 2048 (omega (arith, c.requires.few)) in
     let erased : c.read.new.into ≡ bytes_at (now old) c.args.at bytes = c.in_ok-read.ensures.bytes ∙ ap (bytes_at (now old) c.args.at) long in
     let copied : c.read-2.new.into ≡ bytes_at (now old) (c.args.at + bytes) bytes =
     c.in_ok-read-2.ensures.bytes ∙ ap (bytes_at (now (g.F.Flash.device c.read.new.self)) (c.args.at + bytes)) long ∙ ap (λ (image : List ℕ). bytes_at image (c.args.at + bytes) bytes) c.read.ensures.reads.reads.content in
-    pages_judged (now old) c.args.at c.args.header.now c.read.new.into c.read-2.new.into c.index.result erased copied c.index.ensures.each c.args.regions.now c.index.ensures.long (sym c.in_ok-check_maps.ensures.exact)
-
-pub returns-clause-index : goal.returns-clause-index
-returns-clause-index g c =
-    let old : FlashState = g.F.Flash.device c.args.flash.now in
-    let bytes : ℕ = c.args.header.now.map_bits / 8 in
-    let long : length {A = ℕ} (take bytes (replicate 2048 0)) ≡ bytes = long_front bytes 2048 (omega (arith, c.requires.few)) in
-    let erased : c.read.new.into ≡ bytes_at (now old) c.args.at bytes = c.in_ok-read.ensures.bytes ∙ ap (bytes_at (now old) c.args.at) long in
-    let copied : c.read-2.new.into ≡ bytes_at (now old) (c.args.at + bytes) bytes =
-    c.in_ok-read-2.ensures.bytes ∙ ap (bytes_at (now (g.F.Flash.device c.read.new.self)) (c.args.at + bytes)) long ∙ ap (λ (image : List ℕ). bytes_at image (c.args.at + bytes) bytes) c.read.ensures.reads.reads.content in
-    has_index (now old) c.args.at c.args.header.now c.read.new.into c.read-2.new.into c.index.result erased copied c.index.ensures.each c.requires.few c.requires.whole (omega (arith, c.requires.inside, length-now old)) c.in_ok-check_maps.ensures.payload
-
-pub returns-clause-ends : goal.returns-clause-ends
-returns-clause-ends g c = then_ends c.in_ok-read.ensures.reads.ends c.in_ok-read-2.ensures.reads.ends
+    record {
+      exact = pages_judged (now old) c.args.at c.args.header.now c.read.new.into c.read-2.new.into c.index.result erased copied c.index.ensures.each c.args.regions.now c.index.ensures.long (sym c.in_ok-check_maps.ensures.exact);
+      index = has_index (now old) c.args.at c.args.header.now c.read.new.into c.read-2.new.into c.index.result erased copied c.index.ensures.each c.requires.few c.requires.whole (omega (arith, c.requires.inside, length-now old)) c.in_ok-check_maps.ensures.payload;
+      bits = search rules;
+      ends = then_ends c.in_ok-read.ensures.reads.ends c.in_ok-read-2.ensures.reads.ends;
+    }

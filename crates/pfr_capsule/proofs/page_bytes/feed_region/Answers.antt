@@ -1,4 +1,3 @@
-use Rattle.std.proofs.lemmas.Result.{err_from_is_err_and}
 use Rattle.std.proofs.Common.{List, ℕ, ◌/◌, subst, arith}
 use Rattle.pfr_flash.proofs.EndsLemmas.{EndsAt-refl, then_ends, ends_content}
 use Rattle.pfr_capsule.proofs.PageBytesLaws.{no_pages, page_joined, all_pages}
@@ -10,16 +9,6 @@ loop-n-init g c = record {
   within = omega arith;
   fed = λ m h. subst (λ (t : List ℕ). g.H.Digest.holds c.args.hasher.now t) (no_pages _ m _ _) h;
 }
-
-pub returns-in_err-page-clause-ends : goal.returns-in_err-page-clause-ends
-returns-in_err-page-clause-ends g c =
-    let p = err_from_is_err_and c.from_residual.result c.from_residual.ensures.1 in
-    rw (p.1, p.2) (then_ends c.loop-n.invariant.ends c.in_err-page.ensures.ends)
-
-pub returns-in_err-feed_page-clause-ends : goal.returns-in_err-feed_page-clause-ends
-returns-in_err-feed_page-clause-ends g c =
-    let p = err_from_is_err_and c.from_residual-in_err-feed_page.result c.from_residual-in_err-feed_page.ensures.1 in
-    rw (p.1, p.2) (then_ends (then_ends c.loop-n.invariant.ends c.in_ok-page.ensures.ends) c.in_err-feed_page.ensures.ends)
 
 pub loop-n-preserved : goal.loop-n-preserved
 loop-n-preserved g c = record {

@@ -1,4 +1,3 @@
-use Rattle.std.proofs.lemmas.Result.{err_from_is_err_and}
 use Rattle.std.proofs.Common.{sym, ◌∙◌, refl, arith}
 use Rattle.pfr_flash.proofs.EndsLemmas.{EndsAt-refl, then_ends, ends_content}
 use Rattle.pfr_capsule.specs.PageBytes.{incoherent_region}
@@ -10,18 +9,10 @@ pub loop-k-init : goal.loop-k-init
 unfolding incoherent_region
 loop-k-init g c = record { ends = EndsAt-refl _; exact = refl }
 
-pub returns-in_err-is_coherent-clause-ends : goal.returns-in_err-is_coherent-clause-ends
-returns-in_err-is_coherent-clause-ends g c =
-    let p = err_from_is_err_and c.from_residual.result c.from_residual.ensures.1 in
-    rw (p.1, p.2) (then_ends c.loop-k.invariant.ends c.in_err-is_coherent.ensures.ends)
-
 pub returns-then-not-branch-clause-exact : goal.returns-then-not-branch-clause-exact
 returns-then-not-branch-clause-exact g c =
     sym (first_found _ c.args.regions.now c.loop-k.k c.get.result.now (omega (arith, c.len-k-end.ensures.value, c.loop-k-test.true)) c.get.ensures
     (incoherent_found _ _ _ _ _ _ (ends_content c.loop-k.invariant.ends) c.in_ok-is_coherent.ensures.exact c.if-not-branch.true)) ∙ c.loop-k.invariant.exact
-
-pub returns-then-not-branch-clause-ends : goal.returns-then-not-branch-clause-ends
-returns-then-not-branch-clause-ends g c = then_ends c.loop-k.invariant.ends c.in_ok-is_coherent.ensures.ends
 
 pub loop-k-preserved : goal.loop-k-preserved
 loop-k-preserved g c = record {

@@ -1,6 +1,5 @@
 use Rattle.std.proofs.Common.{◌≡◌, ℕ, List, length, take, arith, length-take, subst, sym, append-nil}
 use Rattle.pfr_flash.proofs.EndsLemmas.{EndsAt-refl, then_ends, ends_content}
-use Rattle.std.proofs.lemmas.Result.{err_from_is_err_and}
 use Rattle.pfr_flash.proofs.PartsLemmas.{joined}
 use Rattle.pfr_chain.proofs.hashing.feed.Goals as goal
 
@@ -10,11 +9,6 @@ pieces-init g c = record {
   ends = EndsAt-refl _;
   fed = λ m h. subst (λ (t : List ℕ). g.H.Digest.holds c.args.hasher.now t) (sym (append-nil m)) h;
 }
-
-pub returns-in_err-read-clause-ends : goal.returns-in_err-read-clause-ends
-returns-in_err-read-clause-ends g c =
-    let p = err_from_is_err_and c.from_residual.result c.from_residual.ensures.1 in
-    rw (p.1, p.2) (then_ends c.pieces.invariant.ends c.in_err-read.ensures.reads.ends)
 
 pub pieces-preserved : goal.pieces-preserved
 pieces-preserved g c =

@@ -16,19 +16,6 @@ entries-init g c = record {
   ends = EndsAt-refl (g.F.Flash.device c.args.flash.now);
 }
 
-pub returns-in_err-entry_at-clause-ends : goal.returns-in_err-entry_at-clause-ends
-returns-in_err-entry_at-clause-ends g c =
-    let p = err_from_is_err_and c.from_residual.result c.from_residual.ensures.1 in
-    rw (p.1, p.2) (then_ends c.entries.invariant.ends c.in_err-entry_at.ensures.ends)
-
-pub returns-in_err-tail_at-in-Tail-clause-ends : goal.returns-in_err-tail_at-in-Tail-clause-ends
-returns-in_err-tail_at-in-Tail-clause-ends g c =
-    let p = err_from_is_err_and c.from_residual-in_err-tail_at-in-Tail.result c.from_residual-in_err-tail_at-in-Tail.ensures.1 in
-    rw (p.1, p.2) (then_ends (then_ends c.entries.invariant.ends c.in_ok-entry_at.ensures.ends) c.in_err-tail_at-in-Tail.ensures.ends)
-
-pub returns-in-Tail-clause-ends : goal.returns-in-Tail-clause-ends
-returns-in-Tail-clause-ends g c = then_ends (then_ends c.entries.invariant.ends c.in_ok-entry_at.ensures.ends) c.in_ok-tail_at-in-Tail.ensures.ends
-
 pub returns-in_err-entry_at-clause-exact : goal.returns-in_err-entry_at-clause-exact
 returns-in_err-entry_at-clause-exact g c =
     let p = err_from_is_err_and c.from_residual.result c.from_residual.ensures.1 in

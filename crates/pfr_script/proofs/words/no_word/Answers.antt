@@ -1,5 +1,5 @@
 use Rattle.std.proofs.Common.{sym}
-use Rattle.pfr_script.proofs.PieceLemmas.{some_word}
+use Rattle.pfr_script.proofs.WordLemmas.{some_word}
 use Rattle.pfr_script.proofs.words.no_word.Goals as goal
 
 pub returns-in-Some : goal.returns-in-Some

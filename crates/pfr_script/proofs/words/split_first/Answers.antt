@@ -1,5 +1,5 @@
 use Rattle.std.proofs.Common.{◌∙◌, sym}
-use Rattle.pfr_script.proofs.PieceLemmas.{first_parts, last_piece}
+use Rattle.pfr_engine.proofs.PieceLemmas.{first_parts, last_piece}
 use Rattle.pfr_script.proofs.words.split_first.Goals as goal
 
 pub returns-in_err-end-clause-pieces : goal.returns-in_err-end-clause-pieces
