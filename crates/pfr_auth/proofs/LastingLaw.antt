@@ -18,7 +18,6 @@ use Rattle.pfr_fuses.specs.Slots.{IsProvisionedBy, slot_at}
 use Rattle.pfr_fuses.specs.FuseMap.{profile_of, floor_at, floor_width, row_at, row_width}
 use Rattle.pfr_fuses.specs.FusesState.{FusesState, row_of, floor_in, floor_of}
 use Rattle.pfr_fuses.specs.FusesOf.{floor_fuses, row_fuses, fuses_with, fuses_of}
-use Rattle.pfr_fuses.specs.declared.fuse_fail.FuseFail.{FuseFail}
 use Rattle.pfr_fuses.specs.declared.profile.Profile.{Profile}
 use Rattle.pfr_fuses.specs.declared.root_slot.RootSlot.{RootSlot}
 use Rattle.pfr_fuses.proofs.GrowthLemmas.{profile_of-gate, IsProvisionedBy-same}

@@ -1,5 +1,5 @@
 -- The parts of the judgement of an active image.
-use Rattle.std.proofs.Common.{◌≡◌, ◌∙◌, ap, sym, refl, ℕ, ◌≤◌, Bool, true, false, List, length, Result, Ok, Err}
+use Rattle.std.proofs.Common.{◌≡◌, ◌∙◌, ap, sym, refl, ℕ, ◌≤◌, List, length, Result, Ok, Err}
 use Rattle.std.proofs.lemmas.Bool.{le-leb}
 use Rattle.pfr_flash.specs.Bytes.{bytes_at}
 use Rattle.pfr_flash.specs.FlashState.{FlashState, now, size_of}
@@ -11,7 +11,6 @@ use Rattle.pfr_flash.proofs.RangeLemmas.{length-now}
 use Rattle.pfr_engine.specs.Acceptance.{Acceptance}
 use Rattle.pfr_flash.specs.Answer.{Answers}
 use Rattle.pfr_chain.specs.Answer.{chain_failure}
-use Rattle.pfr_chain.specs.Chain.{IsChain}
 use Rattle.pfr_chain.specs.Judge.{judge}
 use Rattle.pfr_chain.specs.declared.fail.ChainFail.{ChainFail}
 use Rattle.pfr_chain.specs.declared.judging.Chain.{Chain}
@@ -19,13 +18,11 @@ use Rattle.pfr_fuses.specs.FusesState.{FusesState, floor_of, row_of}
 use Rattle.pfr_fuses.specs.RootSlot.{layout_of}
 use Rattle.pfr_manifest.specs.Answer.{manifest_failure}
 use Rattle.pfr_manifest.specs.Judge.{judge_manifest}
-use Rattle.pfr_manifest.specs.Manifest.{IsManifestOf}
 use Rattle.pfr_manifest.specs.declared.fail.ManifestFail.{ManifestFail}
 use Rattle.pfr_manifest.specs.declared.manifest.Manifest.{Manifest}
 use Rattle.pfr_auth.specs.Answer.{active_failure}
 use Rattle.pfr_flash.specs.Judging.{◌>>=◌, told_as}
 use Rattle.pfr_auth.specs.Judge.{judge_active, judge_regions, judge_signed}
-use Rattle.pfr_auth.specs.Trusted.{IsSigned}
 use Rattle.pfr_auth.specs.declared.fail.ActiveFail.{ActiveFail}
 use Rattle.pfr_auth.specs.declared.fail.ActiveFail.TheVariants as causes
 use Rattle.pfr_flash.proofs.AnswerLemmas.{refused, told_refused}

@@ -8,12 +8,10 @@ use Rattle.pfr_flash.specs.declared.layout.Layout.{Layout}
 use Rattle.pfr_flash.specs.declared.names.Bank.{Bank}
 use Rattle.pfr_engine.specs.Acceptance.{Acceptance}
 use Rattle.pfr_chain.specs.Judge.{judge}
-use Rattle.pfr_chain.specs.declared.judging.Chain.{Chain}
 use Rattle.pfr_chain.proofs.ChainLaw.{judge_holds as chain_holds, judge_ends as chain_ends}
 use Rattle.pfr_fuses.specs.FusesState.{FusesState, floor_of, row_of}
 use Rattle.pfr_fuses.specs.FusesOf.{fuses_of}
 use Rattle.pfr_fuses.specs.RootSlot.{layout_of}
-use Rattle.pfr_fuses.specs.declared.root_slot.RootSlot.{RootSlot}
 use Rattle.pfr_flash.specs.Bytes.{AreBytes}
 use Rattle.pfr_flash.proofs.AreBytesLemmas.{AreBytes-bytes_at}
 use Rattle.pfr_manifest.specs.Judge.{judge_manifest}

@@ -1,21 +1,10 @@
-use Rattle.std.proofs.Common.{◌≡◌, sym, subst, ℕ, List, length, Result, Ok, Err, IfOk}
-use Rattle.pfr_flash.specs.FlashState.{FlashState, now, size_of}
-use Rattle.pfr_flash.specs.Layout.{IsValidLayout}
-use Rattle.pfr_flash.specs.declared.layout.Layout.{Layout}
-use Rattle.pfr_flash.specs.declared.names.Bank.{Bank}
+use Rattle.std.proofs.Common.{◌≡◌, ℕ, List}
+use Rattle.pfr_flash.specs.FlashState.{FlashState, now}
 use Rattle.pfr_flash.proofs.RangeLemmas.{length-now}
-use Rattle.pfr_engine.specs.Acceptance.{Acceptance}
-use Rattle.pfr_fuses.specs.FusesState.{FusesState}
-use Rattle.pfr_fuses.specs.RootSlot.{layout_of}
 use Rattle.pfr_manifest.specs.declared.manifest.Manifest.{Manifest}
-use Rattle.pfr_flash.specs.Answer.{Answers}
-use Rattle.pfr_flash.specs.Bytes.{AreBytes}
 use Rattle.pfr_flash.proofs.AnswerLemmas.{answered}
 use Rattle.pfr_flash.proofs.HoldingLemmas.{now_bytes}
-use Rattle.pfr_auth.specs.Answer.{active_failure}
-use Rattle.pfr_auth.specs.Judge.{judge_active}
 use Rattle.pfr_auth.specs.Trusted.{IsTrusted, StandFor}
-use Rattle.pfr_auth.specs.declared.fail.ActiveFail.{ActiveFail}
 use Rattle.pfr_auth.proofs.LastingLaw.{answer_lasts}
 use Rattle.pfr_auth.proofs.LeavingLaw.{trusted_between}
 use Rattle.pfr_auth.proofs.TrustedLaw.{judged_trusted, trusted_found}

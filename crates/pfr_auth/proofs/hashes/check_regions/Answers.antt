@@ -1,5 +1,4 @@
 use Rattle.std.proofs.Common.{sym, ◌∙◌, refl, arith}
-use Rattle.std.proofs.lemmas.Result.{err_from_is_err_and}
 use Rattle.pfr_flash.proofs.EndsLemmas.{EndsAt-refl, then_ends, ends_content}
 use Rattle.pfr_auth.proofs.RegionLemmas.{found_of, region_passed, region_refused, regions_done}
 use Rattle.pfr_auth.proofs.hashes.check_regions.Goals as goal

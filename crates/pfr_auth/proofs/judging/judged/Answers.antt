@@ -1,6 +1,6 @@
 use Rattle.std.proofs.Common.{arith}
 use Rattle.std.proofs.lemmas.Result.{err_from_is_err_and}
-use Rattle.pfr_flash.proofs.EndsLemmas.{then_ends, ends_content}
+use Rattle.pfr_flash.proofs.EndsLemmas.{ends_content}
 use Rattle.pfr_auth.proofs.Parts.{regions_refused}
 use Rattle.pfr_auth.proofs.judging.judged.Goals as goal
 

@@ -1,7 +1,6 @@
 use Rattle.std.proofs.Common.{ap}
 use Rattle.std.proofs.lemmas.Result.{err_from_is_err_and}
-use Rattle.pfr_flash.specs.FlashState.{FlashState}
-use Rattle.pfr_flash.proofs.EndsLemmas.{then_ends, ends_content}
+use Rattle.pfr_flash.proofs.EndsLemmas.{ends_content}
 use Rattle.pfr_fuses.specs.declared.root_slot.RootSlot.{RootSlot}
 use Rattle.pfr_auth.proofs.Parts.{chain_refused, manifest_refused, manifest_found}
 use Rattle.pfr_auth.proofs.judging.signed_manifest.Goals as goal
