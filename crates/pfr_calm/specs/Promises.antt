@@ -195,7 +195,7 @@ abbrev pub LocksHaveCauses : Acceptance → World → World → Type 0
 LocksHaveCauses accepts old new = (which : Bank) (cause : LockWhy) (at : Counts) → IsNoted (added old new) (Locked which cause at) → ¬ IsFaultLock cause
     → IsDue cause which (upto (state_at (device_of which) new) (count_at which at)) (upto new.nv at.nv) accepts
 
--- An image is called untrusted only with the first cause against it, at a moment of the step; also where a call fails behind it.
+-- An image is called untrusted only with the first cause against it, at some moment of the run; also where a call fails behind it.
 abbrev pub DistrustsWithCause : Acceptance → World → World → Type 0
 DistrustsWithCause accepts old new = (which : Bank) (cause : ActiveFail) → IsNoted (added old new) (Untrusted which cause)
     → (at : Counts) × IsAgainst cause which (upto (state_at (device_of which) new) (count_at which at)) (upto new.nv at.nv) accepts

@@ -1,5 +1,5 @@
 -- What must hold where a capsule is applied to a bank.
-use Rattle.std.specs.Prelude.{◌≡◌, ℕ, ◌*◌, ◌≤◌, ◌⊎◌, Bool, if◌then◌else◌, List, [], length, All}
+use Rattle.std.specs.Prelude.{◌≡◌, ℕ, ◌*◌, ◌⊎◌, Bool, if◌then◌else◌, List, [], length, All}
 use Rattle.pfr_flash.specs.Layout.{IsValidLayout}
 use Rattle.pfr_flash.specs.Operation.{Operation}
 use Rattle.pfr_flash.specs.declared.layout.Layout.{Layout}
@@ -11,9 +11,9 @@ use Rattle.pfr_jobs.specs.declared.job.JobKind.{JobKind}
 use Rattle.pfr_jobs.specs.declared.job.JobKind.TheVariants.{ActiveFromRecovery, ActiveFromStaging, RecoveryFromStaging}
 use Rattle.pfr_strokes.specs.Strokes.{strokes}
 
--- a job on the active image: a restore of a level from 1 to 3, or an update
+-- a job on the active image: a restore of some level, or an update
 abbrev pub IsActive : JobKind → Type 0
-IsActive (ActiveFromRecovery level) = (1 ≤ level) × (level ≤ 3)
+IsActive (ActiveFromRecovery level) = Unit {0}
 IsActive (ActiveFromStaging dynamic) = Unit {0}
 IsActive RecoveryFromStaging = ⊥
 

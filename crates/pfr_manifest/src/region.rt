@@ -1,5 +1,6 @@
 // A region of a bank.
-ghost use Rattle.std.specs.Prelude.{◌≡◌, ◌≤◌};
+ghost use Rattle.std.specs.Prelude.{◌≡◌, ◌==◌, ◌+◌, ◌≤◌};
+ghost use Rattle.std.specs.Int.{bit_at};
 
 use crate::stretch::Stretch;
 
@@ -29,6 +30,13 @@ pub struct Region {
     pub hash: RegionHash,
 }
 
+// Whether a mask has the bit behind this one.
+fn has_next_bit(mask: u8, bit: u8) -> bool
+    ensures { result ≡ (bit_at mask (bit + 1) == 1) }
+{
+    bit < 7 && (mask >> (bit + 1)) & 1 == 1
+}
+
 impl Region {
     ghost use Rattle.pfr_manifest.specs.Regions.{is_static, is_writable};
     ghost use Rattle.pfr_manifest.specs.Access.{is_restored};
@@ -52,13 +60,11 @@ impl Region {
         (self.mask >> 1) & 1 == 1
     }
 
-    /// Whether a restore of this level, 1 to 3, takes it.
+    /// Whether a restore of this level takes it. There are levels 1 to 3; of any other from 7 on no mask has the bit.
     pub fn is_restored(&self, level: u8) -> bool
-        requires least { 1 ≤ level }
-        requires most { level ≤ 3 }
         ensures { result ≡ is_restored level self.now }
     {
-        self.is_static() || (self.mask >> (level + 1)) & 1 == 1
+        self.is_static() || has_next_bit(self.mask, level)
     }
 
     /// Its place, and whether the bank's bus may write it.
