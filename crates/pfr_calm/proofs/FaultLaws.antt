@@ -1,5 +1,5 @@
 -- A fault that a device answered is noted.
-use Rattle.std.proofs.Common.{◌≡◌, refl, sym, ap, subst, Bool, true, false, List, [], ◌∷◌, ℕ, length, drop, Some, None, ◌⊎◌, inl, inr}
+use Rattle.std.proofs.Common.{◌≡◌, refl, sym, ap, subst, Bool, true, false, List, [], ◌∷◌, ℕ, length, drop, None, ◌⊎◌, inl, inr}
 use Rattle.std.specs.Prelude.{slice_index_or}
 use Rattle.pfr_flash.specs.declared.names.Bank.{Bank}
 use Rattle.pfr_flash.specs.declared.names.Bank.TheVariants as bank
@@ -20,7 +20,7 @@ use Rattle.pfr_report.specs.declared.note.What.{What}
 use Rattle.pfr_report.specs.declared.note.What.TheVariants as what
 use Rattle.pfr_calm.specs.Story.{Story, Move, Says, Does, after, noted, counts_of}
 use Rattle.pfr_calm.specs.World.{World, NoneFailed, story_of}
-use Rattle.pfr_calm.specs.Course.{Stretch, Faults, LosesPower, Steps, goes_on_if}
+use Rattle.pfr_calm.specs.Course.{Stretch, Faults, Steps, goes_on_if}
 use Rattle.pfr_calm.specs.Standing.{standing_of, is_off}
 use Rattle.pfr_calm.specs.Turn.{Course, Turn, Follows, bank_stretch, course, next_item, provision_stretch, where_off, ignored}
 use Rattle.pfr_calm.specs.Promises.{IsFaultLock, IsUndisturbed, FaultsAreNoted}
