@@ -1,6 +1,6 @@
 -- The payload that is made: the copied pages one behind the other, and where each of them stands.
 use Rattle.std.proofs.Common.{◌≡◌, ◌∙◌, ap, sym, refl, ℕ, zero, suc, ◌+◌, ◌*◌, ◌<◌, ◌≤◌, Bool, true, false, if◌then◌else◌, List, [], ◌++◌, length, drop, length-append, length-drop, arith, ⊎_elim}
-use Rattle.std.proofs.lemmas.Bool.{cases_lt}
+use Rattle.std.proofs.lemmas.Bool.{cases_lt, cond-true}
 use Rattle.std.proofs.lemmas.List.{drop-append-le, drop_at, take-append-le, take_all}
 use Rattle.pfr_flash.specs.Bytes.{bytes_at}
 use Rattle.pfr_flash.proofs.BytesLemmas.{length-bytes_at}
@@ -14,10 +14,6 @@ use Rattle.pfr_made.specs.declared.page_map.PageMap.TheVariants as maps
 length-if : (b : Bool) (bytes : List ℕ) → length bytes ≡ 4096 → length (if b then bytes else []) ≡ 4096 * (if b then 1 else 0)
 length-if true bytes h = h
 length-if false bytes h = refl
-
-if_true : (b : Bool) (bytes : List ℕ) → b ≡ true → (if b then bytes else []) ≡ bytes
-if_true true bytes h = refl
-if_true false bytes h = cc
 
 -- a part of what stands in front, and what stands behind
 front_at : (xs ys : List ℕ) (at count : ℕ) → at + count ≤ length xs → bytes_at (xs ++ ys) at count ≡ bytes_at xs at count
@@ -65,5 +61,5 @@ module _ (part : BankDescription) (active copy : List ℕ) (pages : ℕ) (bits :
       last k =
           let e : n ≡ m = omega arith in
           let here : page_bit part maps.Copy m ≡ true = ap (λ (j : ℕ). page_bit part maps.Copy j) (sym e) ∙ copied in
-          let page : page_payload part active m ≡ bytes_at active (4096 * m) 4096 = if_true (page_bit part maps.Copy m) (bytes_at active (4096 * m) 4096) here in
+          let page : page_payload part active m ≡ bytes_at active (4096 * m) 4096 = cond-true (page_bit part maps.Copy m) (bytes_at active (4096 * m) 4096) [] here in
           rw (e, page) (behind_at (payload_of part active m) (bytes_at active (4096 * m) 4096) (4096 * count_before copy m) 4096 long (length-bytes_at active (4096 * m) 4096 (omega arith)))

@@ -5,7 +5,7 @@ use Rattle.std.proofs.lemmas.Bool.{and_from}
 use Rattle.sha2.specs.Sha256.{sha256}
 use Rattle.sha2.specs.Sha512.{sha384}
 use Rattle.pfr_flash.specs.Bytes.{blank, bytes_at}
-use Rattle.pfr_manifest.specs.Hashes.{HasHash}
+use Rattle.pfr_manifest.specs.Hashes.{HasHash, bytes_between}
 use Rattle.pfr_capsule.specs.Good.{Serves}
 use Rattle.pfr_capsule.specs.Maps.{IsCovered}
 use Rattle.pfr_capsule.specs.PageBytes.{IsCoherent, page_bytes, region_bytes}
@@ -28,7 +28,6 @@ use Rattle.pfr_made.specs.Judge.{IsPlaced}
 use Rattle.pfr_made.specs.Manifests.{hash_of, region_of}
 use Rattle.pfr_made.specs.Pages.{has_bit, use_of}
 use Rattle.pfr_made.specs.Entries.{judge_entries}
-use Rattle.pfr_made.specs.Regions.{bytes_of}
 use Rattle.pfr_made.specs.declared.page_map.PageMap.TheVariants as maps
 use Rattle.pfr_made.proofs.ManifestMadeRegions.{has_hash_of}
 use Rattle.pfr_made.proofs.PagesGive.{copied_page, copy_bit, erase_bit, erased_page, page_of_blanks, pages_give, payload_counted}
@@ -38,7 +37,7 @@ use Rattle.pfr_made.proofs.PagesUse.{IsWhole, entries_ordered, in_region, region
 
 -- a region whose pages are only erased, and that has a hash, is 0xFF in the active image
 abbrev pub IsBlanked : List ℕ → RegionDescription → Type 0
-IsBlanked active region = is_blank region ≡ true → bytes_of active region ≡ replicate (region.end - region.start) 255
+IsBlanked active region = is_blank region ≡ true → bytes_between active region.start region.end ≡ replicate (region.end - region.start) 255
 
 -- the header that is made
 abbrev pub made_header : BankDescription → List ℕ → PageHeader
@@ -103,7 +102,7 @@ module _ (image active : List ℕ) (at : ℕ) (part : BankDescription) (sized : 
     region_covered : IsCovered (erase_map image (pages_at image (at + 128) (page_count part))) (page_count part) (region_of active region)
     unfolding region_of
     region_covered static page inside lies =
-        let hashed : is_some region.hash ≡ true = sym (has_hash_of region.hash (bytes_of active region)) ∙ static in
+        let hashed : is_some region.hash ≡ true = sym (has_hash_of region.hash (bytes_between active region.start region.end)) ∙ static in
         erase_bit image active at part placed.whole long stand page inside ∙ ap (λ (pages : PageUse). has_bit maps.Erase pages) (used page lies.low lies.high)
         ∙ erased_unless_kept region.pages (not_kept (is_some region.hash) region.pages brought hashed)
 
@@ -114,7 +113,7 @@ module _ (image active : List ℕ) (at : ℕ) (part : BankDescription) (sized : 
         page_by_use page region.pages (omega (arith, bits_whole, whole.inside)) (used page low (omega arith)) (not_kept (is_some region.hash) region.pages brought hashed)
         (λ is. page_of_blanks active region.start (region.end - region.start) page (blanked (and_from _ _ hashed (ap is_erased_only is))) low (omega (arith, whole.some)))
 
-    region_given : is_some region.hash ≡ true → region_bytes image (pages_at image (at + 128) (page_count part)) (region_of active region) ≡ bytes_of active region
+    region_given : is_some region.hash ≡ true → region_bytes image (pages_at image (at + 128) (page_count part)) (region_of active region) ≡ bytes_between active region.start region.end
     unfolding region_of
     region_given hashed =
         let first : ℕ = region.start / 4096 in
@@ -126,7 +125,7 @@ module _ (image active : List ℕ) (at : ℕ) (part : BankDescription) (sized : 
 
     region_coherent : IsCoherent image (pages_at image (at + 128) (page_count part)) (region_of active region)
     unfolding region_of
-    region_coherent = hash_made region.hash (region_bytes image (pages_at image (at + 128) (page_count part)) (region_of active region)) (bytes_of active region) region_given
+    region_coherent = hash_made region.hash (region_bytes image (pages_at image (at + 128) (page_count part)) (region_of active region)) (bytes_between active region.start region.end) region_given
 
   -- ---- all regions of the description
   module _ (judged : judge_entries part ≡ Ok tt) (brought : All IsBrought part.regions) (blanked : All (IsBlanked active) part.regions) where

@@ -10,7 +10,7 @@ use Rattle.pfr_flash.specs.Layout.{IsValidLayout}
 use Rattle.pfr_flash.specs.declared.layout.Layout.{Layout}
 use Rattle.pfr_flash.proofs.AreBytesLemmas.{AreBytes-bytes_at}
 use Rattle.pfr_flash.proofs.BytesLemmas.{length-bytes_at, get_or-bytes_at, length-blank, get_or-blank}
-use Rattle.pfr_manifest.specs.Hashes.{bytes_of}
+use Rattle.pfr_manifest.specs.Hashes.{bytes_between}
 use Rattle.pfr_manifest.specs.Regions.{IsRegion, is_static}
 use Rattle.pfr_manifest.specs.declared.region.Region.{Region}
 use Rattle.pfr_capsule.specs.CapsuleState.{CapsuleState}
@@ -221,7 +221,7 @@ module _ (kind : JobKind) (active : ¬ (kind ≡ RecoveryFromStaging)) (image : 
         not_held n low high (inl before) = grind (arith, nat_tests)
         not_held n low high (inr behind) = grind (arith, nat_tests)
 
-    pub region_restored : bytes_of (active_rebuilt kind image capsule layout) (get_or capsule.manifest.regions k d) ≡ region_bytes image capsule.pages (get_or capsule.manifest.regions k d)
+    pub region_restored : bytes_between (active_rebuilt kind image capsule layout) (get_or capsule.manifest.regions k d).start (get_or capsule.manifest.regions k d).end ≡ region_bytes image capsule.pages (get_or capsule.manifest.regions k d)
     region_restored =
         let is_region : IsRegion layout (length image) (get_or capsule.manifest.regions k d) = regions k d h in
         region_holds (active_rebuilt kind image capsule layout) image capsule.pages (get_or capsule.manifest.regions k d) is_region.start_aligned is_region.end_aligned (λ n p. region_page n p)
