@@ -14,14 +14,10 @@ use Rattle.pfr_made.specs.Form1.{key_bytes, signature_bytes}
 use Rattle.pfr_made.specs.Marks.{number_of_curve}
 use Rattle.pfr_description.specs.Typed.{IsKeyValue}
 use Rattle.pfr_made.proofs.BlockPartsMade.{length-number, in_front, last_part, first_part, in_padded, number_there, inside_at, number_inside_at}
-use Rattle.pfr_made.proofs.BlockLengthsMade.{IsMark}
+use Rattle.pfr_made.proofs.BlockLengthsMade.{IsMark, fits-curve}
 use Rattle.pfr_description.specs.declared.keys.PublicKey.{PublicKey}
 
 -- ---- curves
-pub fits-curve : (curve : Curve) → number_of_curve curve < 2 ^ 32
-fits-curve C256 = omega arith
-fits-curve C384 = omega arith
-
 pub fits-signature : (curve : Curve) → signature_magic curve < 2 ^ 32
 fits-signature C256 = omega arith
 fits-signature C384 = omega arith

@@ -1,13 +1,11 @@
 -- Pieces of bytes that are put together, by the place where each stands.
 use Rattle.std.proofs.Common.{◌≡◌, ℕ, ◌+◌, ◌≤◌, ◌<◌, ◌^◌, List, ◌++◌, length, take, drop, refl, sym, ◌∙◌, ap, subst, arith, length-append}
-use Rattle.std.proofs.lemmas.List.{take-take, take_at, drop_at, take_all}
 use Rattle.byteorder.specs.Endian.{little_bytes, little_number}
 use Rattle.pfr_flash.specs.Bytes.{bytes_at}
 use Rattle.pfr_flash.specs.Numbers.{little_at, number_at}
-use Rattle.pfr_flash.proofs.PartsLemmas.{part_of}
 use Rattle.pfr_manifest.proofs.Numbers.{number_read}
 use Rattle.pfr_made.specs.Fields.{number_bytes}
-use Rattle.pfr_made.proofs.BlockPartsMade.{length-number}
+use Rattle.pfr_made.proofs.BlockPartsMade.{length-number, front_stands, rest_stands}
 
 -- the bytes from a place on are those of a piece
 pub record Stands (bytes : List ℕ) (at : ℕ) (piece : List ℕ) : Type 0 where
@@ -19,17 +17,11 @@ stands bytes at n piece long is = record { is = ap (bytes_at bytes at) long ∙ 
 
 pub stands_front : (bytes : List ℕ) (at : ℕ) (a b : List ℕ) → Stands bytes at (a ++ b) → Stands bytes at a
 stands_front bytes at a b h =
-    let fits : length a ≤ length (a ++ b) = omega (arith, length-append a b) in
-    record { is = sym (take-take (length a) (length (a ++ b)) (drop at bytes) fits) ∙ ap (λ (xs : List ℕ). take (length a) xs) h.is ∙ take_at a b (length a) refl }
+    record { is = front_stands bytes at a b h.is }
 
 pub stands_behind : (bytes : List ℕ) (at to : ℕ) (a b : List ℕ) → at + length a ≡ to → Stands bytes at (a ++ b) → Stands bytes to b
 stands_behind bytes at to a b there h =
-    let n : ℕ = length (a ++ b) in
-    let fits : length a + length b ≤ n = omega (arith, length-append a b) in
-    let is : bytes_at bytes (at + length a) (length b) ≡ b =
-    sym (part_of bytes at n (length a) (length b) fits) ∙ ap (λ (xs : List ℕ). bytes_at xs (length a) (length b)) h.is
-    ∙ ap (λ (xs : List ℕ). take (length b) xs) (drop_at a b (length a) refl) ∙ take_all (length b) b (omega arith) in
-    record { is = subst (λ (p : ℕ). bytes_at bytes p (length b) ≡ b) there is }
+    record { is = subst (λ (p : ℕ). bytes_at bytes p (length b) ≡ b) there (rest_stands bytes at a b h.is) }
 
 -- ---- what is read of a piece
 pub read_bytes : (bytes : List ℕ) (at n : ℕ) (piece : List ℕ) → length piece ≡ n → Stands bytes at piece → bytes_at bytes at n ≡ piece

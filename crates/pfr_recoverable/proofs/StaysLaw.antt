@@ -12,6 +12,7 @@ use Rattle.pfr_engine.specs.Acceptance.{Acceptance}
 use Rattle.pfr_fuses.specs.FusesState.{FusesState}
 use Rattle.pfr_fuses.specs.FusesOf.{fuses_of}
 use Rattle.pfr_fuses.specs.RootSlot.{layout_of}
+use Rattle.pfr_auth.proofs.LastingLaw.{fuses_one}
 use Rattle.pfr_capsule.specs.CapsuleState.{CapsuleState}
 use Rattle.pfr_capsule.specs.Good.{IsGood}
 use Rattle.pfr_fuses.specs.declared.fuse_fail.FuseFail.{FuseFail}
@@ -33,15 +34,6 @@ module _ (image nv : List ℕ) (place len : ℕ) (bank : Bank) (accepts : Accept
   unfolding good_left
   digest_left = ap (λ (c : CapsuleState). c.digest) (capsule_moved image (applied image op) nv place place len len bank accepts g (sym (length-applied image op)) blocks here (good_within image nv place len bank accepts g))
       ∙ digest_moved image (applied image op) nv place place len len bank accepts g (sym (length-applied image op)) blocks here (good_within image nv place len bank accepts g)
-
-abbrev found_fuses : FusesState → Result FusesState FuseFail
-found_fuses fuses = Ok fuses
-
-same_ok : (a b : FusesState) → found_fuses a ≡ found_fuses b → a ≡ b
-same_ok a b h = cc
-
-pub fuses_one : (nv : List ℕ) (a b : FusesState) → fuses_of nv ≡ Ok a → fuses_of nv ≡ Ok b → a ≡ b
-fuses_one nv a b p q = same_ok a b (sym p ∙ q)
 
 -- An operation of the bank that leaves its recovery area leaves it good.
 pub recovery_left : (bank : Bank) (image nv : List ℕ) (accepts : Acceptance) (r : HasGoodRecovery bank image nv accepts) (op : Operation) → length image % 65536 ≡ 0

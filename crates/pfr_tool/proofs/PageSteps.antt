@@ -3,16 +3,13 @@ use Rattle.std.proofs.Common.{◌≡◌, ℕ, zero, suc, ◌+◌, ◌*◌, ◌<�
 use Rattle.std.proofs.lemmas.Bool.{cond-true, cond-false}
 use Rattle.std.proofs.lemmas.List.{drop_more, drop_all}
 use Rattle.std.proofs.Math.Pow.{pow_mono}
+use Rattle.pfr_made.proofs.PagesBits.{value_small}
 use Rattle.pfr_made.specs.Pages.{has_byte, use_of, page_bit, bits_of, page_payload}
 use Rattle.pfr_description.specs.Described.{BankDescription}
 use Rattle.pfr_made.specs.declared.page_map.PageMap.{PageMap}
 use Rattle.pfr_made.specs.declared.page_map.PageMap.TheVariants as maps
 use Rattle.pfr_description.specs.declared.region.PageUse.TheVariants.{Keep}
 use Rattle.pfr_description.specs.declared.region.RegionDescription.{RegionDescription}
-
-one_bit : (b : Bool) → (if b then 1 else 0) ≤ 1
-one_bit true = omega arith
-one_bit false = omega arith
 
 two_pow : (n : ℕ) → 2 ^ (suc n) ≡ 2 ^ n * 2
 two_pow n = grind arith
@@ -22,7 +19,7 @@ unfolding bits_of
 bits_below part map first zero = omega arith
 bits_below part map first (suc n) =
     let h = bits_below part map first n in
-    let b = one_bit (page_bit part map (first + n)) in
+    let b = value_small (page_bit part map (first + n)) in
     rw (two_pow n) (omega arith)
 
 pub bits_small : (part : BankDescription) (map : PageMap) (first n : ℕ) → n < 8 → bits_of part map first n ≤ 127

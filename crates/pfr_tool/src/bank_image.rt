@@ -5,7 +5,8 @@ ghost use Rattle.pfr_made.specs.Trust.{IsWorthy};
 ghost use Rattle.pfr_flash.specs.Layout.{IsValidLayout};
 ghost use Rattle.pfr_made.specs.Capsules.{signed_capsule};
 ghost use Rattle.pfr_made.specs.Images.{active_of, signed_manifest};
-ghost use Rattle.pfr_made.specs.Judge.{IsPlaced, Judged, judge_image, of_manifest, require_fit};
+ghost use Rattle.pfr_flash.specs.Judging.{told_as};
+ghost use Rattle.pfr_made.specs.Judge.{IsPlaced, Judged, judge_image, require_fit};
 ghost use Rattle.pfr_made.specs.Made.{active_image, with_areas, flash_of, rows_of, judge_given, judge_fits, judge_bank};
 ghost use Rattle.pfr_made.specs.Entries.{judge_entries};
 ghost use Rattle.pfr_manifest.specs.Regions.{LiesInside};
@@ -71,7 +72,7 @@ fn check_image(desc: &Description, bank: Bank, image: &[u8]) -> Result<(), DescW
 
 // What a manifest would have of the description.
 fn check_manifest(bank: Bank, part: &BankDescription) -> Result<(), DescWhy>
-    ensures exact { result ≡ of_manifest bank (judge_entries part.now) }
+    ensures exact { result ≡ told_as (DescWhy.Manifest bank) (judge_entries part.now) }
     ensures inside { OnOk result (All (λ region. LiesInside part.now.size region.start region.end) part.now.regions) }
 {
     match check_entries(part) {
