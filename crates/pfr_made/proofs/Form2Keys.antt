@@ -11,7 +11,7 @@ use Rattle.pfr_made.specs.Marks.{number_of_curve}
 use Rattle.pfr_description.specs.Typed.{IsKeyValue}
 use Rattle.pfr_made.proofs.BlockPartsMade.{length-number}
 use Rattle.pfr_made.proofs.BlockLengthsMade.{IsMark, fits-curve}
-use Rattle.pfr_made.proofs.Form2Stands.{Stands, stands_front, stands_behind, read_bytes, read_number}
+use Rattle.pfr_made.proofs.PiecesStand.{Stands, stands_front, stands_behind, read_bytes, read_number}
 use Rattle.pfr_description.specs.declared.keys.PublicKey.{PublicKey}
 
 -- what is read of a key at a place, from its permissions on
