@@ -137,8 +137,11 @@ trust_lasts image later nv after bank accepts t bytes fuses =
     (λ k d below. region_lasts (get_or t.manifest.regions k d) image later bytes.size
     (of_filtered is_static (λ (r : Region). SameAt r.start (r.end - r.start) image later) t.manifest.regions bytes.static k d below) (t.hashed k d below))
 
-pub fuses_one : (nv : List ℕ) (a b : FusesState) → fuses_of nv ≡ Ok a → fuses_of nv ≡ Ok b → a ≡ b
-fuses_one nv a b p q = cc
+abbrev found_fuses : FusesState → Result FusesState FuseFail
+found_fuses fuses = Ok fuses
+
+same_ok : (a b : FusesState) → found_fuses a ≡ found_fuses b → a ≡ b
+same_ok a b h = cc
 
 -- the same for an answer
 pub answer_lasts : (image : List ℕ) (bank : Bank) (accepts : Acceptance) (fuses : FusesState) (layout : Layout) (answer : Result Manifest ActiveFail) → layout ≡ layout_of fuses.provision bank
@@ -147,7 +150,7 @@ pub answer_lasts : (image : List ℕ) (bank : Bank) (accepts : Acceptance) (fuse
 answer_lasts image bank accepts fuses layout (Ok m) is ok = λ nv later after stand bytes kept.
     let found = ok nv stand in
     let t : IsTrusted image nv bank accepts = found.0 in
-    let same_all : t.fuses ≡ stand.all = fuses_one nv t.fuses stand.all t.provisioned stand.provisioned in
+    let same_all : t.fuses ≡ stand.all = same_ok t.fuses stand.all (sym t.provisioned ∙ stand.provisioned) in
     let same_layout : layout ≡ layout_of t.fuses.provision bank = is ∙ ap (λ (p : RootSlot). layout_of p bank) (stand.provision ∙ ap (λ (f : FusesState). f.provision) (sym same_all)) in
     let rested : KeepsTrustedBytes (layout_of t.fuses.provision bank) t.manifest image later =
     subst (λ (l : Layout). KeepsTrustedBytes l t.manifest image later) same_layout (subst (λ (n : Manifest). KeepsTrustedBytes layout n image later) (sym found.1) bytes) in

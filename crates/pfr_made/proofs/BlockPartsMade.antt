@@ -46,11 +46,6 @@ rest_stands image at xs ys h =
     ap (λ (bytes : List ℕ). take (length ys) bytes) (sym (drop-drop (length xs) at image)) ∙ sym (drop-take (length xs) (length ys) (drop at image))
     ∙ ap (λ (bytes : List ℕ). drop (length xs) bytes) all ∙ drop_at xs ys (length xs) refl
 
--- of a list with zeros behind it
-pub in_padded : (whole : ℕ) (bytes : List ℕ) (at count : ℕ) → at + count ≤ length bytes → bytes_at (padded whole bytes) at count ≡ bytes_at bytes at count
-unfolding padded
-in_padded whole bytes at count h = in_front bytes (zeros (whole - length bytes)) at count h
-
 -- a part of a part that is known
 pub inside : (all part : List ℕ) (at n off count : ℕ) → bytes_at all at n ≡ part → off + count ≤ n → bytes_at all (at + off) count ≡ bytes_at part off count
 inside all part at n off count is fits = sym (part_of all at n off count fits) ∙ ap (λ (bytes : List ℕ). bytes_at bytes off count) is

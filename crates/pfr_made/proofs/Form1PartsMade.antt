@@ -1,5 +1,5 @@
 -- What the keys and signatures of form 1 that are made say.
-use Rattle.std.proofs.Common.{◌≡◌, ℕ, ◌+◌, ◌^◌, ◌<◌, ◌≤◌, Some, List, [], ◌∷◌, ◌++◌, length, refl, ◌∙◌, arith, length-append}
+use Rattle.std.proofs.Common.{◌≡◌, ℕ, ◌+◌, ◌^◌, ◌<◌, Some, List, [], ◌∷◌, ◌++◌, length, refl, ◌∙◌, arith, length-append}
 use Rattle.pfr_flash.specs.Bytes.{bytes_at}
 use Rattle.pfr_engine.specs.Curves.{curve_of, signature_magic}
 use Rattle.pfr_engine.specs.declared.engine.Ask.{Ask}

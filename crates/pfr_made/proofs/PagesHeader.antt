@@ -1,8 +1,7 @@
 -- The page-block header that is made, and where header, maps and payload stand in an image.
-use Rattle.std.proofs.Common.{◌≡◌, ◌∙◌, ap, sym, refl, ℕ, ◌+◌, ◌^◌, ◌<◌, ◌≤◌, List, ◌++◌, length, take, drop, length-append, append_assoc, arith}
-use Rattle.std.proofs.lemmas.List.{drop_at, drop-drop, drop-take, length-replicate, take_at, take-take}
+use Rattle.std.proofs.Common.{◌≡◌, ◌∙◌, ap, sym, refl, ℕ, ◌+◌, ◌^◌, ◌<◌, List, ◌++◌, length, take, drop, length-append, append_assoc, arith}
+use Rattle.std.proofs.lemmas.List.{drop_at, drop-drop, length-replicate, take_at}
 use Rattle.byteorder.specs.Endian.{little_number, little_bytes}
-use Rattle.pfr_flash.specs.Bytes.{bytes_at}
 use Rattle.pfr_flash.specs.Numbers.{little_at, number_at}
 use Rattle.pfr_manifest.proofs.Numbers.{number_read}
 use Rattle.pfr_capsule.specs.PageHeader.{page_header_of}

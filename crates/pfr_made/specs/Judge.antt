@@ -1,5 +1,5 @@
 -- What a description must be, and the first rule that it breaks.
-use Rattle.std.specs.Prelude.{◌≡◌, ℕ, ◌+◌, ◌%◌, ◌≤◌, ◌==◌, ◌&&◌, Bool, nat_le, List, length, Result, Ok, Err, if◌then◌else◌}
+use Rattle.std.specs.Prelude.{◌≡◌, ℕ, ◌+◌, ◌%◌, ◌≤◌, ◌==◌, ◌&&◌, Bool, nat_le, List, length, Result, Ok, Err}
 use Rattle.pfr_flash.specs.Layout.{IsBankSize, IsValidLayout, judge_layout}
 use Rattle.pfr_flash.specs.Judging.{◌>>◌, require, told_as}
 use Rattle.pfr_flash.specs.declared.names.Bank.{Bank}

@@ -35,7 +35,7 @@ use Rattle.pfr_capsule.specs.Good.{IsGood}
 use Rattle.pfr_fuses.specs.RootSlot.{layout_of}
 use Rattle.pfr_fuses.specs.declared.root_slot.RootSlot.{RootSlot}
 use Rattle.pfr_recoverable.specs.Recoverable.{HasGoodRecovery}
-use Rattle.pfr_auth.proofs.LastingLaw.{fuses_one}
+use Rattle.pfr_recoverable.proofs.StaysLaw.{fuses_one}
 use Rattle.pfr_capsule.proofs.ServesLaw.{StillServes, good_serves}
 
 -- ---- a chain's key isn't cancelled

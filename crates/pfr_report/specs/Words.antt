@@ -1,5 +1,5 @@
 -- The words of causes.
-use Rattle.std.specs.Prelude.{◌≡◌, ℕ, List, [], ◌++◌, codes, decimal, Option, Some, None}
+use Rattle.std.specs.Prelude.{ℕ, List, [], ◌++◌, codes, decimal, Option, Some, None}
 use Rattle.pfr_flash.specs.Answer.{IsFound}
 use Rattle.pfr_flash.specs.declared.layout.LayoutRule.{LayoutRule}
 use Rattle.pfr_flash.specs.declared.layout.LayoutRule.TheVariants as rule

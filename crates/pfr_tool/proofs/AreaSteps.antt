@@ -1,6 +1,5 @@
 -- What stands in an area of an image.
 use Rattle.std.proofs.Common.{◌≡◌, ℕ, zero, suc, ◌+◌, ◌-◌, ◌≤◌, List, [], ◌∷◌, ◌++◌, length, drop, replicate, refl, ◌∙◌, ap, arith}
-use Rattle.std.proofs.lemmas.List.{length-replicate}
 use Rattle.pfr_flash.specs.Bytes.{written}
 use Rattle.pfr_flash.proofs.BytesLemmas.{put_mid_is, length-written}
 use borrow.Rule.Slice.PartMut.{put_mid}

@@ -1,5 +1,5 @@
 -- Regions that are judged, or made blank, one after the other.
-use Rattle.std.proofs.Common.{◌≡◌, ℕ, ◌+◌, ◌-◌, ◌<◌, ◌≤◌, Bool, true, false, List, length, drop, get_or, replicate, Ok, Err, refl, sym, ap, arith, if◌then◌else◌}
+use Rattle.std.proofs.Common.{◌≡◌, ℕ, ◌+◌, ◌-◌, ◌<◌, ◌≤◌, true, false, List, length, drop, get_or, replicate, Ok, Err, refl, sym, ap, arith}
 use Rattle.std.proofs.lemmas.Bool.{cond-true, cond-false}
 use Rattle.std.proofs.lemmas.List.{drop_more, drop_all, length-replicate}
 use Rattle.pfr_flash.specs.declared.layout.Layout.{Layout}
