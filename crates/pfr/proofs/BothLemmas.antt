@@ -1,12 +1,12 @@
 -- Both banks of a description: the rows of `make`, and what is stored.
 use Rattle.std.proofs.Common.{◌≡◌, ◌∙◌, ap, refl, ℕ, List, [], ◌∷◌, ◌++◌, Bool, Option, Some, Result, Ok, Err}
+use Rattle.pfr_flash.specs.Judging.{◌>>◌}
 use Rattle.pfr_flash.specs.declared.names.Bank.TheVariants.{Bmc, Pch}
 use Rattle.pfr_shelf.specs.Failures.{Failure}
 use Rattle.pfr_shelf.specs.Files.{Files}
 use Rattle.pfr_description.specs.Banks.{bank_of}
 use Rattle.pfr_description.specs.Described.{Description}
 use Rattle.pfr_description.specs.declared.fail.DescWhy.{DescWhy}
-use Rattle.pfr_made.specs.Judge.{before}
 use Rattle.pfr_made.specs.Made.{judge_bank}
 use Rattle.pfr.specs.Judging.{FileRow, Loads, told_by, verdict}
 use Rattle.pfr.specs.MakesInside.{AreMade, AreSources, stored_of_made}
@@ -61,7 +61,7 @@ both_found tells files faults failed old new name desc sources result a b = load
 
 -- both banks of the files, judged by what was loaded
 abbrev pub judged_both : Description → BothSources → Result (Unit {0}) DescWhy
-judged_both desc both = before (judge_bank desc Bmc both.bmc.image.items both.bmc.staged.items) (judge_bank desc Pch both.pch.image.items both.pch.staged.items)
+judged_both desc both = judge_bank desc Bmc both.bmc.image.items both.bmc.staged.items >> judge_bank desc Pch both.pch.image.items both.pch.staged.items
 
 pub made_says : (files : Files) (name : List ℕ) (desc : Description) (both : BothSources) → AreSources files desc both
     → verdict (made_rows name desc files) ≡ told_by role.Description (description_fault_in (judged_both desc both))

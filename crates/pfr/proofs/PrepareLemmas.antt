@@ -7,7 +7,8 @@ use Rattle.pfr_description.specs.Whole.{judge_description}
 use Rattle.pfr_description.specs.declared.fail.DescFail.{DescFail}
 use Rattle.pfr_description.specs.declared.fail.DescFail.TheVariants as fails
 use Rattle.pfr_description.specs.declared.fail.DescWhy.{DescWhy}
-use Rattle.pfr_made.specs.Judge.{Judged, before}
+use Rattle.pfr_flash.specs.Judging.{◌>>◌}
+use Rattle.pfr_made.specs.Judge.{Judged}
 use Rattle.pfr.specs.Judging.{FileRow, Loads, RefusesFor, told_by, verdict}
 use Rattle.pfr.specs.Makes.{RefusesSome}
 use Rattle.pfr.specs.MakesInside.{IsReadFrom, Prepares, refusal_of}
@@ -105,6 +106,6 @@ pub one_judged : (name : List ℕ) (judged : Result (Unit {0}) DescWhy) → verd
 one_judged name (Ok x) = refl
 one_judged name (Err why) = refl
 
-pub both_judged : (name : List ℕ) (one other : Result (Unit {0}) DescWhy) → verdict (making_row name one ∷ making_row name other ∷ []) ≡ told_by role.Description (description_fault_in (before one other))
+pub both_judged : (name : List ℕ) (one other : Result (Unit {0}) DescWhy) → verdict (making_row name one ∷ making_row name other ∷ []) ≡ told_by role.Description (description_fault_in (one >> other))
 both_judged name (Ok x) other = one_judged name other
 both_judged name (Err why) other = refl

@@ -1,7 +1,8 @@
 // The commands `make`, `provision` and `cert`.
 ghost use Rattle.std.specs.Prelude.{◌≡◌, ◌≤◌, ◌∷◌, [], true, IfOk, IfErr, OnOk};
 ghost use Rattle.pfr_flash.specs.declared.names.Bank.TheVariants as bank;
-ghost use Rattle.pfr_made.specs.Judge.{Judged, before};
+ghost use Rattle.pfr_flash.specs.Judging.{◌>>◌};
+ghost use Rattle.pfr_made.specs.Judge.{Judged};
 ghost use Rattle.pfr_made.specs.Made.{judge_bank};
 ghost use Rattle.pfr.specs.Faults.{GoesFaultless, IsFaultless};
 ghost use Rattle.pfr.specs.Makes.{MakesFor, shelf_alone};
@@ -33,8 +34,8 @@ fn make_both(
     sources: &BothSources,
 ) -> Result<MadeFiles, DescFail>
     ensures made { IfOk result (AreMade desc.now sources.now) }
-    ensures judged { Judged result (before (judge_bank desc.now bank.Bmc sources.now.bmc.image.items sources.now.bmc.staged.items)
-        (judge_bank desc.now bank.Pch sources.now.pch.image.items sources.now.pch.staged.items)) }
+    ensures judged { Judged result (judge_bank desc.now bank.Bmc sources.now.bmc.image.items sources.now.bmc.staged.items
+        >> judge_bank desc.now bank.Pch sources.now.pch.image.items sources.now.pch.staged.items) }
 {
     let bmc = make_bank(
         alloc,

@@ -22,7 +22,7 @@ use Rattle.pfr_fuses.specs.declared.profile.Profile.{Profile}
 use Rattle.pfr_fuses.specs.declared.root_slot.RootSlot.{RootSlot}
 use Rattle.pfr_fuses.proofs.GrowthLemmas.{profile_of-gate, IsProvisionedBy-same}
 use Rattle.pfr_fuses.proofs.StandsLemmas.{fuses_of-found, fuses_of-ok}
-use Rattle.pfr_manifest.specs.Hashes.{bytes_of}
+use Rattle.pfr_manifest.specs.Hashes.{bytes_between}
 use Rattle.pfr_manifest.specs.Manifest.{IsManifestOf}
 use Rattle.pfr_manifest.specs.declared.manifest.Manifest.{Manifest}
 use Rattle.pfr_manifest.specs.declared.region.Region.{Region}
@@ -82,7 +82,7 @@ store_lasts bank old new fuses h was =
 -- ---- the bank
 region_lasts : (region : Region) (old new : List ℕ) → length new ≡ length old → (is_static region ≡ true → SameAt region.start (region.end - region.start) old new) → IsHashed old region → IsHashed new region
 region_lasts region old new size same h =
-    same_hash (bytes_of old region) (bytes_of new region) region.hash
+    same_hash (bytes_between old region.start region.end) (bytes_between new region.start region.end) region.hash
     (λ static. part_same region.start (region.end - region.start) old new region.start (region.end - region.start) size (same static) (omega arith) (omega arith)) h
 
 still_there : (at : ℕ) (chain : Chain) → at ≤ chain.content_at → moved at at chain ≡ chain

@@ -11,7 +11,7 @@ use Rattle.pfr_chain.proofs.MovedLaw.{IsChain-moved, moved}
 use Rattle.pfr_flash.proofs.PartsLemmas.{same_part}
 use Rattle.pfr_fuses.specs.FusesState.{FusesState, row_of}
 use Rattle.pfr_fuses.specs.RootSlot.{layout_of}
-use Rattle.pfr_manifest.specs.Hashes.{bytes_of}
+use Rattle.pfr_manifest.specs.Hashes.{bytes_between}
 use Rattle.pfr_manifest.specs.Manifest.{IsManifestOf}
 use Rattle.pfr_manifest.specs.Regions.{is_static}
 use Rattle.pfr_manifest.specs.declared.manifest.Manifest.{Manifest}
@@ -28,7 +28,7 @@ use Rattle.pfr_auth.proofs.RegionLemmas.{same_hash}
 -- hold what the capsule's pages give for them.
 module _ (image new nv : List ℕ) (place len : ℕ) (bank : Bank) (accepts : Acceptance) (g : IsGood image place len nv bank accepts) (sized : length image ≡ length new)
     (copied : bytes_at image g.capsule.signed_manifest.at g.capsule.signed_manifest.len ≡ bytes_at new (layout_of g.fuses.provision bank).manifest_at g.capsule.signed_manifest.len)
-    (restored : All (λ (region : Region). is_static region ≡ true → bytes_of new region ≡ region_bytes image g.capsule.pages region) g.capsule.manifest.regions) where
+    (restored : All (λ (region : Region). is_static region ≡ true → bytes_between new region.start region.end ≡ region_bytes image g.capsule.pages region) g.capsule.manifest.regions) where
   pub rebuilt_trusted : (t : IsTrusted new nv bank accepts) × (t.manifest ≡ g.capsule.manifest)
   rebuilt_trusted =
       let layout : Layout = layout_of g.fuses.provision bank in
@@ -44,7 +44,7 @@ module _ (image new nv : List ℕ) (place len : ℕ) (bank : Bank) (accepts : Ac
       rw e at (same_part image new c.content_at layout.manifest_at (end_of i - c.content_at) (i.content_at - c.content_at) i.length there (omega arith))) in
       let M : List ℕ → Type 0 = λ bytes. IsManifestOf bytes g.parts.manifest layout (length image) in
       let same : g.capsule.manifest ≡ g.parts.manifest = ap (λ (s : CapsuleState). s.manifest) g.found in
-      let R : Manifest → Type 0 = λ m. All (λ (region : Region). is_static region ≡ true → bytes_of new region ≡ region_bytes image g.capsule.pages region) m.regions in
+      let R : Manifest → Type 0 = λ m. All (λ (region : Region). is_static region ≡ true → bytes_between new region.start region.end ≡ region_bytes image g.capsule.pages region) m.regions in
       let held : R g.parts.manifest = subst R same restored in
       let t : IsTrusted new nv bank accepts = record {
         fuses = fuses;
@@ -56,6 +56,6 @@ module _ (image new nv : List ℕ) (place len : ℕ) (bank : Bank) (accepts : Ac
             (omega arith) (omega arith) g.signed.inner;
         spelled = rw sized at (subst M content g.signed.spelled);
         svn = g.signed.svn;
-        hashed = λ k d h. same_hash (region_bytes image g.capsule.pages (get_or g.parts.manifest.regions k d)) (bytes_of new (get_or g.parts.manifest.regions k d)) (get_or g.parts.manifest.regions k d).hash (held k d h) (g.paged.coherent k d h);
+        hashed = λ k d h. same_hash (region_bytes image g.capsule.pages (get_or g.parts.manifest.regions k d)) (bytes_between new (get_or g.parts.manifest.regions k d).start (get_or g.parts.manifest.regions k d).end) (get_or g.parts.manifest.regions k d).hash (held k d h) (g.paged.coherent k d h);
       } in
       (t, sym same)

@@ -4,21 +4,21 @@ use Rattle.std.specs.Bool.{Decides}
 use Rattle.std.proofs.lemmas.List.{drop_more, drop_all}
 use Rattle.std.proofs.lemmas.List.Elements.{All-nil, All-cons, All-head, All-tail, All-weaker}
 use Rattle.pfr_flash.specs.declared.layout.Layout.{Layout}
-use Rattle.pfr_manifest.specs.Hashes.{HasHash, bytes_of}
-use Rattle.pfr_manifest.specs.Regions.{IsRegion, has_hash}
+use Rattle.pfr_manifest.specs.Hashes.{HasHash, bytes_between}
+use Rattle.pfr_manifest.specs.Regions.{IsRegion, LiesInside, has_hash}
 use Rattle.pfr_manifest.specs.declared.region.Region.{Region}
 use Rattle.pfr_manifest.specs.declared.region.RegionHash.{RegionHash}
 use Rattle.pfr_manifest.specs.declared.region.RegionHash.TheVariants as hashes
 use Rattle.pfr_flash.specs.Judging.{◌>>◌, require}
 use Rattle.pfr_manifest.proofs.HashLemmas.{Decides-hash}
 use Rattle.pfr_auth.specs.Judge.{is_hashed, judge_regions}
-use Rattle.pfr_auth.specs.Regions.{IsHashed, IsInside}
+use Rattle.pfr_auth.specs.Regions.{IsHashed}
 use Rattle.pfr_auth.specs.declared.fail.ActiveFail.TheVariants as causes
 use Rattle.pfr_flash.proofs.JudgingLemmas.{passed_test}
 
 Decides-hashed : (image : List ℕ) (region : Region) → Decides (is_hashed image region) (IsHashed image region)
 unfolding is_hashed
-Decides-hashed image region = Decides-hash (bytes_of image region) region.hash
+Decides-hashed image region = Decides-hash (bytes_between image region.start region.end) region.hash
 
 -- ---- the judgement of the regions ends well exactly where each has its hash
 pub regions_hold : (image : List ℕ) (k : ℕ) (regions : List Region) → judge_regions image k regions ≡ Ok tt → All (IsHashed image) regions
@@ -63,11 +63,11 @@ unfolding judge_regions
 regions_done image regions k h = rw (drop_all k regions h) refl
 
 -- ---- the regions of a manifest lie in the bank
-inside : (layout : Layout) (size : ℕ) (region : Region) → IsRegion layout size region → IsInside size region
+inside : (layout : Layout) (size : ℕ) (region : Region) → IsRegion layout size region → LiesInside size region.start region.end
 inside layout size region h = record { begins = omega (arith, h.some); ends = h.inside }
 
-pub regions_inside : (layout : Layout) (size : ℕ) (regions : List Region) → All (IsRegion layout size) regions → All (IsInside size) regions
-regions_inside layout size regions h = All-weaker (IsRegion layout size) (IsInside size) (inside layout size) regions h
+pub regions_inside : (layout : Layout) (size : ℕ) (regions : List Region) → All (IsRegion layout size) regions → All (λ region. LiesInside size region.start region.end) regions
+regions_inside layout size regions h = All-weaker (IsRegion layout size) (λ region. LiesInside size region.start region.end) (inside layout size) regions h
 
 -- ---- hashes
 -- where there is a hash, these bytes are those that have it

@@ -8,7 +8,7 @@ use Rattle.pfr_engine.specs.Acceptance.{Acceptance}
 use Rattle.pfr_chain.specs.Judge.{judge}
 use Rattle.pfr_fuses.specs.FusesState.{FusesState, floor_of, row_of}
 use Rattle.pfr_fuses.specs.RootSlot.{layout_of}
-use Rattle.pfr_manifest.specs.Hashes.{bytes_of, have_hash}
+use Rattle.pfr_manifest.specs.Hashes.{bytes_between, have_hash}
 use Rattle.pfr_manifest.specs.Judge.{judge_manifest}
 use Rattle.pfr_manifest.specs.declared.manifest.Manifest.{Manifest}
 use Rattle.pfr_manifest.specs.declared.region.Region.{Region}
@@ -25,7 +25,7 @@ judge_signed image bank fuses accepts = do
 
 -- whether a region of an image has its hash
 unfoldable pub is_hashed : List ℕ → Region → Bool
-is_hashed image region = have_hash (bytes_of image region) region.hash
+is_hashed image region = have_hash (bytes_between image region.start region.end) region.hash
 
 -- the hashes of the regions, the first of which has number k
 unfoldable pub judge_regions : List ℕ → ℕ → List Region → Result (Unit {0}) ActiveFail

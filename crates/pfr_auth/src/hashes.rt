@@ -5,7 +5,7 @@ ghost use Rattle.pfr_flash.specs.Reading.{EndsAt, failed_by};
 ghost use Rattle.pfr_flash.specs.Answer.{Answers};
 ghost use Rattle.pfr_auth.specs.Answer.{active_failure};
 ghost use Rattle.pfr_auth.specs.Judge.{is_hashed, judge_regions};
-ghost use Rattle.pfr_auth.specs.Regions.{IsInside};
+ghost use Rattle.pfr_manifest.specs.Regions.{LiesInside};
 
 use crate::fail::ActiveFail;
 use pfr_chain::{digest256_at, digest384_at};
@@ -15,7 +15,7 @@ use pfr_manifest::{Region, RegionHash, Regions};
 /// Whether the region's bytes have its hash. Without a hash any bytes will do.
 #[tactic(auto, unfolding(crate::specs::Judge::is_hashed))]
 fn is_hashed<F: Flash>(flash: &mut F, region: &Region) -> Result<bool, FlashFail>
-    requires { IsInside (size_of (F.device flash.old)) region.now }
+    requires { LiesInside (size_of (F.device flash.old)) region.now.start region.now.end }
     ensures exact { IfOk result (λ matches. matches ≡ is_hashed (now (F.device flash.old)) region.now) }
     ensures ends { EndsAt (failed_by (λ fail. Some fail) result) (F.device flash.old) (F.device flash.new) }
 {
@@ -30,7 +30,7 @@ fn is_hashed<F: Flash>(flash: &mut F, region: &Region) -> Result<bool, FlashFail
 /// Compares the hashes of the regions, in order.
 #[tactic(auto, using(pfr_flash::proofs::EndsLemmas::then_ends))]
 pub fn check_regions<F: Flash>(flash: &mut F, regions: &Regions) -> Result<(), ActiveFail>
-    requires { All (IsInside (size_of (F.device flash.old))) regions.now }
+    requires { All (λ region. LiesInside (size_of (F.device flash.old)) region.start region.end) regions.now }
     ensures exact { Answers active_failure result (judge_regions (now (F.device flash.old)) 0 regions.now) }
     ensures ends { EndsAt (failed_by active_failure result) (F.device flash.old) (F.device flash.new) }
 {

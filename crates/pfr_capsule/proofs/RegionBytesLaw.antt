@@ -2,7 +2,7 @@
 use Rattle.std.proofs.Common.{◌≡◌, ◌∙◌, ap, sym, refl, ℕ, zero, suc, ◌+◌, ◌-◌, ◌*◌, ◌/◌, ◌%◌, ◌<◌, List, ◌++◌, arith}
 use Rattle.pfr_flash.proofs.PartsLemmas.{bytes_at-append}
 use Rattle.pfr_flash.specs.Bytes.{bytes_at}
-use Rattle.pfr_manifest.specs.Hashes.{bytes_of}
+use Rattle.pfr_manifest.specs.Hashes.{bytes_between}
 use Rattle.pfr_manifest.specs.declared.region.Region.{Region}
 use Rattle.pfr_capsule.specs.Maps.{IsPageOf}
 use Rattle.pfr_capsule.specs.PageBytes.{page_bytes, bytes_of_pages, region_bytes}
@@ -21,7 +21,7 @@ pages_hold new image pages first (suc count) each =
     rw long (sym (bytes_at-append new (4096 * first) (4096 * count) 4096) ∙ ap (λ (bytes : List ℕ). bytes ++ bytes_at new (4096 * first + 4096 * count) 4096) before ∙ ap (λ (bytes : List ℕ). bytes_of_pages image pages first count ++ bytes) last)
 
 pub region_holds : (new image : List ℕ) (pages : Pages) (region : Region) → region.start % 4096 ≡ 0 → region.end % 4096 ≡ 0 →
-    ((n : ℕ) → IsPageOf region n → bytes_at new (4096 * n) 4096 ≡ page_bytes image (page_of image pages n)) → bytes_of new region ≡ region_bytes image pages region
+    ((n : ℕ) → IsPageOf region n → bytes_at new (4096 * n) 4096 ≡ page_bytes image (page_of image pages n)) → bytes_between new region.start region.end ≡ region_bytes image pages region
 region_holds new image pages region start end each =
     let place : 4096 * (region.start / 4096) ≡ region.start = omega arith in
     let long : 4096 * (region.end / 4096 - region.start / 4096) ≡ region.end - region.start = omega arith in

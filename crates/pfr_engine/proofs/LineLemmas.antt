@@ -22,7 +22,7 @@ pushed : (front : List Row) (row : Row) (read : Result (List Row) EngineFail) �
 pushed front row (Ok rows) = ap Ok (sym (append_assoc front (row ∷ []) rows))
 pushed front row (Err e) = refl
 
-some_lines : (text : List ℕ) → 0 < length (lines_in text)
+pub some_lines : (text : List ℕ) → 0 < length (lines_in text)
 some_lines text = rw (length-slice_split (λ byte. byte == 10) text) (omega arith)
 
 pub advance : (line : ℕ) (text first others : List ℕ) (front front' : List Row) (row : Row) (all : Result (List Row) EngineFail) →

@@ -1,5 +1,7 @@
 -- What a part of a step finds.
 use Rattle.std.specs.Prelude.{◌≡◌, ◌≢◌, ℕ, List, [], length, Option, Some, None, Result, Ok, Err, false}
+use Rattle.pfr_flash.specs.Answer.{IsFound}
+use Rattle.pfr_auth.specs.Answer.{active_failure}
 use Rattle.pfr_flash.specs.Layout.{IsValidLayout}
 use Rattle.pfr_flash.specs.declared.names.Bank.{Bank}
 use Rattle.pfr_flash.specs.declared.names.Bank.TheVariants.{Bmc, Pch}
@@ -9,12 +11,11 @@ use Rattle.pfr_calm.specs.declared.line.Line.{Line}
 use Rattle.pfr_calm.specs.declared.line.Line.TheVariants as line
 use Rattle.pfr_machine.specs.declared.lines.Lines.{Lines}
 use Rattle.pfr_flash.specs.declared.flash.FlashFail.TheVariants.{Fault}
-use Rattle.pfr_report.specs.Words.{IsFound, AreFound}
+use Rattle.pfr_report.specs.Words.{AreFound}
 use Rattle.pfr_report.specs.declared.note.LockWhy.{LockWhy}
 use Rattle.pfr_report.specs.declared.note.LockWhy.TheVariants.{NoGoodImage}
 use Rattle.pfr_calm.specs.declared.authentication.Authentication.{Authentication}
 use Rattle.pfr_calm.specs.declared.authentication.Authentication.TheVariants.{Unprovisioned, SlotsSpent as NoSlot, Untrusted, Trusted}
-use Rattle.pfr_flash.specs.Answer as answers
 use Rattle.pfr_capsule.specs.Answer.{capsule_failure}
 use Rattle.pfr_capsule.specs.declared.fail.CapsuleFail.{CapsuleFail}
 use Rattle.pfr_fuses.specs.FusesState.{FusesState}
@@ -34,7 +35,7 @@ use Rattle.pfr_report.specs.declared.note.What.TheVariants.{Provisioned, Provisi
 
 -- the cause of what was found is no failed device
 abbrev pub HasCause : Authentication → Type 0
-HasCause (Untrusted why) = IsFound why
+HasCause (Untrusted why) = IsFound active_failure why
 HasCause authentication = Unit {0}
 
 -- the store provisions the bank with a valid layout
@@ -50,7 +51,7 @@ IsPlaced authentication bank image found = Unit {0}
 -- what is against a recovery image is no failed device
 abbrev pub IsNoFailure : Option CapsuleFail → Type 0
 IsNoFailure None = Unit {0}
-IsNoFailure (Some cause) = answers.IsFound capsule_failure cause
+IsNoFailure (Some cause) = IsFound capsule_failure cause
 
 -- a lock's causes are no failed devices
 abbrev pub IsText : LockWhy → Type 0

@@ -1,16 +1,16 @@
 // What is found of a bank and its images, without a change of any of them.
 ghost use Rattle.std.specs.Prelude.{◌≡◌, ◌↔◌, ℕ, List, IsTrue, Some, Ok, IfOk, IfErr};
+ghost use Rattle.pfr_flash.specs.Answer.{IsFound};
+ghost use Rattle.pfr_auth.specs.Answer.{active_failure};
 ghost use Rattle.pfr_flash.specs.FlashState.{now, size_of};
 ghost use Rattle.pfr_flash.specs.Layout.{IsBankSize, IsValidLayout};
 ghost use Rattle.pfr_flash.specs.Reading.{EndsAt, failed_by};
 ghost use Rattle.pfr_fuses.specs.FuseMap.{IsFloor};
 ghost use Rattle.pfr_fuses.specs.FusesOf.{fuses_of};
 ghost use Rattle.pfr_fuses.specs.RootSlot.{layout_of};
-ghost use Rattle.pfr_flash.specs.Answer as answers;
 ghost use Rattle.pfr_capsule.specs.Answer.{capsule_failure};
 ghost use Rattle.pfr_auth.specs.Areas.{judge_area};
 ghost use Rattle.pfr_auth.specs.Judge.{judge_active};
-ghost use Rattle.pfr_report.specs.Words.{IsFound};
 ghost use Rattle.pfr_report.specs.Verdicts.{HasCauses};
 ghost use Rattle.pfr_report.specs.declared.verdict.Standing.TheVariants.{Ready};
 ghost use Rattle.pfr_machine.specs.Verdicts.{EndsEither, IsVerdict, ready, svn_of_capsule, svn_of_image, untold, verdict_of, verdict_with};
@@ -103,9 +103,9 @@ fn told(
     recovery: &Result<Capsule, CapsuleFail>,
     staging: &Result<Capsule, CapsuleFail>,
 ) -> BankVerdict
-    requires image { IfErr image.now IsFound }
-    requires recovery { IfErr recovery.now (answers.IsFound capsule_failure) }
-    requires staging { IfErr staging.now (answers.IsFound capsule_failure) }
+    requires image { IfErr image.now (IsFound active_failure) }
+    requires recovery { IfErr recovery.now (IsFound capsule_failure) }
+    requires staging { IfErr staging.now (IsFound capsule_failure) }
     ensures tells { result ≡ tells floor image.now recovery.now staging.now result.same_manifest }
     ensures same { IsTrue result.same_manifest ↔ AreOne image.now staging.now }
     ensures causes { HasCauses result }
@@ -133,7 +133,7 @@ fn judge_image<F: Flash, E: Engine>(
     requires layout { layout.now ≡ layout_of fuses.now.provision bank }
     requires valid { IsValidLayout layout.now (size_of (F.device flash.old)) }
     ensures found { IfOk result (λ image. image ≡ judge_active (now (F.device flash.old)) bank fuses.now (E.accepts engine.now)) }
-    ensures cause { IfOk result (λ image. IfErr image IsFound) }
+    ensures cause { IfOk result (λ image. IfErr image (IsFound active_failure)) }
     ensures trusted { IfOk result (λ image. IfOk image (IsBorneOut bank (now (F.device flash.old)) fuses.now (E.accepts engine.now))) }
     ensures ends { EndsAt (failed_by (λ fail. Some fail) result) (F.device flash.old) (F.device flash.new) }
 {
@@ -159,7 +159,7 @@ fn judge_area<F: Flash, E: Engine>(
     requires layout { layout.now ≡ layout_of fuses.now.provision bank }
     requires valid { IsValidLayout layout.now (size_of (F.device flash.old)) }
     ensures found { IfOk result (λ found. found ≡ judge_area area bank (now (F.device flash.old)) fuses.now (E.accepts engine.now)) }
-    ensures cause { IfOk result (λ found. IfErr found (answers.IsFound capsule_failure)) }
+    ensures cause { IfOk result (λ found. IfErr found (IsFound capsule_failure)) }
     ensures good { IfOk result (λ found. IfOk found (IsGoodIn area bank (now (F.device flash.old)) fuses.now (E.accepts engine.now))) }
     ensures ends { EndsAt (failed_by (λ fail. Some fail) result) (F.device flash.old) (F.device flash.new) }
 {

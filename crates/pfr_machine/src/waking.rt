@@ -1,5 +1,7 @@
 // How banks are brought up.
 ghost use Rattle.std.specs.Prelude.{◌≡◌, ◌≢◌, ◌+◌, ◌≤◌, [], ◌∷◌, false, OnOk, IfOk, IfErr, if◌then◌else◌};
+ghost use Rattle.pfr_flash.specs.Answer.{IsFound};
+ghost use Rattle.pfr_auth.specs.Answer.{active_failure};
 ghost use Rattle.pfr_flash.specs.declared.names.Bank.{Bank};
 ghost use Rattle.pfr_calm.specs.Standing as standing;
 ghost use Rattle.pfr_calm.specs.Standing.{standing_of, same_bank};
@@ -7,7 +9,6 @@ ghost use Rattle.pfr_flash.specs.FlashState.{now};
 ghost use Rattle.pfr_flash.specs.declared.names.Device.TheVariants.{Nv};
 ghost use Rattle.pfr_fuses.specs.FusesOf.{fuses_of};
 ghost use Rattle.pfr_report.specs.Texts.{AllText};
-ghost use Rattle.pfr_report.specs.Words.{IsFound};
 ghost use Rattle.pfr_report.specs.declared.note.What.TheVariants.{Released};
 ghost use Rattle.pfr_calm.specs.Story.{Says, after, device_of, image_at};
 ghost use Rattle.pfr_calm.specs.World.{story_of, IsOn, IsDark};
@@ -62,7 +63,7 @@ impl<F: Flash, E: Engine + Drop> Works<F, E> {
         requires on { IsOn self.old.world }
         requires found { found.now ≡ fuses_of (now self.old.world.nv) }
         requires placed { HasLayout bank (image_at (device_of bank) (story_of self.old.world)) found.now }
-        requires cause { IsFound why }
+        requires cause { IsFound active_failure why }
         ensures goes { Goes (λ story. concluded bank (recovery_at (E.accepts self.old.engine) bank story) (Untrusted why)) self.old.world self.new.world result }
         ensures early { IfErr result (λ stop. story_of self.new.world ≡ after (distrusted bank (Untrusted why)) (story_of self.old.world)) }
         ensures line { IfOk result (λ line. line ≡ Line.Locked) }

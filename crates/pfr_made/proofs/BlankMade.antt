@@ -9,7 +9,7 @@ use Rattle.pfr_description.specs.declared.region.RegionDescription.{RegionDescri
 use Rattle.pfr_made.specs.Fields.{blanks}
 use Rattle.pfr_made.specs.Images.{active_of, blanked, is_blank}
 use Rattle.pfr_made.specs.Entries.{judge_entries}
-use Rattle.pfr_made.specs.Regions.{bytes_of}
+use Rattle.pfr_manifest.specs.Hashes.{bytes_between}
 use Rattle.pfr_made.proofs.AreasMade.{bytes_at-apart}
 use Rattle.pfr_made.proofs.PagesUse.{AreOrdered, entries_ordered}
 use Rattle.pfr_made.proofs.ServesMade.{IsBlanked}
@@ -61,7 +61,7 @@ blank_from from size [] image h long = All-nil (IsBlanked image)
 blank_from from size (region ∷ others) image h long =
     let next : List ℕ = step region image in
     let size_next : length next ≡ size = length-step region image ∙ long in
-    let later : bytes_of (active_of others next) region ≡ bytes_of next region =
+    let later : bytes_between (active_of others next) region.start region.end ≡ bytes_between next region.start region.end =
     active-below region.end size others next region.start (region.end - region.start) h.2 size_next (omega (arith, h.0.some)) in
     All-cons (IsBlanked (active_of others next)) region others
     (λ blank. later ∙ step-blank region image h.0.some (omega (arith, long, h.0.inside)) blank)

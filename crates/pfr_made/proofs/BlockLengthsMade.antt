@@ -1,9 +1,10 @@
 -- How long the parts of a made block are.
-use Rattle.std.proofs.Common.{◌≡◌, ℕ, List, ◌++◌, length, arith, length-append}
+use Rattle.std.proofs.Common.{◌≡◌, ℕ, ◌<◌, ◌^◌, List, ◌++◌, length, arith, length-append}
 use Rattle.sha2.proofs.Facts512.{length-sha384}
 use Rattle.pfr_engine.specs.Curves.{signature_magic}
 use Rattle.pfr_engine.specs.declared.engine.Ask.{Ask}
 use Rattle.pfr_engine.specs.declared.engine.Curve.{Curve}
+use Rattle.pfr_engine.specs.declared.engine.Curve.TheVariants.{C256, C384}
 use Rattle.pfr_engine.specs.declared.engine.Digest.{Digest}
 use Rattle.pfr_chain.specs.Keys.{any, digest_on}
 use Rattle.pfr_made.specs.Fields.{number_bytes}
@@ -15,6 +16,10 @@ use Rattle.pfr_made.proofs.BlockPartsMade.{length-number, length-zeros, length-p
 use Rattle.pfr_description.specs.Described.{Description}
 use Rattle.pfr_description.specs.declared.keys.KeyDescription.{KeyDescription}
 use Rattle.pfr_description.specs.declared.keys.PublicKey.{PublicKey}
+
+pub fits-curve : (curve : Curve) → number_of_curve curve < 2 ^ 32
+fits-curve C256 = omega arith
+fits-curve C384 = omega arith
 
 pub length-mark : (letter : ℕ) (key : PublicKey) (digest : Digest) → length (mark_of letter key digest) ≡ 48
 unfolding mark_of

@@ -7,20 +7,12 @@ use Rattle.pfr_flash.specs.Bytes.{bytes_at}
 use Rattle.pfr_flash.specs.declared.names.ContentType.{ContentType}
 use Rattle.pfr_flash.specs.Numbers.{number_at}
 use Rattle.pfr_chain.specs.Types.{is_certificate}
-use Rattle.pfr_chain.specs.Block.{magic_of_block1, block_length, head_at, content_length, BlockAt}
-use Rattle.pfr_chain.specs.Block as chain
-use Rattle.pfr_chain.specs.declared.form.Form as chain_forms
-use Rattle.pfr_chain.specs.declared.form.Form.TheVariants as of_chain
-use Rattle.pfr_made.specs.Blocks.{magic_of_block0, stated_length, block0_bytes}
+use Rattle.pfr_chain.specs.Block.{magic_of_block0, magic_of_block1, block_length, head_at, content_length, BlockAt}
+use Rattle.pfr_made.specs.Blocks.{chain_form, stated_length, block0_bytes}
 use Rattle.pfr_made.proofs.BlockPartsMade.{last_part, first_part, inside}
 use Rattle.pfr_made.proofs.BlockHeadMade.{IsMadeBlock0, block0_made}
 use Rattle.pfr_description.specs.declared.form.Form.{Form}
 use Rattle.pfr_description.specs.declared.form.Form.TheVariants.{One, Two}
-
--- a description's form as chains name it
-abbrev pub chain_form : Form → chain_forms.Form
-chain_form One = of_chain.One
-chain_form Two = of_chain.Two
 
 -- a block of 1,024 bytes that begins with the made Block 0 of a content
 pub record IsMadeBlock (form : Form) (type : ContentType) (content block : List ℕ) : Type 0 where
@@ -42,10 +34,6 @@ pub record StandsAt (form : Form) (type : ContentType) (content block image : Li
   pub is_head : head_at image place ≡ block0_bytes form type content
   pub long : length content ≡ content_length (head_at image place)
 
-same_magic : (form : Form) → magic_of_block0 form ≡ chain.magic_of_block0 (chain_form form)
-same_magic One = refl
-same_magic Two = refl
-
 says_length : (form : Form) (head : List ℕ) → number_at head 12 ≡ stated_length form → 1024 ≡ block_length (chain_form form) head
 says_length One head h = refl
 says_length Two head h = sym h
@@ -65,7 +53,7 @@ stands_at form type content block image place len made given is fits =
     record {
       at = record {
         form = chain_form form;
-        block0_magic = number 0 (magic_of_block0 form) said.magic ∙ same_magic form;
+        block0_magic = number 0 (magic_of_block0 (chain_form form)) said.magic;
         block1_magic = ap (λ (bytes : List ℕ). number_at bytes 128) b ∙ made.block1_magic;
         type_number = number 8 _ said.type_number;
         block_length = says_length form (head_at image place) (number 12 (stated_length form) said.stated);

@@ -1,6 +1,6 @@
 -- Parts of lists of bytes that are put together, and the numbers in them.
-use Rattle.std.proofs.Common.{◌≡◌, ℕ, ◌+◌, ◌-◌, ◌^◌, ◌<◌, ◌≤◌, List, [], ◌++◌, length, drop, sym, ap, ◌∙◌, arith, length-append, length-drop}
-use Rattle.std.proofs.lemmas.List.{length-replicate, drop_at, take_at, take_all, drop-append-le, take-append-le, append-nil}
+use Rattle.std.proofs.Common.{◌≡◌, ℕ, ◌+◌, ◌-◌, ◌^◌, ◌<◌, ◌≤◌, List, [], ◌++◌, length, take, drop, refl, sym, ap, ◌∙◌, arith, length-append, length-drop}
+use Rattle.std.proofs.lemmas.List.{length-replicate, drop_at, drop-drop, drop-take, take_at, take-take, take_all, drop-append-le, take-append-le, append-nil}
 use Rattle.byteorder.specs.Endian.{little_number}
 use Rattle.byteorder.specs.Numbers.{little_number-reads_back, length-bytes_low_first}
 use Rattle.pfr_flash.specs.Bytes.{bytes_at}
@@ -34,10 +34,17 @@ last_part a b at count front long = rw (drop_at a b at front) (take_all count b 
 pub first_part : (a b : List ℕ) (count : ℕ) → length a ≡ count → bytes_at (a ++ b) 0 count ≡ a
 first_part a b count long = take_at a b count long
 
--- of a list with zeros behind it
-pub in_padded : (whole : ℕ) (bytes : List ℕ) (at count : ℕ) → at + count ≤ length bytes → bytes_at (padded whole bytes) at count ≡ bytes_at bytes at count
-unfolding padded
-in_padded whole bytes at count h = in_front bytes (zeros (whole - length bytes)) at count h
+-- the front of what stands at a place, and the rest
+pub front_stands : (image : List ℕ) (at : ℕ) (xs ys : List ℕ) → bytes_at image at (length (xs ++ ys)) ≡ xs ++ ys → bytes_at image at (length xs) ≡ xs
+front_stands image at xs ys h =
+    let short : length xs ≤ length (xs ++ ys) = omega (arith, length-append xs ys) in
+    sym (take-take (length xs) (length (xs ++ ys)) (drop at image) short) ∙ ap (λ (bytes : List ℕ). take (length xs) bytes) h ∙ take_at xs ys (length xs) refl
+
+pub rest_stands : (image : List ℕ) (at : ℕ) (xs ys : List ℕ) → bytes_at image at (length (xs ++ ys)) ≡ xs ++ ys → bytes_at image (at + length xs) (length ys) ≡ ys
+rest_stands image at xs ys h =
+    let all : bytes_at image at (length xs + length ys) ≡ xs ++ ys = ap (λ (n : ℕ). bytes_at image at n) (sym (length-append xs ys)) ∙ h in
+    ap (λ (bytes : List ℕ). take (length ys) bytes) (sym (drop-drop (length xs) at image)) ∙ sym (drop-take (length xs) (length ys) (drop at image))
+    ∙ ap (λ (bytes : List ℕ). drop (length xs) bytes) all ∙ drop_at xs ys (length xs) refl
 
 -- a part of a part that is known
 pub inside : (all part : List ℕ) (at n off count : ℕ) → bytes_at all at n ≡ part → off + count ≤ n → bytes_at all (at + off) count ≡ bytes_at part off count

@@ -1,5 +1,5 @@
 -- The block that is made of a content which a key signs, in both forms.
-use Rattle.std.proofs.Common.{◌≡◌, ℕ, ◌+◌, ◌^◌, ◌<◌, ◌≤◌, false, List, ◌++◌, length, ◌∙◌, arith, length-append}
+use Rattle.std.proofs.Common.{◌≡◌, ℕ, ◌+◌, ◌^◌, ◌<◌, ◌≤◌, false, List, [], ◌∷◌, ◌++◌, length, ◌∙◌, arith, length-append}
 use Rattle.pfr_flash.specs.Bytes.{bytes_at}
 use Rattle.pfr_flash.specs.declared.names.ContentType.{ContentType}
 use Rattle.pfr_flash.specs.Numbers.{number_at}
@@ -11,7 +11,8 @@ use Rattle.pfr_made.specs.Form1 as form1
 use Rattle.pfr_made.specs.Form2 as form2
 use Rattle.pfr_made.specs.Marks.{marks_of}
 use Rattle.pfr_description.specs.Typed.{IsKeyValue, IsSignerValue}
-use Rattle.pfr_made.proofs.BlockPartsMade.{length-number, length-zeros, in_front, last_part, first_part, number_there, number_inside}
+use Rattle.pfr_made.proofs.BlockPartsMade.{length-number, length-zeros, number_inside}
+use Rattle.pfr_made.proofs.PiecesStand.{pieces_stand, read_at, read_number, read_number_at, whole_stands}
 use Rattle.pfr_made.proofs.BlockHeadMade.{length-block0}
 use Rattle.pfr_made.proofs.BlockMade.{IsMadeBlock, StandsAt, stands_at}
 use Rattle.pfr_made.proofs.BlockFourMade.{length-four, first_of_four, second_of_four, third_of_four, fourth_of_four}
@@ -20,23 +21,6 @@ use Rattle.pfr_description.specs.Described.{Description}
 use Rattle.pfr_description.specs.declared.form.Form.{Form}
 use Rattle.pfr_description.specs.declared.form.Form.TheVariants.{One, Two}
 use Rattle.pfr_description.specs.declared.keys.KeyDescription.{KeyDescription}
-
--- ---- what Block 1 begins with: a magic, zeros, the root entry's magic and its key
-module _ (a b c d : List ℕ) (count : ℕ) (long_a : length a ≡ 4) (long_b : length b ≡ 12) (long_c : length c ≡ 4) (long_d : length d ≡ count) where
-  front2 : length (a ++ b) ≡ 16
-  front2 = simp length-append (omega (arith, long_a, long_b))
-
-  front3 : length (a ++ b ++ c) ≡ 20
-  front3 = simp length-append (omega (arith, long_a, long_b, long_c))
-
-  pub head_magic : bytes_at (a ++ b ++ c ++ d) 0 4 ≡ a
-  head_magic = in_front (a ++ b ++ c) d 0 4 (omega (arith, front3)) ∙ in_front (a ++ b) c 0 4 (omega (arith, front2)) ∙ first_part a b 4 long_a
-
-  pub head_entry : bytes_at (a ++ b ++ c ++ d) 16 4 ≡ c
-  head_entry = in_front (a ++ b ++ c) d 16 4 (omega (arith, front3)) ∙ last_part (a ++ b) c 16 4 front2 long_c
-
-  pub head_key : bytes_at (a ++ b ++ c ++ d) 20 count ≡ d
-  head_key = last_part (a ++ b ++ c) d 20 count front3 long_d
 
 -- ---- form 1
 -- the parts of a block of form 1 over a Block 0
@@ -64,7 +48,7 @@ parts1 desc key block0 root signer long =
       last = fourth_of_four block0 b c d 148 232 104 long long_b long_c long_d (omega arith);
     }
 
--- the head's parts
+-- what Block 1 begins with: a magic, zeros, the root entry's magic and its key
 pub record HasHead (block1_magic entry_magic count : ℕ) (key head : List ℕ) : Type 0 where
   pub magic : number_at head 0 ≡ block1_magic
   pub entry : number_at head 16 ≡ entry_magic
@@ -72,13 +56,13 @@ pub record HasHead (block1_magic entry_magic count : ℕ) (key head : List ℕ) 
 
 head_read : (magic entry count : ℕ) (key : List ℕ) → magic < 2 ^ 32 → entry < 2 ^ 32 → length key ≡ count → HasHead magic entry count key (number_bytes magic ++ zeros 12 ++ number_bytes entry ++ key)
 head_read magic entry count key fits_magic fits_entry long =
-    let a : List ℕ = number_bytes magic in
-    let c : List ℕ = number_bytes entry in
-    let all : List ℕ = a ++ zeros 12 ++ c ++ key in
+    let all : List ℕ = number_bytes magic ++ zeros 12 ++ number_bytes entry ++ key in
+    let stand = pieces_stand all (number_bytes magic) (zeros 12 ∷ number_bytes entry ∷ key ∷ []) (whole_stands all) in
+    let front : length (number_bytes magic) + length (zeros 12) ≡ 16 = omega (arith, length-number magic, length-zeros 12) in
     record {
-      magic = number_there all 0 magic fits_magic (head_magic a (zeros 12) c key count (length-number magic) (length-zeros 12) (length-number entry) long);
-      entry = number_there all 16 entry fits_entry (head_entry a (zeros 12) c key count (length-number magic) (length-zeros 12) (length-number entry) long);
-      root = head_key a (zeros 12) c key count (length-number magic) (length-zeros 12) (length-number entry) long;
+      magic = read_number all 0 magic fits_magic stand.0;
+      entry = read_number_at all (length (number_bytes magic) + length (zeros 12)) 16 entry stand.1.1.0 front fits_entry;
+      root = read_at all (length (number_bytes magic) + length (zeros 12) + length (number_bytes entry)) 20 count key stand.1.1.1.0 (omega (arith, front, length-number entry)) long;
     }
 
 pub head1 : (desc : Description) → IsKeyValue desc.root → HasHead 0xF27F28D7 0xA757A046 128 (form1.key_bytes desc.curve any any desc.root) (form1.head_bytes desc)

@@ -27,7 +27,7 @@ use Rattle.pfr_description.specs.Typed.{IsKeyValue, IsSignerValue, IsValue}
 use Rattle.pfr_made.proofs.BlockSignedMade.{signed_len}
 use Rattle.pfr_made.proofs.Form1Made.{chain_made_1}
 use Rattle.pfr_made.proofs.Form2ChainMade.{chain_made_2}
-use Rattle.pfr_made.proofs.PagesHeader.{rest_stands}
+use Rattle.pfr_made.proofs.BlockPartsMade.{rest_stands}
 use Rattle.pfr_made.proofs.RowsMadeAccepted.{AcceptsBlock}
 use Rattle.pfr_made.proofs.StoreMade.{floor_zero, fuses_made, made_fuses, row_clear}
 

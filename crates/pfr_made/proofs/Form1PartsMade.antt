@@ -1,5 +1,5 @@
 -- What the keys and signatures of form 1 that are made say.
-use Rattle.std.proofs.Common.{◌≡◌, ℕ, ◌+◌, ◌^◌, ◌<◌, ◌≤◌, Some, List, ◌++◌, length, refl, ◌∙◌, arith, length-append}
+use Rattle.std.proofs.Common.{◌≡◌, ℕ, ◌+◌, ◌^◌, ◌<◌, Some, List, [], ◌∷◌, ◌++◌, length, refl, ◌∙◌, arith, length-append}
 use Rattle.pfr_flash.specs.Bytes.{bytes_at}
 use Rattle.pfr_engine.specs.Curves.{curve_of, signature_magic}
 use Rattle.pfr_engine.specs.declared.engine.Ask.{Ask}
@@ -13,15 +13,12 @@ use Rattle.pfr_made.specs.Fields.{number_bytes, padded}
 use Rattle.pfr_made.specs.Form1.{key_bytes, signature_bytes}
 use Rattle.pfr_made.specs.Marks.{number_of_curve}
 use Rattle.pfr_description.specs.Typed.{IsKeyValue}
-use Rattle.pfr_made.proofs.BlockPartsMade.{length-number, in_front, last_part, first_part, in_padded, number_there, inside_at, number_inside_at}
-use Rattle.pfr_made.proofs.BlockLengthsMade.{IsMark}
+use Rattle.pfr_made.proofs.BlockPartsMade.{length-number, in_front, last_part, first_part, number_there, inside_at, number_inside_at}
+use Rattle.pfr_made.proofs.PiecesStand.{padded_stands, pieces_stand, read_at, read_number, read_number_at}
+use Rattle.pfr_made.proofs.BlockLengthsMade.{IsMark, fits-curve}
 use Rattle.pfr_description.specs.declared.keys.PublicKey.{PublicKey}
 
 -- ---- curves
-pub fits-curve : (curve : Curve) → number_of_curve curve < 2 ^ 32
-fits-curve C256 = omega arith
-fits-curve C384 = omega arith
-
 pub fits-signature : (curve : Curve) → signature_magic curve < 2 ^ 32
 fits-signature C256 = omega arith
 fits-signature C384 = omega arith
@@ -29,44 +26,6 @@ fits-signature C384 = omega arith
 pub curve_of-number : (curve : Curve) → curve_of (number_of_curve curve) ≡ Some curve
 curve_of-number C256 = refl
 curve_of-number C384 = refl
-
--- ---- three numbers and two coordinates
-module _ (a b c x y : List ℕ) (long_a : length a ≡ 4) (long_b : length b ≡ 4) (long_c : length c ≡ 4) (long_x : length x ≡ 48) (long_y : length y ≡ 48) where
-  front2 : length (a ++ b) ≡ 8
-  front2 = simp length-append (omega (arith, long_a, long_b))
-
-  front3 : length (a ++ b ++ c) ≡ 12
-  front3 = simp length-append (omega (arith, long_a, long_b, long_c))
-
-  front4 : length (a ++ b ++ c ++ x) ≡ 60
-  front4 = simp length-append (omega (arith, long_a, long_b, long_c, long_x))
-
-  front5 : length (a ++ b ++ c ++ x ++ y) ≡ 108
-  front5 = simp length-append (omega (arith, long_a, long_b, long_c, long_x, long_y))
-
-  fifth : bytes_at (padded 128 (a ++ b ++ c ++ x ++ y)) 60 48 ≡ y
-  fifth = in_padded 128 (a ++ b ++ c ++ x ++ y) 60 48 (omega (arith, front5)) ∙ last_part (a ++ b ++ c ++ x) y 60 48 front4 long_y
-
-  upto4 : (at count : ℕ) → at + count ≤ 60 → bytes_at (padded 128 (a ++ b ++ c ++ x ++ y)) at count ≡ bytes_at (a ++ b ++ c ++ x) at count
-  upto4 at count h = in_padded 128 (a ++ b ++ c ++ x ++ y) at count (omega (arith, front5)) ∙ in_front (a ++ b ++ c ++ x) y at count (omega (arith, front4))
-
-  fourth : bytes_at (padded 128 (a ++ b ++ c ++ x ++ y)) 12 48 ≡ x
-  fourth = upto4 12 48 (omega arith) ∙ last_part (a ++ b ++ c) x 12 48 front3 long_x
-
-  upto3 : (at count : ℕ) → at + count ≤ 12 → bytes_at (padded 128 (a ++ b ++ c ++ x ++ y)) at count ≡ bytes_at (a ++ b ++ c) at count
-  upto3 at count h = upto4 at count (omega arith) ∙ in_front (a ++ b ++ c) x at count (omega (arith, front3))
-
-  third : bytes_at (padded 128 (a ++ b ++ c ++ x ++ y)) 8 4 ≡ c
-  third = upto3 8 4 (omega arith) ∙ last_part (a ++ b) c 8 4 front2 long_c
-
-  upto2 : (at count : ℕ) → at + count ≤ 8 → bytes_at (padded 128 (a ++ b ++ c ++ x ++ y)) at count ≡ bytes_at (a ++ b) at count
-  upto2 at count h = upto3 at count (omega arith) ∙ in_front (a ++ b) c at count (omega (arith, front2))
-
-  second : bytes_at (padded 128 (a ++ b ++ c ++ x ++ y)) 4 4 ≡ b
-  second = upto2 4 4 (omega arith) ∙ last_part a b 4 4 long_a long_b
-
-  first : bytes_at (padded 128 (a ++ b ++ c ++ x ++ y)) 0 4 ≡ a
-  first = upto2 0 4 (omega arith) ∙ first_part a b 4 long_a
 
 -- ---- keys
 -- what the bytes of a key say
@@ -84,15 +43,16 @@ key_spelled curve permissions id key fits_permissions fits_id k =
     let b : List ℕ = number_bytes permissions in
     let c : List ℕ = number_bytes id in
     let all : List ℕ = padded 128 (a ++ b ++ c ++ key.x ++ key.y) in
+    let stand = pieces_stand all a (b ∷ c ∷ key.x ∷ key.y ∷ []) (padded_stands 128 (a ++ b ++ c ++ key.x ++ key.y)) in
     let long_a : length a ≡ 4 = length-number (number_of_curve curve) in
     let long_b : length b ≡ 4 = length-number permissions in
     let long_c : length c ≡ 4 = length-number id in
     record {
-      curve_number = number_there all 0 (number_of_curve curve) (fits-curve curve) (first a b c key.x key.y long_a long_b long_c k.x k.y);
-      permission_bits = number_there all 4 permissions fits_permissions (second a b c key.x key.y long_a long_b long_c k.x k.y);
-      key_id = number_there all 8 id fits_id (third a b c key.x key.y long_a long_b long_c k.x k.y);
-      x = fourth a b c key.x key.y long_a long_b long_c k.x k.y;
-      y = fifth a b c key.x key.y long_a long_b long_c k.x k.y;
+      curve_number = read_number all 0 (number_of_curve curve) (fits-curve curve) stand.0;
+      permission_bits = read_number_at all (length a) 4 permissions stand.1.0 long_a fits_permissions;
+      key_id = read_number_at all (length a + length b) 8 id stand.1.1.0 (omega (arith, long_a, long_b)) fits_id;
+      x = read_at all (length a + length b + length c) 12 48 key.x stand.1.1.1.0 (omega (arith, long_a, long_b, long_c)) k.x;
+      y = read_at all (length a + length b + length c + length key.x) 60 48 key.y stand.1.1.1.1.0 (omega (arith, long_a, long_b, long_c, k.x)) k.y;
     }
 
 -- a key as an entry with a magic has it

@@ -11,7 +11,7 @@ use Rattle.pfr_description.specs.Typed.{IsKeyValue, IsSignerValue}
 use Rattle.pfr_made.proofs.BlockPartsMade.{length-number, length-zeros}
 use Rattle.pfr_made.proofs.BlockLengthsMade.{marks_long, length-key2, length-head2, length-key_entry2, length-block0_entry2}
 use Rattle.pfr_made.proofs.BlockSignedMade.{HasParts2}
-use Rattle.pfr_made.proofs.Form2Stands.{Stands, stands, stands_front, stands_behind, read_bytes, read_number}
+use Rattle.pfr_made.proofs.PiecesStand.{Stands, stands, stands_front, stands_behind, read_bytes, read_number}
 use Rattle.pfr_made.proofs.Form2Keys.{HasKey, HasMarks, has_key, has_marks}
 use Rattle.pfr_description.specs.Described.{Description}
 use Rattle.pfr_description.specs.declared.keys.KeyDescription.{KeyDescription}

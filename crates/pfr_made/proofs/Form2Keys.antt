@@ -2,7 +2,6 @@
 use Rattle.std.proofs.Common.{◌≡◌, ℕ, ◌+◌, ◌<◌, ◌^◌, List, ◌++◌, arith, length-append}
 use Rattle.pfr_engine.specs.declared.engine.Ask.{Ask}
 use Rattle.pfr_engine.specs.declared.engine.Curve.{Curve}
-use Rattle.pfr_engine.specs.declared.engine.Curve.TheVariants.{C256, C384}
 use Rattle.pfr_flash.specs.Bytes.{bytes_at}
 use Rattle.pfr_flash.specs.Numbers.{number_at}
 use Rattle.pfr_made.specs.Fields.{number_bytes}
@@ -10,8 +9,8 @@ use Rattle.pfr_made.specs.Form2.{key_bytes, signature_bytes}
 use Rattle.pfr_made.specs.Marks.{number_of_curve}
 use Rattle.pfr_description.specs.Typed.{IsKeyValue}
 use Rattle.pfr_made.proofs.BlockPartsMade.{length-number}
-use Rattle.pfr_made.proofs.BlockLengthsMade.{IsMark}
-use Rattle.pfr_made.proofs.Form2Stands.{Stands, stands_front, stands_behind, read_bytes, read_number}
+use Rattle.pfr_made.proofs.BlockLengthsMade.{IsMark, fits-curve}
+use Rattle.pfr_made.proofs.PiecesStand.{Stands, stands_front, stands_behind, read_bytes, read_number}
 use Rattle.pfr_description.specs.declared.keys.PublicKey.{PublicKey}
 
 -- what is read of a key at a place, from its permissions on
@@ -28,10 +27,6 @@ pub record HasMarks (block : List ℕ) (at : ℕ) (marks : Ask) : Type 0 where
   pub count : number_at block at ≡ 96
   pub numbers : bytes_at block (at + 4) 96 ≡ marks.r ++ marks.s
 
-pub number_of_curve-small : (curve : Curve) → number_of_curve curve < 2 ^ 32
-number_of_curve-small C256 = omega arith
-number_of_curve-small C384 = omega arith
-
 pub has_key : (block : List ℕ) (at : ℕ) (curve : Curve) (permissions id : ℕ) (key : PublicKey) → permissions < 2 ^ 32 → id < 2 ^ 32 → IsKeyValue key
     → Stands block at (key_bytes curve permissions id key) → HasKey block at curve permissions id key
 unfolding key_bytes number_bytes
@@ -45,7 +40,7 @@ has_key block at curve permissions id key small small_id value h =
     record {
       may = read_number block at permissions small (stands_front block at (number_bytes permissions) _ h);
       named = read_number block (at + 4) id small_id (stands_front block (at + 4) (number_bytes id) _ a);
-      scheme = read_number block (at + 8) (number_of_curve curve) (number_of_curve-small curve) scheme;
+      scheme = read_number block (at + 8) (number_of_curve curve) (fits-curve curve) scheme;
       scheme_bytes = read_bytes block (at + 8) 4 (number_bytes (number_of_curve curve)) (four (number_of_curve curve)) scheme;
       count = read_number block (at + 12) 96 (omega arith) (stands_front block (at + 12) (number_bytes 96) _ c);
       point = read_bytes block (at + 16) 96 (key.x ++ key.y) (omega (arith, length-append key.x key.y, value.x, value.y)) d;

@@ -35,7 +35,8 @@ use Rattle.pfr_made.proofs.ChainMade.{bank_sound, capsule_may, capsule_no_certif
 use Rattle.pfr_made.proofs.JudgeMade.{IsMakeable}
 use Rattle.pfr_made.proofs.ManifestMade.{manifest_regions, text_small}
 use Rattle.pfr_made.proofs.ManifestMadeLengths.{text_some}
-use Rattle.pfr_made.proofs.PagesHeader.{front_stands, header_with, rest_stands}
+use Rattle.pfr_made.proofs.BlockPartsMade.{front_stands, rest_stands}
+use Rattle.pfr_made.proofs.PagesHeader.{header_with}
 use Rattle.pfr_made.proofs.PagesPlace.{payload_length}
 use Rattle.pfr_made.proofs.RowsMadeAccepted.{accepted_rows}
 use Rattle.pfr_made.proofs.ServesMade.{header_made, serves_made}

@@ -19,7 +19,7 @@ pub mod Form2Block
 pub mod Form2ChainMade
 pub mod Form2Keys
 pub mod Form2Made
-pub mod Form2Stands
+pub mod PiecesStand
 pub mod RowsMadeBytes
 pub mod RowsMadeLines
 pub mod RowsMadeWords

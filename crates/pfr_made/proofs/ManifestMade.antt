@@ -3,7 +3,7 @@ use Rattle.std.proofs.Common.{◌≡◌, ℕ, ◌^◌, ◌<◌, ◌≤◌, nat_l
 use Rattle.std.proofs.lemmas.Bool.{leb-true}
 use Rattle.std.proofs.lemmas.List.{length-map}
 use Rattle.std.proofs.lemmas.List.Elements.{All-map, All-weaker}
-use Rattle.pfr_manifest.specs.Hashes.{HasHash}
+use Rattle.pfr_manifest.specs.Hashes.{HasHash, bytes_between}
 use Rattle.pfr_flash.specs.Judging.{◌>>◌, require}
 use Rattle.pfr_manifest.specs.Manifest.{IsRegionWide, IsRuleWide, IsManifestOf}
 use Rattle.pfr_manifest.specs.declared.fail.ManifestFail.TheVariants.{Svn, TooMany}
@@ -17,7 +17,6 @@ use Rattle.pfr_description.specs.declared.smbus.SmbusDescription.{SmbusDescripti
 use Rattle.pfr_made.specs.Fields.{zeros}
 use Rattle.pfr_made.specs.Manifests.{hash_of, region_of, rule_of, manifest_of, text_of, manifest_length}
 use Rattle.pfr_made.specs.Entries.{judge_regions, judge_entries}
-use Rattle.pfr_made.specs.Regions.{bytes_of}
 use Rattle.pfr_description.specs.Typed.{IsRegionValue, IsRuleValue, IsBankValue}
 use Rattle.pfr_made.proofs.ManifestMadeRegions.{AreRegions, all_regions_made}
 use Rattle.pfr_made.proofs.ManifestMadeLengths.{digest_made, least_made, manifest_len_made, manifest_short}
@@ -47,7 +46,7 @@ manifest_regions part active = refl
 
 region_wide : (active : List ℕ) (region : RegionDescription) → IsRegionValue region → IsRegionWide (region_of active region)
 unfolding region_of zeros
-region_wide active region is = record { reserved = refl; start = is.start; end = is.end; digest = digest_made region.hash (bytes_of active region) }
+region_wide active region is = record { reserved = refl; start = is.start; end = is.end; digest = digest_made region.hash (bytes_between active region.start region.end) }
 
 rule_wide : (rule : SmbusDescription) → IsRuleValue rule → IsRuleWide (rule_of rule)
 unfolding rule_of zeros
@@ -103,7 +102,7 @@ hash_is_made (Some Sha384) bytes = refl
 
 region_hashed : (active : List ℕ) (region : RegionDescription) → IsHashed active (region_of active region)
 unfolding region_of
-region_hashed active region = hash_is_made region.hash (bytes_of active region)
+region_hashed active region = hash_is_made region.hash (bytes_between active region.start region.end)
 
 pub hashes_made : (part : BankDescription) (active : List ℕ) → All (IsHashed active) (manifest_of part active).regions
 unfolding manifest_of

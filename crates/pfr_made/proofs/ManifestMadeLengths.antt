@@ -19,7 +19,7 @@ use Rattle.pfr_description.specs.declared.region.RegionDescription.{RegionDescri
 use Rattle.pfr_description.specs.declared.smbus.SmbusDescription.{SmbusDescription}
 use Rattle.pfr_made.specs.Fields.{zeros}
 use Rattle.pfr_made.specs.Manifests.{hash_of, region_of, rule_of, entry_bytes, least_multiple, manifest_length, manifest_with, manifest_of, text_of}
-use Rattle.pfr_made.specs.Regions.{bytes_of}
+use Rattle.pfr_manifest.specs.Hashes.{bytes_between}
 use Rattle.pfr_description.specs.Typed.{IsRuleValue, IsBankValue}
 
 -- a hash is as long as its kind says
@@ -36,8 +36,8 @@ digest_short (hashes.Sha384 digest) h = omega arith
 region_short : (active : List ℕ) (region : RegionDescription) → length (region_bytes (region_of active region)) ≤ 64
 unfolding region_of region_bytes zeros
 region_short active region =
-    let hash : RegionHash = hash_of region.hash (bytes_of active region) in
-    let d = digest_short hash (digest_made region.hash (bytes_of active region)) in
+    let hash : RegionHash = hash_of region.hash (bytes_between active region.start region.end) in
+    let d = digest_short hash (digest_made region.hash (bytes_between active region.start region.end)) in
     omega arith
 
 regions_short : (active : List ℕ) (regions : List RegionDescription) → length (flat_map region_bytes (map (region_of active) regions)) ≤ 64 * length regions

@@ -17,7 +17,7 @@ use Rattle.pfr_description.specs.declared.region.HashKind.TheVariants.{Sha256, S
 use Rattle.pfr_description.specs.declared.region.RegionDescription.{RegionDescription}
 use Rattle.pfr_made.specs.Manifests.{hash_of, region_of}
 use Rattle.pfr_made.specs.Entries.{judge_next, judge_regions}
-use Rattle.pfr_made.specs.Regions.{bytes_of}
+use Rattle.pfr_manifest.specs.Hashes.{bytes_between}
 
 -- a region is static where a hash is asked for
 pub has_hash_of : (hash : Option HashKind) (bytes : List ℕ) → has_hash (hash_of hash bytes) ≡ is_some hash
@@ -30,7 +30,7 @@ judged_as_made : (active : List ℕ) (region : RegionDescription) (before : List
     judge_next (length before) region (last_start before) (last_end before) layout size
     ≡ (require TooMany (nat_lt (length before) 64) >> manifests.judge_region (region_of active region) before layout size)
 unfolding judge_next region_of
-judged_as_made active region before layout size = rw (has_hash_of region.hash (bytes_of active region)) refl
+judged_as_made active region before layout size = rw (has_hash_of region.hash (bytes_between active region.start region.end)) refl
 
 -- regions that a manifest may have
 pub record AreRegions (layout : Layout) (size : ℕ) (regions : List Region) : Type 0 where

@@ -10,7 +10,7 @@ use Rattle.pfr_made.specs.Pages.{page_bit, bits_of, map_bytes}
 use Rattle.pfr_made.specs.declared.page_map.PageMap.{PageMap}
 
 -- ---- the bits of a number that grows at its low end
-value_small : (b : Bool) → (if b then 1 else 0) ≤ 1
+pub value_small : (b : Bool) → (if b then 1 else 0) ≤ 1
 value_small true = omega arith
 value_small false = omega arith
 

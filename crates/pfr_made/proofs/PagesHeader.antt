@@ -1,32 +1,16 @@
 -- The page-block header that is made, and where header, maps and payload stand in an image.
-use Rattle.std.proofs.Common.{◌≡◌, ◌∙◌, ap, sym, refl, ℕ, ◌+◌, ◌^◌, ◌<◌, ◌≤◌, List, ◌++◌, length, take, drop, length-append, append_assoc, arith}
-use Rattle.std.proofs.lemmas.List.{drop_at, drop-drop, drop-take, length-replicate, take_at, take-take}
+use Rattle.std.proofs.Common.{◌≡◌, ◌∙◌, ap, sym, refl, ℕ, ◌+◌, ◌^◌, ◌<◌, List, ◌++◌, length, take, drop, length-append, append_assoc, arith}
+use Rattle.std.proofs.lemmas.List.{drop_at, drop-drop, length-replicate, take_at}
 use Rattle.byteorder.specs.Endian.{little_number, little_bytes}
-use Rattle.pfr_flash.specs.Bytes.{bytes_at}
 use Rattle.pfr_flash.specs.Numbers.{little_at, number_at}
 use Rattle.pfr_manifest.proofs.Numbers.{number_read}
 use Rattle.pfr_capsule.specs.PageHeader.{page_header_of}
 use Rattle.pfr_capsule.specs.declared.page_header.PageHeader.{PageHeader}
 use Rattle.pfr_made.specs.Capsules.{page_header}
+use Rattle.pfr_made.proofs.BlockPartsMade.{length-number}
 use Rattle.pfr_made.specs.Fields.{number_bytes, padded, zeros}
 
--- ---- the parts of what stands at a place
-pub front_stands : (image : List ℕ) (at : ℕ) (xs ys : List ℕ) → bytes_at image at (length (xs ++ ys)) ≡ xs ++ ys → bytes_at image at (length xs) ≡ xs
-front_stands image at xs ys h =
-    let short : length xs ≤ length (xs ++ ys) = omega (arith, length-append xs ys) in
-    sym (take-take (length xs) (length (xs ++ ys)) (drop at image) short) ∙ ap (λ (bytes : List ℕ). take (length xs) bytes) h ∙ take_at xs ys (length xs) refl
-
-pub rest_stands : (image : List ℕ) (at : ℕ) (xs ys : List ℕ) → bytes_at image at (length (xs ++ ys)) ≡ xs ++ ys → bytes_at image (at + length xs) (length ys) ≡ ys
-rest_stands image at xs ys h =
-    let all : bytes_at image at (length xs + length ys) ≡ xs ++ ys = ap (λ (n : ℕ). bytes_at image at n) (sym (length-append xs ys)) ∙ h in
-    ap (λ (bytes : List ℕ). take (length ys) bytes) (sym (drop-drop (length xs) at image)) ∙ sym (drop-take (length xs) (length ys) (drop at image))
-    ∙ ap (λ (bytes : List ℕ). drop (length xs) bytes) all ∙ drop_at xs ys (length xs) refl
-
 -- ---- numbers one behind the other
-pub length-number_bytes : (number : ℕ) → length (number_bytes number) ≡ 4
-unfolding number_bytes
-length-number_bytes number = refl
-
 pub first_number : (number : ℕ) (rest : List ℕ) → number < 2 ^ 32 → number_at (number_bytes number ++ rest) 0 ≡ number
 unfolding little_at number_bytes
 first_number number rest h = ap (λ (bytes : List ℕ). little_number 4 bytes) (take_at (little_bytes 4 number) rest 4 refl) ∙ number_read number h
@@ -35,12 +19,12 @@ pub next_number : (number : ℕ) (rest : List ℕ) (at : ℕ) → number_at (num
 unfolding little_at
 next_number number rest at =
     ap (λ (bytes : List ℕ). little_number 4 (take 4 bytes))
-    (sym (drop-drop at 4 (number_bytes number ++ rest)) ∙ ap (λ (bytes : List ℕ). drop at bytes) (drop_at (number_bytes number) rest 4 (length-number_bytes number)))
+    (sym (drop-drop at 4 (number_bytes number ++ rest)) ∙ ap (λ (bytes : List ℕ). drop at bytes) (drop_at (number_bytes number) rest 4 (length-number number)))
 
 -- ---- the header
 pub length-page_header : (map_bits payload_len : ℕ) → length (page_header map_bits payload_len) ≡ 128
 unfolding page_header padded zeros
-length-page_header map_bits payload_len = simp (length-append, length-number_bytes, length-replicate)
+length-page_header map_bits payload_len = simp (length-append, length-number, length-replicate)
 
 -- the header of maps of so many bits and a payload of so many bytes
 abbrev pub header_with : ℕ → ℕ → PageHeader
@@ -57,7 +41,7 @@ header_with map_bits payload_len = record {
 spelled_numbers : (map_bits payload_len : ℕ) → page_header map_bits payload_len ≡ number_bytes 0x5F504243 ++ (number_bytes 2 ++ (number_bytes 4096 ++ (number_bytes 1
     ++ (number_bytes 0xFF ++ (number_bytes map_bits ++ (number_bytes payload_len ++ zeros 100))))))
 unfolding page_header padded
-spelled_numbers map_bits payload_len = simp (length-append, length-number_bytes, append_assoc)
+spelled_numbers map_bits payload_len = simp (length-append, length-number, append_assoc)
 
 pub header_read : (map_bits payload_len : ℕ) → map_bits < 2 ^ 32 → payload_len < 2 ^ 32 → page_header_of (page_header map_bits payload_len) ≡ header_with map_bits payload_len
 unfolding page_header_of

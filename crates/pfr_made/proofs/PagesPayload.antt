@@ -1,35 +1,19 @@
 -- The payload that is made: the copied pages one behind the other, and where each of them stands.
-use Rattle.std.proofs.Common.{◌≡◌, ◌∙◌, ap, sym, refl, ℕ, zero, suc, ◌+◌, ◌*◌, ◌<◌, ◌≤◌, Bool, true, false, if◌then◌else◌, List, [], ◌++◌, length, drop, length-append, length-drop, arith, ⊎_elim}
-use Rattle.std.proofs.lemmas.Bool.{cases_lt}
-use Rattle.std.proofs.lemmas.List.{drop-append-le, drop_at, take-append-le, take_all}
+use Rattle.std.proofs.Common.{◌≡◌, ◌∙◌, ap, sym, refl, ℕ, zero, suc, ◌+◌, ◌*◌, ◌<◌, ◌≤◌, Bool, true, false, if◌then◌else◌, List, [], ◌++◌, length, length-append, arith, ⊎_elim}
+use Rattle.std.proofs.lemmas.Bool.{cases_lt, cond-true}
 use Rattle.pfr_flash.specs.Bytes.{bytes_at}
 use Rattle.pfr_flash.proofs.BytesLemmas.{length-bytes_at}
 use Rattle.pfr_capsule.specs.Maps.{map_bit, count_before}
 use Rattle.pfr_capsule.proofs.CountLaws.{counted}
 use Rattle.pfr_description.specs.Described.{BankDescription}
 use Rattle.pfr_made.specs.Pages.{page_bit, page_payload, payload_of}
+use Rattle.pfr_made.proofs.BlockPartsMade.{in_front, last_part}
 use Rattle.pfr_made.specs.declared.page_map.PageMap.TheVariants as maps
 
 -- ---- what one page adds
 length-if : (b : Bool) (bytes : List ℕ) → length bytes ≡ 4096 → length (if b then bytes else []) ≡ 4096 * (if b then 1 else 0)
 length-if true bytes h = h
 length-if false bytes h = refl
-
-if_true : (b : Bool) (bytes : List ℕ) → b ≡ true → (if b then bytes else []) ≡ bytes
-if_true true bytes h = refl
-if_true false bytes h = cc
-
--- a part of what stands in front, and what stands behind
-front_at : (xs ys : List ℕ) (at count : ℕ) → at + count ≤ length xs → bytes_at (xs ++ ys) at count ≡ bytes_at xs at count
-front_at xs ys at count h =
-    let inside : at ≤ length xs = omega arith in
-    let rest : count ≤ length (drop at xs) = omega (arith, length-drop at xs) in
-    rw (drop-append-le at xs ys inside, take-append-le count (drop at xs) ys rest) refl
-
-behind_at : (xs ys : List ℕ) (at count : ℕ) → length xs ≡ at → length ys ≡ count → bytes_at (xs ++ ys) at count ≡ ys
-behind_at xs ys at count h k =
-    let all : length ys ≤ count = omega arith in
-    rw (drop_at xs ys at h) (take_all count ys all)
 
 -- ---- the payload, over a map with the copied pages' bits
 module _ (part : BankDescription) (active copy : List ℕ) (pages : ℕ) (bits : (n : ℕ) → n < pages → map_bit copy n ≡ page_bit part maps.Copy n) where
@@ -59,11 +43,11 @@ module _ (part : BankDescription) (active copy : List ℕ) (pages : ℕ) (bits :
           → bytes_at (payload_of part active m ++ page_payload part active m) (4096 * count_before copy n) 4096 ≡ bytes_at active (4096 * n) 4096
       earlier k e =
           let has : map_bit copy n ≡ true = bits n (omega arith) ∙ copied in
-          front_at (payload_of part active m) (page_payload part active m) (4096 * count_before copy n) 4096 (omega (arith, long, counted copy n m k has)) ∙ e
+          in_front (payload_of part active m) (page_payload part active m) (4096 * count_before copy n) 4096 (omega (arith, long, counted copy n m k has)) ∙ e
 
       last : m ≤ n → bytes_at (payload_of part active m ++ page_payload part active m) (4096 * count_before copy n) 4096 ≡ bytes_at active (4096 * n) 4096
       last k =
           let e : n ≡ m = omega arith in
           let here : page_bit part maps.Copy m ≡ true = ap (λ (j : ℕ). page_bit part maps.Copy j) (sym e) ∙ copied in
-          let page : page_payload part active m ≡ bytes_at active (4096 * m) 4096 = if_true (page_bit part maps.Copy m) (bytes_at active (4096 * m) 4096) here in
-          rw (e, page) (behind_at (payload_of part active m) (bytes_at active (4096 * m) 4096) (4096 * count_before copy m) 4096 long (length-bytes_at active (4096 * m) 4096 (omega arith)))
+          let page : page_payload part active m ≡ bytes_at active (4096 * m) 4096 = cond-true (page_bit part maps.Copy m) (bytes_at active (4096 * m) 4096) [] here in
+          rw (e, page) (last_part (payload_of part active m) (bytes_at active (4096 * m) 4096) (4096 * count_before copy m) 4096 long (length-bytes_at active (4096 * m) 4096 (omega arith)))

@@ -6,7 +6,8 @@ use Rattle.pfr_made.specs.Capsules.{page_count, page_header, pages_bytes}
 use Rattle.pfr_made.specs.Pages.{map_bytes, payload_of}
 use Rattle.pfr_made.specs.declared.page_map.PageMap.TheVariants as maps
 use Rattle.pfr_made.proofs.PagesBits.{length-map_bytes}
-use Rattle.pfr_made.proofs.PagesHeader.{front_stands, rest_stands, length-page_header}
+use Rattle.pfr_made.proofs.BlockPartsMade.{front_stands, rest_stands}
+use Rattle.pfr_made.proofs.PagesHeader.{length-page_header}
 
 -- how long the payload is
 abbrev pub payload_length : BankDescription → List ℕ → ℕ

@@ -1,9 +1,9 @@
 -- What the description says of a page: each page of a region has the region's use, and a page with another use than Keep lies in a region.
-use Rattle.std.proofs.Common.{◌≡◌, ◌∙◌, ap, sym, refl, ℕ, zero, suc, ◌*◌, ◌%◌, ◌<◌, ◌≤◌, Bool, true, false, ◌&&◌, nat_le, nat_lt, if◌then◌else◌, List, [], ◌∷◌, length, get_or, map, All, Any, inl, inr, Ok, arith}
-use Rattle.std.proofs.lemmas.Bool.{cases_Bool, and_parts, and_from, le-leb, leb-true, lt-ltb, le-ltb, ltb-true}
+use Rattle.std.proofs.Common.{◌≡◌, ◌∙◌, ap, sym, refl, ℕ, zero, suc, ◌*◌, ◌%◌, ◌<◌, ◌≤◌, Bool, true, false, ◌&&◌, nat_le, nat_lt, List, [], ◌∷◌, length, get_or, map, All, Any, inl, inr, Ok, arith}
+use Rattle.std.proofs.lemmas.Bool.{cases_Bool, cond-false, and_parts, and_from, le-leb, leb-true, lt-ltb, le-ltb, ltb-true}
 use Rattle.std.proofs.lemmas.List.Elements.{All-head, All-tail}
 use Rattle.pfr_flash.specs.declared.layout.Layout.{Layout}
-use Rattle.pfr_manifest.specs.Regions.{IsRegion, IsInOrder}
+use Rattle.pfr_manifest.specs.Regions.{IsRegion, IsInOrder, LiesInside}
 use Rattle.pfr_manifest.specs.declared.region.Region.{Region}
 use Rattle.pfr_capsule.specs.Maps.{IsPageOf}
 use Rattle.pfr_description.specs.Described.{BankDescription}
@@ -12,7 +12,6 @@ use Rattle.pfr_description.specs.declared.region.RegionDescription.{RegionDescri
 use Rattle.pfr_made.specs.Entries.{judge_entries}
 use Rattle.pfr_made.specs.Manifests.{region_of}
 use Rattle.pfr_made.specs.Pages.{has_bit, has_byte, use_of}
-use Rattle.pfr_made.specs.Regions.{IsInside}
 use Rattle.pfr_made.specs.declared.page_map.PageMap.TheVariants as maps
 use Rattle.pfr_made.proofs.ManifestMade.{regions_judged}
 use Rattle.pfr_made.proofs.ManifestMadeRegions.{AreRegions}
@@ -65,10 +64,10 @@ region_at from size (region ∷ others) (suc k) d h within =
     let rest = region_at region.end size others k d h.2 (omega arith) in
     (rest.0, omega (arith, h.0.some, h.1, rest.1))
 
-pub entries_inside : (part : BankDescription) → judge_entries part ≡ Ok tt → All (IsInside part.size) part.regions
+pub entries_inside : (part : BankDescription) → judge_entries part ≡ Ok tt → All (λ region. LiesInside part.size region.start region.end) part.regions
 entries_inside part judged = λ k d within.
     let is = region_at 0 part.size part.regions k d (entries_ordered part judged) within in
-    record { ordered = omega (arith, is.0.some); within = is.0.inside }
+    record { begins = omega (arith, is.0.some); ends = is.0.inside }
 
 -- each page of a region has the region's use
 pub use_is : (from size : ℕ) (regions : List RegionDescription) (k page : ℕ) (d : RegionDescription) → AreOrdered from size regions → k < length regions
@@ -85,10 +84,6 @@ use_is from size (region ∷ others) (suc k) page d h within low high =
     rw lacks (use_is region.end size others k page d h.2 (omega arith) low high)
 
 -- ---- a page that is erased lies in a region
-if_false : (b : Bool) (x y : PageUse) → b ≡ false → (if b then x else y) ≡ y
-if_false true x y h = cc
-if_false false x y h = refl
-
 pub in_region : (active : List ℕ) (regions : List RegionDescription) (page : ℕ) → has_bit maps.Erase (use_of regions page) ≡ true → Any (λ region. IsPageOf region page) (map (region_of active) regions)
 unfolding use_of region_of
 in_region active [] page h = absurd cc
@@ -97,7 +92,7 @@ in_region active (region ∷ others) page h = elim (cases_Bool (has_byte region 
       let p = and_parts (nat_le region.start (4096 * page)) (nat_lt (4096 * page) region.end) has in
       (zero, region_of active region, omega arith, refl, record { low = leb-true _ _ p.0; high = ltb-true _ _ p.1 })
   | inr lacks ↦
-      let rest : has_bit maps.Erase (use_of others page) ≡ true = ap (λ (x : PageUse). has_bit maps.Erase x) (sym (if_false (has_byte region (4096 * page)) region.pages (use_of others page) lacks)) ∙ h in
+      let rest : has_bit maps.Erase (use_of others page) ≡ true = ap (λ (x : PageUse). has_bit maps.Erase x) (sym (cond-false (has_byte region (4096 * page)) region.pages (use_of others page) lacks)) ∙ h in
       let found : Any (λ (other : Region). IsPageOf other page) (map (region_of active) others) = in_region active others page rest in
       (suc found.0, found.1, omega (arith, found.2), found.3, found.4)
 ]

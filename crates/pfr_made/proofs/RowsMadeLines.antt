@@ -3,7 +3,8 @@ use Rattle.std.proofs.Common.{◌≡◌, ◌==◌, ℕ, ◌+◌, ◌<◌, ◌≤
 use Rattle.std.specs.List.{join_with_byte}
 use Rattle.std.proofs.lemmas.Bool.Decides.{nat_tests}
 use Rattle.std.proofs.lemmas.List.Elements.{All-nil, All-cons, All-append, All-head, All-tail}
-use Rattle.std.proofs.lemmas.List.Splits.{slice_split_at, slice_split_none, length-slice_split}
+use Rattle.std.proofs.lemmas.List.Splits.{slice_split_at, slice_split_none}
+use Rattle.pfr_engine.proofs.LineLemmas.{some_lines}
 use Rattle.pfr_engine.specs.Rows.{judge_row, judge_line, judge_lines, judge_text, lines_in}
 use Rattle.pfr_engine.specs.Words.{words_in}
 use Rattle.pfr_engine.specs.declared.row.Row.{Row}
@@ -28,9 +29,6 @@ unfolding judge_line
 judged_line number line row few is =
     let t : nat_le number 4096 ≡ true = grind (arith, nat_tests) in
     rw (t, is) refl
-
-some_lines : (text : List ℕ) → 0 < length (lines_in text)
-some_lines text = rw (length-slice_split (λ byte. byte == 10) text) (omega arith)
 
 -- a row in front of others
 pub row_front : (number : ℕ) (text rest : List ℕ) (row : Row) (rows : List Row) → number ≤ 4096 → SpellsRow text row →

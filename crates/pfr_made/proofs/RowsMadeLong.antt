@@ -22,7 +22,8 @@ use Rattle.pfr_description.specs.Typed.{IsKeyValue}
 use Rattle.pfr_flash.proofs.AreBytesLemmas.{AreBytes-append}
 use Rattle.pfr_made.proofs.ByteLaws.{number_are_bytes, sha384-bytes}
 use Rattle.pfr_made.proofs.RowsMadeLines.{SpellsRow}
-use Rattle.pfr_made.proofs.RowsMadeShort.{length-mark_of, mark_of-bytes}
+use Rattle.pfr_made.proofs.BlockLengthsMade.{length-mark}
+use Rattle.pfr_made.proofs.RowsMadeShort.{mark_of-bytes}
 use Rattle.pfr_made.proofs.RowsMadeWords.{IsField, words_of, fields_words, fields_clear, fields_are_words, fields_are_hex, read_word, read_long_word}
 
 -- what a key's marks on a message are in a row of form 2
@@ -62,7 +63,7 @@ module _ (curve : Curve) (key : PublicKey) (message : List ℕ) (h : IsKeyValue 
   length-signature : length (long_said curve key message).signature ≡ 96
   length-signature =
       let digest = D384 (sha384 message) in
-      omega (arith, length-append (mark_of 0x52 key digest) (mark_of 0x53 key digest), length-mark_of 0x52 key digest, length-mark_of 0x53 key digest)
+      omega (arith, length-append (mark_of 0x52 key digest) (mark_of 0x53 key digest), length-mark 0x52 key digest, length-mark 0x53 key digest)
 
   signature_bytes : AreBytes (long_said curve key message).signature
   signature_bytes =

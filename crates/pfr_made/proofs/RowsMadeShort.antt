@@ -24,13 +24,10 @@ use Rattle.pfr_made.specs.Marks.{number_of_curve, digest_bytes, mark_of, marks_o
 use Rattle.pfr_made.specs.Rows.{word, row_of}
 use Rattle.pfr_flash.specs.Bytes.{AreBytes}
 use Rattle.pfr_description.specs.Typed.{IsKeyValue}
+use Rattle.pfr_made.proofs.BlockLengthsMade.{length-mark}
 use Rattle.pfr_made.proofs.ByteLaws.{number_are_bytes, sha256-bytes, sha384-bytes}
 use Rattle.pfr_made.proofs.RowsMadeLines.{SpellsRow}
 use Rattle.pfr_made.proofs.RowsMadeWords.{IsField, words_of, fields_words, fields_clear, fields_are_words, fields_are_hex, read_word}
-
-pub length-mark_of : (letter : ℕ) (key : PublicKey) (digest : Digest) → length (mark_of letter key digest) ≡ 48
-unfolding mark_of
-length-mark_of letter key digest = length-sha384 _
 
 pub mark_of-bytes : (letter : ℕ) (key : PublicKey) (digest : Digest) → AreBytes (mark_of letter key digest)
 unfolding mark_of
@@ -76,7 +73,7 @@ short_fields curve key message =
     ∷ mark_of 0x52 key (digest_on curve message) ∷ mark_of 0x53 key (digest_on curve message) ∷ []
 
 mark_field : (letter : ℕ) (key : PublicKey) (digest : Digest) → IsField (mark_of letter key digest)
-mark_field letter key digest = record { some = omega (arith, length-mark_of letter key digest); are = mark_of-bytes letter key digest }
+mark_field letter key digest = record { some = omega (arith, length-mark letter key digest); are = mark_of-bytes letter key digest }
 
 are_fields : (curve : Curve) (key : PublicKey) (message : List ℕ) → IsKeyValue key → All IsField (short_fields curve key message)
 are_fields curve key message h =
@@ -100,7 +97,7 @@ short_judged curve key message h =
     let are = are_fields curve key message h in
     let digest = digest_on curve message in
     rw (fields_are_words fields are 6 refl, fields_are_hex fields are)
-    (asked curve key.x key.y (mark_of 0x52 key digest) (mark_of 0x53 key digest) message h.x h.y (length-mark_of 0x52 key digest) (length-mark_of 0x53 key digest)
+    (asked curve key.x key.y (mark_of 0x52 key digest) (mark_of 0x53 key digest) message h.x h.y (length-mark 0x52 key digest) (length-mark 0x53 key digest)
     h.x_bytes h.y_bytes (mark_of-bytes 0x52 key digest) (mark_of-bytes 0x53 key digest))
 
 short_row : (curve : Curve) (key : PublicKey) (message : List ℕ) → IsKeyValue key →

@@ -5,7 +5,7 @@ use Rattle.std.proofs.lemmas.Bool.{and_from}
 use Rattle.sha2.specs.Sha256.{sha256}
 use Rattle.sha2.specs.Sha512.{sha384}
 use Rattle.pfr_flash.specs.Bytes.{blank, bytes_at}
-use Rattle.pfr_manifest.specs.Hashes.{HasHash}
+use Rattle.pfr_manifest.specs.Hashes.{HasHash, bytes_between}
 use Rattle.pfr_capsule.specs.Good.{Serves}
 use Rattle.pfr_capsule.specs.Maps.{IsCovered}
 use Rattle.pfr_capsule.specs.PageBytes.{IsCoherent, page_bytes, region_bytes}
@@ -28,7 +28,6 @@ use Rattle.pfr_made.specs.Judge.{IsPlaced}
 use Rattle.pfr_made.specs.Manifests.{hash_of, region_of}
 use Rattle.pfr_made.specs.Pages.{has_bit, use_of}
 use Rattle.pfr_made.specs.Entries.{judge_entries}
-use Rattle.pfr_made.specs.Regions.{bytes_of}
 use Rattle.pfr_made.specs.declared.page_map.PageMap.TheVariants as maps
 use Rattle.pfr_made.proofs.ManifestMadeRegions.{has_hash_of}
 use Rattle.pfr_made.proofs.PagesGive.{copied_page, copy_bit, erase_bit, erased_page, page_of_blanks, pages_give, payload_counted}
@@ -38,7 +37,7 @@ use Rattle.pfr_made.proofs.PagesUse.{IsWhole, entries_ordered, in_region, region
 
 -- a region whose pages are only erased, and that has a hash, is 0xFF in the active image
 abbrev pub IsBlanked : List ℕ → RegionDescription → Type 0
-IsBlanked active region = is_blank region ≡ true → bytes_of active region ≡ replicate (region.end - region.start) 255
+IsBlanked active region = is_blank region ≡ true → bytes_between active region.start region.end ≡ replicate (region.end - region.start) 255
 
 -- the header that is made
 abbrev pub made_header : BankDescription → List ℕ → PageHeader
@@ -74,16 +73,16 @@ module _ (image active : List ℕ) (at : ℕ) (part : BankDescription) (sized : 
 
   -- the maps have a bit for each page of the bank
   bits_whole : 4096 * page_count part ≡ part.size
-  bits_whole = omega (arith, placed.whole)
+  bits_whole = omega (arith, placed.size.blocks)
 
   -- the header says what stands behind it
   pub header_made : HasHeader image at (at + length (pages_bytes part active)) (made_header part active)
   header_made =
-      let short : payload_length part active ≤ part.size = omega (arith, payload_counted image active at part placed.whole long stand, bits_whole, count_le (copy_map image (pages_at image (at + 128) (page_count part))) (page_count part)) in
+      let short : payload_length part active ≤ part.size = omega (arith, payload_counted image active at part placed.size.blocks long stand, bits_whole, count_le (copy_map image (pages_at image (at + 128) (page_count part))) (page_count part)) in
       let all = length-pages_bytes part active in
       record {
         within = omega (arith, all);
-        spelled = sym (header_read (page_count part) (payload_length part active) (omega (arith, placed.greatest)) (omega (arith, short, placed.greatest))) ∙ ap page_header_of (sym stand.header);
+        spelled = sym (header_read (page_count part) (payload_length part active) (omega (arith, placed.size.most)) (omega (arith, short, placed.size.most))) ∙ ap page_header_of (sym stand.header);
         constants = record { magic = refl; version = refl; page_size = refl; pattern_size = refl; pattern = refl };
         map_bits = ap (λ (n : ℕ). n / 4096) (sym sized);
         fills = omega (arith, all);
@@ -92,8 +91,8 @@ module _ (image active : List ℕ) (at : ℕ) (part : BankDescription) (sized : 
   -- a page by its use
   page_by_use : (page : ℕ) (pages : PageUse) → page < page_count part → use_of part.regions page ≡ pages → is_kept pages ≡ false → (pages ≡ uses.Erase → bytes_at active (4096 * page) 4096 ≡ blank)
       → page_bytes image (page_of image (pages_at image (at + 128) (page_count part)) page) ≡ bytes_at active (4096 * page) 4096
-  page_by_use page uses.Copy inside is kept blanks = copied_page image active at part placed.whole long stand page inside is
-  page_by_use page uses.Erase inside is kept blanks = erased_page image active at part placed.whole long stand page inside is ∙ sym (blanks refl)
+  page_by_use page uses.Copy inside is kept blanks = copied_page image active at part placed.size.blocks long stand page inside is
+  page_by_use page uses.Erase inside is kept blanks = erased_page image active at part placed.size.blocks long stand page inside is ∙ sym (blanks refl)
   page_by_use page uses.Keep inside is kept blanks = absurd cc
 
   -- ---- a region whose pages have its use
@@ -103,8 +102,8 @@ module _ (image active : List ℕ) (at : ℕ) (part : BankDescription) (sized : 
     region_covered : IsCovered (erase_map image (pages_at image (at + 128) (page_count part))) (page_count part) (region_of active region)
     unfolding region_of
     region_covered static page inside lies =
-        let hashed : is_some region.hash ≡ true = sym (has_hash_of region.hash (bytes_of active region)) ∙ static in
-        erase_bit image active at part placed.whole long stand page inside ∙ ap (λ (pages : PageUse). has_bit maps.Erase pages) (used page lies.low lies.high)
+        let hashed : is_some region.hash ≡ true = sym (has_hash_of region.hash (bytes_between active region.start region.end)) ∙ static in
+        erase_bit image active at part placed.size.blocks long stand page inside ∙ ap (λ (pages : PageUse). has_bit maps.Erase pages) (used page lies.low lies.high)
         ∙ erased_unless_kept region.pages (not_kept (is_some region.hash) region.pages brought hashed)
 
     -- and gives what the active image has there
@@ -114,7 +113,7 @@ module _ (image active : List ℕ) (at : ℕ) (part : BankDescription) (sized : 
         page_by_use page region.pages (omega (arith, bits_whole, whole.inside)) (used page low (omega arith)) (not_kept (is_some region.hash) region.pages brought hashed)
         (λ is. page_of_blanks active region.start (region.end - region.start) page (blanked (and_from _ _ hashed (ap is_erased_only is))) low (omega (arith, whole.some)))
 
-    region_given : is_some region.hash ≡ true → region_bytes image (pages_at image (at + 128) (page_count part)) (region_of active region) ≡ bytes_of active region
+    region_given : is_some region.hash ≡ true → region_bytes image (pages_at image (at + 128) (page_count part)) (region_of active region) ≡ bytes_between active region.start region.end
     unfolding region_of
     region_given hashed =
         let first : ℕ = region.start / 4096 in
@@ -126,7 +125,7 @@ module _ (image active : List ℕ) (at : ℕ) (part : BankDescription) (sized : 
 
     region_coherent : IsCoherent image (pages_at image (at + 128) (page_count part)) (region_of active region)
     unfolding region_of
-    region_coherent = hash_made region.hash (region_bytes image (pages_at image (at + 128) (page_count part)) (region_of active region)) (bytes_of active region) region_given
+    region_coherent = hash_made region.hash (region_bytes image (pages_at image (at + 128) (page_count part)) (region_of active region)) (bytes_between active region.start region.end) region_given
 
   -- ---- all regions of the description
   module _ (judged : judge_entries part ≡ Ok tt) (brought : All IsBrought part.regions) (blanked : All (IsBlanked active) part.regions) where
@@ -142,9 +141,9 @@ module _ (image active : List ℕ) (at : ℕ) (part : BankDescription) (sized : 
     serves_made =
         let pages : Pages = pages_at image (at + 128) (page_count part) in
         record {
-          erased = λ n h copied. erase_bit image active at part placed.whole long stand n h ∙ erased_too (use_of part.regions n) (sym (copy_bit image active at part placed.whole long stand n h) ∙ copied);
-          within_regions = λ n h erased. in_region active part.regions n (sym (erase_bit image active at part placed.whole long stand n h) ∙ erased);
-          payload = payload_counted image active at part placed.whole long stand;
+          erased = λ n h copied. erase_bit image active at part placed.size.blocks long stand n h ∙ erased_too (use_of part.regions n) (sym (copy_bit image active at part placed.size.blocks long stand n h) ∙ copied);
+          within_regions = λ n h erased. in_region active part.regions n (sym (erase_bit image active at part placed.size.blocks long stand n h) ∙ erased);
+          payload = payload_counted image active at part placed.size.blocks long stand;
           covered = All-map (IsCovered (erase_map image pages) (page_count part)) (region_of active) part.regions
               (λ k d h. region_covered (get_or part.regions k d) (whole_at k d h) (used_by k d h) (brought k d h) (blanked k d h));
           coherent = All-map (IsCoherent image pages) (region_of active) part.regions

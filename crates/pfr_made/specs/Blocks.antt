@@ -3,6 +3,9 @@ use Rattle.std.specs.Prelude.{ℕ, List, ◌++◌, length}
 use Rattle.sha2.specs.Sha256.{sha256}
 use Rattle.sha2.specs.Sha512.{sha384}
 use Rattle.pfr_flash.specs.declared.names.ContentType.{ContentType}
+use Rattle.pfr_chain.specs.Block.{magic_of_block0}
+use Rattle.pfr_chain.specs.declared.form.Form as chain_forms
+use Rattle.pfr_chain.specs.declared.form.Form.TheVariants as of_chain
 use Rattle.pfr_chain.specs.Types.{number_of}
 use Rattle.pfr_made.specs.Fields.{number_bytes, padded}
 use Rattle.pfr_made.specs.Form1 as form1
@@ -12,9 +15,10 @@ use Rattle.pfr_description.specs.declared.form.Form.{Form}
 use Rattle.pfr_description.specs.declared.form.Form.TheVariants.{One, Two}
 use Rattle.pfr_description.specs.declared.keys.KeyDescription.{KeyDescription}
 
-abbrev pub magic_of_block0 : Form → ℕ
-magic_of_block0 One = 0xB6EAFD19
-magic_of_block0 Two = 0xB6EAFD1A
+-- a description's form as chains name it
+abbrev pub chain_form : Form → chain_forms.Form
+chain_form One = of_chain.One
+chain_form Two = of_chain.Two
 
 -- what stands behind the type: only form 2 states the block's length
 abbrev pub stated_length : Form → ℕ
@@ -23,7 +27,7 @@ stated_length Two = 1024
 
 -- Block 0 of a content: magic, the content's length and type, the block's length, both digests
 unfoldable pub block0_bytes : Form → ContentType → List ℕ → List ℕ
-block0_bytes form type content = padded 128 (number_bytes (magic_of_block0 form) ++ number_bytes (length content)
+block0_bytes form type content = padded 128 (number_bytes (magic_of_block0 (chain_form form)) ++ number_bytes (length content)
     ++ number_bytes (number_of type) ++ number_bytes (stated_length form) ++ sha256 content ++ sha384 content)
 
 -- the block that begins with this Block 0, which the key signs and the root signs the key

@@ -1,9 +1,9 @@
 -- The regions and rules that a description gives a bank, judged by the rules of manifests, and the first that they break.
-use Rattle.std.specs.Prelude.{ℕ, ◌+◌, ◌==◌, nat_le, nat_lt, is_some, List, [], ◌∷◌, length, Result, Ok}
-use Rattle.std.specs.Int.{bit_at}
+use Rattle.std.specs.Prelude.{ℕ, ◌+◌, nat_le, nat_lt, is_some, List, [], ◌∷◌, length, Result, Ok}
 use Rattle.pfr_flash.specs.Judging.{◌>>◌, require}
 use Rattle.pfr_flash.specs.declared.layout.Layout.{Layout}
 use Rattle.pfr_manifest.specs.Judge.{judge_stretch}
+use Rattle.pfr_manifest.specs.Regions.{may_write}
 use Rattle.pfr_manifest.specs.declared.fail.ManifestFail.{ManifestFail}
 use Rattle.pfr_manifest.specs.declared.fail.ManifestFail.TheVariants.{Svn, TooMany}
 use Rattle.pfr_manifest.specs.declared.stretch.Stretch.{Stretch}
@@ -12,7 +12,7 @@ use Rattle.pfr_description.specs.declared.region.RegionDescription.{RegionDescri
 
 -- where a region lies, and whether the bank's bus may write it
 abbrev pub stretch_of : RegionDescription → Stretch
-stretch_of region = record { start = region.start; end = region.end; writable = bit_at region.mask 1 == 1 }
+stretch_of region = record { start = region.start; end = region.end; writable = may_write region.mask }
 
 -- region k, for which there is to be room, behind a region from one place up to another
 unfoldable pub judge_next : ℕ → RegionDescription → ℕ → ℕ → Layout → ℕ → Result (Unit {0}) ManifestFail

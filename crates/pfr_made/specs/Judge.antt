@@ -1,7 +1,7 @@
 -- What a description must be, and the first rule that it breaks.
-use Rattle.std.specs.Prelude.{◌≡◌, ℕ, ◌+◌, ◌%◌, ◌≤◌, ◌==◌, ◌&&◌, Bool, nat_le, List, length, Result, Ok, Err, if◌then◌else◌}
-use Rattle.pfr_flash.specs.Layout.{IsValidLayout, judge_layout}
-use Rattle.pfr_flash.specs.declared.layout.LayoutRule.{LayoutRule}
+use Rattle.std.specs.Prelude.{◌≡◌, ℕ, ◌+◌, ◌%◌, ◌≤◌, ◌==◌, ◌&&◌, Bool, nat_le, List, length, Result, Ok, Err}
+use Rattle.pfr_flash.specs.Layout.{IsBankSize, IsValidLayout, judge_layout}
+use Rattle.pfr_flash.specs.Judging.{◌>>◌, require, told_as}
 use Rattle.pfr_flash.specs.declared.names.Bank.{Bank}
 use Rattle.pfr_flash.specs.declared.names.Bank.TheVariants.{Bmc, Pch}
 use Rattle.pfr_description.specs.Described.{BankDescription}
@@ -9,57 +9,37 @@ use Rattle.pfr_description.specs.Described.{Description}
 use Rattle.pfr_description.specs.declared.fail.DescFail.{DescFail}
 use Rattle.pfr_description.specs.declared.fail.DescFail.TheVariants.{Why, NoMemory}
 use Rattle.pfr_description.specs.declared.fail.DescWhy.{DescWhy}
-use Rattle.pfr_description.specs.declared.fail.DescWhy.TheVariants.{Fit, Layout, Manifest}
+use Rattle.pfr_description.specs.declared.fail.DescWhy.TheVariants.{Fit, Layout}
 use Rattle.pfr_description.specs.declared.fail.FitPart.{FitPart}
 use Rattle.pfr_description.specs.declared.fail.FitPart.TheVariants as parts
 use Rattle.pfr_description.specs.declared.fail.FitPart.TheVariants.{Size, Image}
-use Rattle.pfr_manifest.specs.declared.fail.ManifestFail.{ManifestFail}
 use Rattle.pfr_description.specs.Banks.{bank_of}
 use Rattle.pfr_made.specs.Capsules.{capsule_body}
 use Rattle.pfr_made.specs.Manifests.{manifest_length}
 
 -- a bank's size, and a layout of a bank of this size
 pub record IsPlaced (part : BankDescription) : Type 0 where
-  pub whole : part.size % 65536 ≡ 0
+  pub size : IsBankSize part.size
   pub least : 65536 ≤ part.size
-  pub greatest : part.size ≤ 67108864
   pub layout : IsValidLayout part.layout part.size
 
 abbrev pub is_bank_size : ℕ → Bool
 is_bank_size size = size % 65536 == 0 && nat_le 65536 size && nat_le size 67108864
 
-abbrev pub of_bank : Bank → Result (Unit {0}) LayoutRule → Result (Unit {0}) DescWhy
-of_bank bank (Ok x) = Ok x
-of_bank bank (Err rule) = Err (Layout bank rule)
-
 unfoldable pub judge_place : Bank → BankDescription → Result (Unit {0}) DescWhy
-judge_place bank part = if is_bank_size part.size then of_bank bank (judge_layout part.layout part.size) else Err (Fit bank Size)
+judge_place bank part = require (Fit bank Size) (is_bank_size part.size) >> told_as (Layout bank) (judge_layout part.layout part.size)
 
 -- an image is judged after the place of its areas
-abbrev pub require_image : Bank → BankDescription → List ℕ → Result (Unit {0}) DescWhy → Result (Unit {0}) DescWhy
-require_image bank part image (Ok x) = if length image == part.size then Ok x else Err (Fit bank Image)
-require_image bank part image (Err why) = Err why
-
 unfoldable pub judge_image : Bank → BankDescription → List ℕ → Result (Unit {0}) DescWhy
-judge_image bank part image = require_image bank part image (judge_place bank part)
-
--- a judgement before another
-abbrev pub before : Result (Unit {0}) DescWhy → Result (Unit {0}) DescWhy → Result (Unit {0}) DescWhy
-before (Ok x) later = later
-before (Err why) later = Err why
+judge_image bank part image = judge_place bank part >> require (Fit bank Image) (length image == part.size)
 
 -- both banks, the BMC first
 unfoldable pub judge_places : Description → Result (Unit {0}) DescWhy
-judge_places description = before (judge_place Bmc description.bmc) (judge_place Pch description.pch)
-
--- the manifest's rules
-abbrev pub of_manifest : Bank → Result (Unit {0}) ManifestFail → Result (Unit {0}) DescWhy
-of_manifest bank (Ok x) = Ok x
-of_manifest bank (Err cause) = Err (Manifest bank cause)
+judge_places description = judge_place Bmc description.bmc >> judge_place Pch description.pch
 
 -- what is made lies in its area
 abbrev pub require_fit : Bank → FitPart → ℕ → ℕ → Result (Unit {0}) DescWhy
-require_fit bank what count area = if nat_le count area then Ok tt else Err (Fit bank what)
+require_fit bank what count area = require (Fit bank what) (nat_le count area)
 
 -- the signed manifest of this active image
 unfoldable pub fit_manifest : Bank → BankDescription → List ℕ → Result (Unit {0}) DescWhy

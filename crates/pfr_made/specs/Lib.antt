@@ -12,7 +12,6 @@ pub mod Made
 pub mod Manifests
 pub mod Marks
 pub mod Pages
-pub mod Regions
 pub mod Rows
 pub mod Store
 pub mod Trust

@@ -3,6 +3,7 @@ use Rattle.std.specs.Prelude.{ℕ, ◌+◌, ◌-◌, ◌%◌, List, ◌++◌, le
 use Rattle.std.specs.List.{flat_map}
 use Rattle.sha2.specs.Sha256.{sha256}
 use Rattle.sha2.specs.Sha512.{sha384}
+use Rattle.pfr_manifest.specs.Hashes.{bytes_between}
 use Rattle.pfr_manifest.specs.Spelling.{region_bytes, rule_bytes, manifest_bytes}
 use Rattle.pfr_manifest.specs.declared.manifest.Manifest.{Manifest}
 use Rattle.pfr_manifest.specs.declared.region.Region.{Region}
@@ -10,7 +11,6 @@ use Rattle.pfr_manifest.specs.declared.region.RegionHash.{RegionHash}
 use Rattle.pfr_manifest.specs.declared.region.RegionHash.TheVariants as hashes
 use Rattle.pfr_manifest.specs.declared.rule.Rule.{Rule}
 use Rattle.pfr_made.specs.Fields.{zeros}
-use Rattle.pfr_made.specs.Regions.{bytes_of}
 use Rattle.pfr_description.specs.Described.{BankDescription}
 use Rattle.pfr_description.specs.declared.region.HashKind.{HashKind}
 use Rattle.pfr_description.specs.declared.region.HashKind.TheVariants.{Sha256, Sha384}
@@ -30,7 +30,7 @@ region_of active region = record {
   reserved = zeros 4;
   start = region.start;
   end = region.end;
-  hash = hash_of region.hash (bytes_of active region);
+  hash = hash_of region.hash (bytes_between active region.start region.end);
 }
 
 unfoldable pub rule_of : SmbusDescription → Rule

@@ -4,12 +4,12 @@ use Rattle.std.specs.Str.{bytes_eq}
 use Rattle.sha2.specs.Sha256.{sha256}
 use Rattle.sha2.specs.Sha512.{sha384}
 use Rattle.pfr_flash.specs.Bytes.{bytes_at}
-use Rattle.pfr_manifest.specs.declared.region.Region.{Region}
 use Rattle.pfr_manifest.specs.declared.region.RegionHash.{RegionHash}
 use Rattle.pfr_manifest.specs.declared.region.RegionHash.TheVariants as hashes
 
-abbrev pub bytes_of : List ℕ → Region → List ℕ
-bytes_of image region = bytes_at image region.start (region.end - region.start)
+-- what stands from one place up to another
+abbrev pub bytes_between : List ℕ → ℕ → ℕ → List ℕ
+bytes_between image start end = bytes_at image start (end - start)
 
 -- These bytes have this hash. Without a hash any bytes will do.
 abbrev pub HasHash : List ℕ → RegionHash → Type 0

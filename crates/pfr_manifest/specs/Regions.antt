@@ -28,6 +28,11 @@ IsDigest hashes.None = Unit {0}
 IsDigest (hashes.Sha256 digest) = length digest ≡ 32
 IsDigest (hashes.Sha384 digest) = length digest ≡ 48
 
+-- what lies from one place up to another lies in a bank of this size
+pub record LiesInside (size start end : ℕ) : Type 0 where
+  pub begins : start ≤ end
+  pub ends : end ≤ size
+
 -- the region shares no byte with an area
 abbrev pub IsClearOf : Region → ℕ → ℕ → Type 0
 IsClearOf region at len = (region.end ≤ at) ⊎ (at + len ≤ region.start)

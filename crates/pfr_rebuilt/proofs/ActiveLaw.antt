@@ -2,7 +2,7 @@
 use Rattle.std.proofs.Common.{◌≡◌, ◌∙◌, ap, sym, refl, arith, ℕ, suc, zero, ◌+◌, ◌-◌, ◌*◌, ◌/◌, ◌≤◌, ◌<◌, ◌%◌, ◌==◌, ◌&&◌, ◌||◌, not, Bool, true, false, if◌then◌else◌, List, [], ◌∷◌, length, get_or, All, filter, ◌⊎◌, inl, inr}
 use Rattle.std.specs.Int.{bit_at}
 use Rattle.std.specs.List.{list_any}
-use Rattle.std.proofs.lemmas.Bool.{cases_lt, false≢true}
+use Rattle.std.proofs.lemmas.Bool.{cases_lt, and_from, or_left, or_right, false≢true}
 use Rattle.std.proofs.lemmas.Bool.Decides.{nat_tests}
 use Rattle.std.proofs.lemmas.List.{ext_get_or, get_or_past}
 use Rattle.pfr_flash.specs.Bytes.{AreBytes, blank, bytes_at}
@@ -10,7 +10,7 @@ use Rattle.pfr_flash.specs.Layout.{IsValidLayout}
 use Rattle.pfr_flash.specs.declared.layout.Layout.{Layout}
 use Rattle.pfr_flash.proofs.AreBytesLemmas.{AreBytes-bytes_at}
 use Rattle.pfr_flash.proofs.BytesLemmas.{length-bytes_at, get_or-bytes_at, length-blank, get_or-blank}
-use Rattle.pfr_manifest.specs.Hashes.{bytes_of}
+use Rattle.pfr_manifest.specs.Hashes.{bytes_between}
 use Rattle.pfr_manifest.specs.Regions.{IsRegion, is_static}
 use Rattle.pfr_manifest.specs.declared.region.Region.{Region}
 use Rattle.pfr_capsule.specs.CapsuleState.{CapsuleState}
@@ -31,18 +31,6 @@ use Rattle.pfr_rebuilt.specs.ActiveCopying.{is_taken, is_kept, is_active_page, a
 use Rattle.pfr_rebuilt.proofs.CopiedLaw.{text_fills, text_stands}
 
 -- ---- tests
-or_left : (a b : Bool) → a ≡ true → (a || b) ≡ true
-or_left true b h = refl
-or_left false b h = absurd (false≢true h)
-
-or_right : (a b : Bool) → b ≡ true → (a || b) ≡ true
-or_right true b h = refl
-or_right false b h = h
-
-both_true : (a b : Bool) → a ≡ true → b ≡ true → (a && b) ≡ true
-both_true true b h k = k
-both_true false b h k = absurd (false≢true h)
-
 any_kept : (p test : Region → Bool) (regions : List Region) (k : ℕ) (d : Region) → k < length regions → p (get_or regions k d) ≡ true → test (get_or regions k d) ≡ true → list_any test (filter p regions) ≡ true
 any_kept p test [] k d h passes is = absurd (omega arith)
 any_kept p test (r ∷ others) zero d h passes is = rw passes (or_left (test r) (list_any test (filter p others)) is)
@@ -206,7 +194,7 @@ module _ (kind : JobKind) (active : ¬ (kind ≡ RecoveryFromStaging)) (image : 
         let some : in_some_region (filter (λ (region : Region). is_taken kind region) capsule.manifest.regions) n ≡ true =
         any_kept (λ (region : Region). is_taken kind region) (λ (region : Region). has_page region n) capsule.manifest.regions k d h (static_taken kind (get_or capsule.manifest.regions k d) active static) has in
         let one : is_active_page kind image capsule layout n ≡ true =
-        or_right (holds_text layout.manifest_at layout.manifest_len n) _ (both_true _ (not (is_kept (page_of image capsule.pages n))) some (ap not not_kept)) in
+        or_right (holds_text layout.manifest_at layout.manifest_len n) _ (and_from _ (not (is_kept (page_of image capsule.pages n))) some (ap not not_kept)) in
         let outside : holds_text layout.manifest_at layout.manifest_len n ≡ false = not_held n p.low p.high is_region.clear_of_manifest in
         let is : active_page image capsule layout n ≡ page_bytes image (page_of image capsule.pages n) =
         ap (λ (b : Bool). if b then text_page (bytes_at image capsule.signed_manifest.at capsule.signed_manifest.len) (4096 * n - layout.manifest_at) else page_bytes image (page_of image capsule.pages n)) outside in
@@ -221,7 +209,7 @@ module _ (kind : JobKind) (active : ¬ (kind ≡ RecoveryFromStaging)) (image : 
         not_held n low high (inl before) = grind (arith, nat_tests)
         not_held n low high (inr behind) = grind (arith, nat_tests)
 
-    pub region_restored : bytes_of (active_rebuilt kind image capsule layout) (get_or capsule.manifest.regions k d) ≡ region_bytes image capsule.pages (get_or capsule.manifest.regions k d)
+    pub region_restored : bytes_between (active_rebuilt kind image capsule layout) (get_or capsule.manifest.regions k d).start (get_or capsule.manifest.regions k d).end ≡ region_bytes image capsule.pages (get_or capsule.manifest.regions k d)
     region_restored =
         let is_region : IsRegion layout (length image) (get_or capsule.manifest.regions k d) = regions k d h in
         region_holds (active_rebuilt kind image capsule layout) image capsule.pages (get_or capsule.manifest.regions k d) is_region.start_aligned is_region.end_aligned (λ n p. region_page n p)

@@ -1,5 +1,5 @@
 -- Which operations leave a good capsule, and a bank that can be recovered.
-use Rattle.std.proofs.Common.{◌≡◌, ◌∙◌, ap, sym, subst, ℕ, ◌+◌, ◌≤◌, ◌%◌, List, length, Result, Ok}
+use Rattle.std.proofs.Common.{◌≡◌, ◌∙◌, ap, sym, subst, ℕ, ◌+◌, ◌≤◌, ◌%◌, List, length, Ok}
 use Rattle.pfr_flash.specs.Bytes.{bytes_at}
 use Rattle.pfr_flash.specs.Layout.{IsValidLayout}
 use Rattle.pfr_flash.specs.Operation.{Operation, applied}
@@ -14,7 +14,6 @@ use Rattle.pfr_fuses.specs.FusesOf.{fuses_of}
 use Rattle.pfr_fuses.specs.RootSlot.{layout_of}
 use Rattle.pfr_capsule.specs.CapsuleState.{CapsuleState}
 use Rattle.pfr_capsule.specs.Good.{IsGood}
-use Rattle.pfr_fuses.specs.declared.fuse_fail.FuseFail.{FuseFail}
 use Rattle.pfr_capsule.proofs.GoodFacts.{good_within}
 use Rattle.pfr_capsule.proofs.MovedLaw.{good_moved, capsule_moved, digest_moved}
 use Rattle.pfr_jobs.specs.declared.job.JobKind.TheVariants.{RecoveryFromStaging}
@@ -34,14 +33,8 @@ module _ (image nv : List ℕ) (place len : ℕ) (bank : Bank) (accepts : Accept
   digest_left = ap (λ (c : CapsuleState). c.digest) (capsule_moved image (applied image op) nv place place len len bank accepts g (sym (length-applied image op)) blocks here (good_within image nv place len bank accepts g))
       ∙ digest_moved image (applied image op) nv place place len len bank accepts g (sym (length-applied image op)) blocks here (good_within image nv place len bank accepts g)
 
-abbrev found_fuses : FusesState → Result FusesState FuseFail
-found_fuses fuses = Ok fuses
-
-same_ok : (a b : FusesState) → found_fuses a ≡ found_fuses b → a ≡ b
-same_ok a b h = cc
-
 pub fuses_one : (nv : List ℕ) (a b : FusesState) → fuses_of nv ≡ Ok a → fuses_of nv ≡ Ok b → a ≡ b
-fuses_one nv a b p q = same_ok a b (sym p ∙ q)
+fuses_one nv a b p q = cc
 
 -- An operation of the bank that leaves its recovery area leaves it good.
 pub recovery_left : (bank : Bank) (image nv : List ℕ) (accepts : Acceptance) (r : HasGoodRecovery bank image nv accepts) (op : Operation) → length image % 65536 ≡ 0

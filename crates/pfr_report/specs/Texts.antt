@@ -1,11 +1,13 @@
 -- The lines of a report.
 use Rattle.std.specs.Prelude.{◌≡◌, ◌⊎◌, ℕ, List, [], ◌∷◌, ◌++◌, Option, Some, None, codes, decimal}
 use Rattle.std.specs.List.{flat_map}
+use Rattle.pfr_flash.specs.Answer.{IsFound}
+use Rattle.pfr_auth.specs.Answer.{active_failure}
 use Rattle.pfr_flash.specs.declared.names.Bank.{Bank}
 use Rattle.pfr_flash.specs.declared.names.Bank.TheVariants as bank
 use Rattle.pfr_flash.specs.declared.names.Device.{Device}
 use Rattle.pfr_flash.specs.declared.names.Device.TheVariants as device
-use Rattle.pfr_report.specs.Words.{rule_word, active_text, capsule_text, IsFound, AreFound}
+use Rattle.pfr_report.specs.Words.{rule_word, active_text, capsule_text, AreFound}
 use Rattle.pfr_report.specs.declared.note.LockWhy.{LockWhy}
 use Rattle.pfr_report.specs.declared.note.LockWhy.TheVariants.{Unprovisioned, SlotsSpent, Layout, FlashFault, StoreFault, NotRestored, NoGoodImage}
 use Rattle.pfr_report.specs.declared.note.ProvisionWhy.{ProvisionWhy}
@@ -68,7 +70,7 @@ report notes = flat_map note_text notes
 
 -- a note's cause is no failed device
 abbrev pub HasText : What → Type 0
-HasText (Untrusted bank why) = IsFound why
+HasText (Untrusted bank why) = IsFound active_failure why
 HasText (Locked bank (NoGoodImage active recovery) counts) = AreFound active recovery
 HasText what = Unit {0}
 

@@ -1,17 +1,18 @@
 -- The lines of a bank's verdict.
 use Rattle.std.specs.Prelude.{ℕ, List, [], ◌++◌, Bool, true, false, Result, Ok, Err, IfErr, codes, decimal}
+use Rattle.pfr_flash.specs.Answer.{IsFound}
+use Rattle.pfr_auth.specs.Answer.{active_failure}
 use Rattle.pfr_flash.specs.declared.names.Bank.{Bank}
 use Rattle.pfr_auth.specs.declared.fail.ActiveFail.{ActiveFail}
 use Rattle.pfr_auth.specs.declared.areas.Area.{Area}
 use Rattle.pfr_auth.specs.declared.areas.Area.TheVariants.{Recovery, Staging}
-use Rattle.pfr_flash.specs.Answer as answers
 use Rattle.pfr_capsule.specs.Answer.{capsule_failure}
 use Rattle.pfr_capsule.specs.declared.fail.CapsuleFail.{CapsuleFail}
 use Rattle.pfr_jobs.specs.declared.job.JobKind.{JobKind}
 use Rattle.pfr_jobs.specs.declared.job.JobKind.TheVariants.{ActiveFromRecovery, ActiveFromStaging, RecoveryFromStaging}
 use Rattle.pfr_jobs.specs.declared.job.OpenJob.{OpenJob}
 use Rattle.pfr_jobs.specs.declared.job.OpenJob.TheVariants as job
-use Rattle.pfr_report.specs.Words.{rule_word, active_text, capsule_text, IsFound}
+use Rattle.pfr_report.specs.Words.{rule_word, active_text, capsule_text}
 use Rattle.pfr_report.specs.Texts.{bank_word}
 use Rattle.pfr_report.specs.declared.verdict.Standing.{Standing}
 use Rattle.pfr_report.specs.declared.verdict.Standing.TheVariants.{Unprovisioned, SlotsSpent, LayoutBad, Ready}
@@ -69,6 +70,6 @@ verdict_text bank verdict = lines_by verdict.standing bank verdict
 
 -- no cause in a verdict is a failed device
 pub record HasCauses (verdict : BankVerdict) : Type 0 where
-  pub active : IfErr verdict.active IsFound
-  pub recovery : IfErr verdict.recovery (answers.IsFound capsule_failure)
-  pub staging : IfErr verdict.staging (answers.IsFound capsule_failure)
+  pub active : IfErr verdict.active (IsFound active_failure)
+  pub recovery : IfErr verdict.recovery (IsFound capsule_failure)
+  pub staging : IfErr verdict.staging (IsFound capsule_failure)

@@ -1,12 +1,12 @@
 -- The words of causes.
-use Rattle.std.specs.Prelude.{◌≡◌, ℕ, List, [], ◌++◌, codes, decimal, Option, Some, None}
+use Rattle.std.specs.Prelude.{ℕ, List, [], ◌++◌, codes, decimal, Option, Some, None}
+use Rattle.pfr_flash.specs.Answer.{IsFound}
 use Rattle.pfr_flash.specs.declared.layout.LayoutRule.{LayoutRule}
 use Rattle.pfr_flash.specs.declared.layout.LayoutRule.TheVariants as rule
 use Rattle.pfr_chain.specs.declared.fail.ChainFail.{ChainFail}
 use Rattle.pfr_chain.specs.declared.fail.ChainFail.TheVariants as chain
 use Rattle.pfr_manifest.specs.declared.fail.ManifestFail.{ManifestFail}
 use Rattle.pfr_manifest.specs.declared.fail.ManifestFail.TheVariants as manifest
-use Rattle.pfr_flash.specs.Answer as answers
 use Rattle.pfr_capsule.specs.Answer.{capsule_failure}
 use Rattle.pfr_capsule.specs.declared.fail.CapsuleFail.{CapsuleFail}
 use Rattle.pfr_capsule.specs.declared.fail.CapsuleFail.TheVariants as capsule
@@ -133,11 +133,7 @@ capsule_number cause = None
 abbrev pub capsule_text : CapsuleFail → List ℕ
 capsule_text cause = capsule_kind cause ++ numbered (capsule_word cause) (capsule_number cause)
 
--- it is found in the bytes, and is no failure of the device
-abbrev pub IsFound : ActiveFail → Type 0
-IsFound cause = active_failure cause ≡ None
-
 -- both causes of a bank without a good image are such
 pub record AreFound (active : ActiveFail) (recovery : CapsuleFail) : Type 0 where
-  pub first : IsFound active
-  pub second : answers.IsFound capsule_failure recovery
+  pub first : IsFound active_failure active
+  pub second : IsFound capsule_failure recovery

@@ -1,8 +1,9 @@
 // The text of a cause that is found in a bank's bytes.
 ghost use Rattle.std.specs.Prelude.{◌≡◌, [], codes, None, Some};
-ghost use Rattle.pfr_flash.specs.Answer as answers;
+ghost use Rattle.pfr_flash.specs.Answer.{IsFound};
+ghost use Rattle.pfr_auth.specs.Answer.{active_failure};
 ghost use Rattle.pfr_capsule.specs.Answer.{capsule_failure};
-ghost use Rattle.pfr_report.specs.Words.{IsFound, active_kind, active_word, active_number, capsule_kind, capsule_word, capsule_number, colon, digits, manifest_number, manifest_word};
+ghost use Rattle.pfr_report.specs.Words.{active_kind, active_word, active_number, capsule_kind, capsule_word, capsule_number, colon, digits, manifest_number, manifest_word};
 
 use crate::cause_words::{chain_word, manifest_number, manifest_word};
 use itoa::Buffer;
@@ -82,7 +83,7 @@ pub fn manifest_cause(why: ManifestFail) -> Cause
 
 /// The cause of an active image that isn't trusted.
 pub fn active_cause(why: ActiveFail) -> Cause
-    requires { IsFound why }
+    requires { IsFound active_failure why }
     ensures kind { result.kind.now ≡ active_kind why }
     ensures word { result.word.now ≡ active_word why }
     ensures number { result.number ≡ active_number why }
@@ -102,7 +103,7 @@ pub fn active_cause(why: ActiveFail) -> Cause
 
 /// The cause of a capsule that isn't good.
 pub fn capsule_cause(why: CapsuleFail) -> Cause
-    requires { answers.IsFound capsule_failure why }
+    requires { IsFound capsule_failure why }
     ensures kind { result.kind.now ≡ capsule_kind why }
     ensures word { result.word.now ≡ capsule_word why }
     ensures number { result.number ≡ capsule_number why }

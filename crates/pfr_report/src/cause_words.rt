@@ -9,6 +9,7 @@ use pfr_chain::ChainFail;
 use pfr_flash::{Bank, Device, LayoutRule};
 use pfr_manifest::ManifestFail;
 
+/// The name of a bank, as lines spell it.
 pub fn bank_word(bank: Bank) -> &'static [u8]
     ensures { result.now ≡ bank_word bank }
 {
@@ -75,6 +76,7 @@ pub fn lost_word(device: Option<Device>) -> &'static [u8]
     }
 }
 
+/// The word of a chain's cause, which is no failed device.
 pub fn chain_word(cause: ChainFail) -> &'static [u8]
     requires { chain_failure cause ≡ None }
     ensures { result.now ≡ chain_word cause }

@@ -1,7 +1,9 @@
 // The line of a note.
 ghost use Rattle.std.specs.Prelude.{None, ◌≡◌, ◌++◌, ℕ, codes, decimal};
+ghost use Rattle.pfr_flash.specs.Answer.{IsFound};
+ghost use Rattle.pfr_auth.specs.Answer.{active_failure};
 ghost use Rattle.pfr_shelf.specs.Pieces.{Writes};
-ghost use Rattle.pfr_report.specs.Words.{active_text, AreFound, IsFound};
+ghost use Rattle.pfr_report.specs.Words.{active_text, AreFound};
 ghost use Rattle.pfr_report.specs.Texts.{bank_word, lock_word, note_text, HasText};
 ghost use Rattle.pfr_report.specs.declared.note.LockWhy.TheVariants.{NoGoodImage};
 
@@ -21,7 +23,7 @@ fn write_untrusted<K: Sink>(
     why: ActiveFail,
     out: &mut K,
 ) -> Result<(), SinkFail>
-    requires { IsFound why }
+    requires { IsFound active_failure why }
     ensures { Writes K.tells K.written K.faults out.old out.new
         (decimal item ++ (codes " " ++ ((bank_word bank ++ (codes " untrusted " ++ active_text why)) ++ codes "\n"))) result }
 {

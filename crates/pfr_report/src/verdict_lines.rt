@@ -1,9 +1,10 @@
 // The lines of a bank's verdict.
 ghost use Rattle.std.specs.Prelude.{◌≡◌, ◌++◌, [], codes, decimal, IfErr};
+ghost use Rattle.pfr_flash.specs.Answer.{IsFound};
+ghost use Rattle.pfr_auth.specs.Answer.{active_failure};
 ghost use Rattle.pfr_shelf.specs.Pieces.{Writes};
-ghost use Rattle.pfr_flash.specs.Answer as answers;
 ghost use Rattle.pfr_capsule.specs.Answer.{capsule_failure};
-ghost use Rattle.pfr_report.specs.Words.{active_text, capsule_text, rule_word, IsFound};
+ghost use Rattle.pfr_report.specs.Words.{active_text, capsule_text, rule_word};
 ghost use Rattle.pfr_report.specs.Verdicts.{area_text, area_word, image_text, job_word, judged_lines, kind_word, line, verdict_text, yes_or_no, HasCauses};
 
 use crate::cause::{active_cause, capsule_cause};
@@ -79,7 +80,7 @@ fn write_number<K: Sink>(
 
 // The line of an active image that isn't trusted.
 fn write_untrusted<K: Sink>(bank: Bank, why: ActiveFail, out: &mut K) -> Result<(), SinkFail>
-    requires { IsFound why }
+    requires { IsFound active_failure why }
     ensures { Writes K.tells K.written K.faults out.old out.new (line bank (codes "active ") (codes "untrusted " ++ active_text why)) result }
 {
     let cause = active_cause(why);
@@ -105,7 +106,7 @@ fn write_active<K: Sink>(
     active: Result<u8, ActiveFail>,
     out: &mut K,
 ) -> Result<(), SinkFail>
-    requires { IfErr active IsFound }
+    requires { IfErr active (IsFound active_failure) }
     ensures { Writes K.tells K.written K.faults out.old out.new (line bank (codes "active ") (image_text active)) result }
 {
     match active {
@@ -135,7 +136,7 @@ fn write_good<K: Sink>(bank: Bank, area: Area, svn: u8, out: &mut K) -> Result<(
 
 // The line of an area whose capsule isn't good.
 fn write_bad<K: Sink>(bank: Bank, area: Area, why: CapsuleFail, out: &mut K) -> Result<(), SinkFail>
-    requires { answers.IsFound capsule_failure why }
+    requires { IsFound capsule_failure why }
     ensures { Writes K.tells K.written K.faults out.old out.new (line bank (area_word area) (codes " " ++ (codes "bad " ++ capsule_text why))) result }
 {
     let cause = capsule_cause(why);
@@ -164,7 +165,7 @@ fn write_area<K: Sink>(
     found: Result<u8, CapsuleFail>,
     out: &mut K,
 ) -> Result<(), SinkFail>
-    requires { IfErr found (answers.IsFound capsule_failure) }
+    requires { IfErr found (IsFound capsule_failure) }
     ensures { Writes K.tells K.written K.faults out.old out.new (line bank (area_word area) (codes " " ++ area_text found)) result }
 {
     match found {

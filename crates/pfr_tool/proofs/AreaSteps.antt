@@ -1,10 +1,10 @@
 -- What stands in an area of an image.
 use Rattle.std.proofs.Common.{◌≡◌, ℕ, zero, suc, ◌+◌, ◌-◌, ◌≤◌, List, [], ◌∷◌, ◌++◌, length, drop, replicate, refl, ◌∙◌, ap, arith}
-use Rattle.std.proofs.lemmas.List.{length-replicate}
 use Rattle.pfr_flash.specs.Bytes.{written}
 use Rattle.pfr_flash.proofs.BytesLemmas.{put_mid_is, length-written}
 use borrow.Rule.Slice.PartMut.{put_mid}
 use Rattle.pfr_made.specs.Fields.{blanks, filled}
+use Rattle.pfr_made.proofs.AreasMade.{length-blanks}
 use Rattle.pfr_made.specs.Made.{with_area}
 
 -- bytes that are written over the first of those that were written
@@ -24,10 +24,6 @@ drop_blanks zero zero = refl
 drop_blanks zero (suc k) = let e : zero - suc k ≡ zero = omega arith in rw e refl
 drop_blanks (suc n) zero = let e : suc n - zero ≡ suc n = omega arith in rw e refl
 drop_blanks (suc n) (suc k) = let e : suc n - suc k ≡ n - k = omega arith in rw e (drop_blanks n k)
-
-length-blanks : (n : ℕ) → length (blanks n) ≡ n
-unfolding blanks
-length-blanks n = length-replicate n 255
 
 blanks_then : (image : List ℕ) (at len : ℕ) (bytes : List ℕ) → length bytes ≤ len
     → written (written image at (blanks len)) at bytes ≡ with_area image at len bytes

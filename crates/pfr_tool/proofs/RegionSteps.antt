@@ -1,5 +1,6 @@
 -- Regions that are judged, or made blank, one after the other.
-use Rattle.std.proofs.Common.{◌≡◌, ℕ, ◌+◌, ◌-◌, ◌<◌, ◌≤◌, Bool, true, false, List, length, drop, get_or, replicate, Ok, Err, refl, sym, ap, arith, if◌then◌else◌}
+use Rattle.std.proofs.Common.{◌≡◌, ℕ, ◌+◌, ◌-◌, ◌<◌, ◌≤◌, true, false, List, length, drop, get_or, replicate, Ok, Err, refl, sym, ap, arith}
+use Rattle.std.proofs.lemmas.Bool.{cond-true, cond-false}
 use Rattle.std.proofs.lemmas.List.{drop_more, drop_all, length-replicate}
 use Rattle.pfr_flash.specs.declared.layout.Layout.{Layout}
 use Rattle.pfr_flash.proofs.BytesLemmas.{put_mid_is}
@@ -8,7 +9,7 @@ use borrow.Rule.Slice.PartMut.{put_mid}
 use Rattle.pfr_made.specs.Fields.{blanks}
 use Rattle.pfr_made.specs.Images.{is_blank, blanked, active_of}
 use Rattle.pfr_made.specs.Entries.{judge_next, judge_regions}
-use Rattle.pfr_made.specs.Regions.{IsInside}
+use Rattle.pfr_manifest.specs.Regions.{LiesInside}
 use Rattle.pfr_description.specs.declared.region.RegionDescription.{RegionDescription}
 
 -- a region that passes leaves the others to be judged
@@ -30,32 +31,24 @@ pub passed_all : (k s e : ℕ) (xs : List RegionDescription) (layout : Layout) (
 unfolding judge_regions
 passed_all k s e xs layout size h = rw (drop_all k xs h) refl
 
-if_true : {X : Type 0} (b : Bool) (x y : X) → b ≡ true → (if b then x else y) ≡ x
-if_true true x y h = refl
-if_true false x y h = cc
-
-if_false : {X : Type 0} (b : Bool) (x y : X) → b ≡ false → (if b then x else y) ≡ y
-if_false true x y h = cc
-if_false false x y h = refl
-
 pub blank_first : (xs : List RegionDescription) (i : ℕ) (image : List ℕ) (d : RegionDescription) → i < length xs → is_blank (get_or xs i d) ≡ true
     → active_of (drop (i + 1) xs) (blanked (get_or xs i d) image) ≡ active_of (drop i xs) image
 unfolding active_of
 blank_first xs i image d h blank =
-    rw (drop_more xs i d h) (ap (λ (im : List ℕ). active_of (drop (i + 1) xs) im) (sym (if_true (is_blank (get_or xs i d)) (blanked (get_or xs i d) image) image blank)))
+    rw (drop_more xs i d h) (ap (λ (im : List ℕ). active_of (drop (i + 1) xs) im) (sym (cond-true (is_blank (get_or xs i d)) (blanked (get_or xs i d) image) image blank)))
 
 pub leave_first : (xs : List RegionDescription) (i : ℕ) (image : List ℕ) (d : RegionDescription) → i < length xs → is_blank (get_or xs i d) ≡ false
     → active_of (drop (i + 1) xs) image ≡ active_of (drop i xs) image
 unfolding active_of
 leave_first xs i image d h blank =
-    rw (drop_more xs i d h) (ap (λ (im : List ℕ). active_of (drop (i + 1) xs) im) (sym (if_false (is_blank (get_or xs i d)) (blanked (get_or xs i d) image) image blank)))
+    rw (drop_more xs i d h) (ap (λ (im : List ℕ). active_of (drop (i + 1) xs) im) (sym (cond-false (is_blank (get_or xs i d)) (blanked (get_or xs i d) image) image blank)))
 
 pub none_left : (xs : List RegionDescription) (i : ℕ) (image : List ℕ) → length xs ≤ i → active_of (drop i xs) image ≡ image
 unfolding active_of
 none_left xs i image h = rw (drop_all i xs h) refl
 
 -- a part of an image that is filled with 0xFF
-pub filled_region : (image part : List ℕ) (region : RegionDescription) → IsInside (length image) region
+pub filled_region : (image part : List ℕ) (region : RegionDescription) → LiesInside (length image) region.start region.end
     → part ≡ replicate (region.end - region.start) 255
     → put_mid region.start (region.end - region.start) image part ≡ blanked region image
 unfolding blanked blanks
@@ -63,6 +56,6 @@ filled_region image part region inside filled =
     let n : ℕ = region.end - region.start in
     let long : length (replicate (region.end - region.start) 255) ≡ region.end - region.start = length-replicate (region.end - region.start) 255 in
     let lies : region.start + length (replicate (region.end - region.start) 255) ≤ length image =
-    let a : region.start ≤ region.end = inside.ordered in
-    let b : region.end ≤ length image = inside.within in omega arith in
+    let a : region.start ≤ region.end = inside.begins in
+    let b : region.end ≤ length image = inside.ends in omega arith in
     rw filled (put_mid_is image region.start (replicate (region.end - region.start) 255) (region.end - region.start) lies (sym long))

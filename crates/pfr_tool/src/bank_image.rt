@@ -5,10 +5,11 @@ ghost use Rattle.pfr_made.specs.Trust.{IsWorthy};
 ghost use Rattle.pfr_flash.specs.Layout.{IsValidLayout};
 ghost use Rattle.pfr_made.specs.Capsules.{signed_capsule};
 ghost use Rattle.pfr_made.specs.Images.{active_of, signed_manifest};
-ghost use Rattle.pfr_made.specs.Judge.{IsPlaced, Judged, judge_image, of_manifest, require_fit};
+ghost use Rattle.pfr_flash.specs.Judging.{told_as};
+ghost use Rattle.pfr_made.specs.Judge.{IsPlaced, Judged, judge_image, require_fit};
 ghost use Rattle.pfr_made.specs.Made.{active_image, with_areas, flash_of, rows_of, judge_given, judge_fits, judge_bank};
 ghost use Rattle.pfr_made.specs.Entries.{judge_entries};
-ghost use Rattle.pfr_made.specs.Regions.{IsInside};
+ghost use Rattle.pfr_manifest.specs.Regions.{LiesInside};
 ghost use Rattle.std.specs.List.{All};
 
 use crate::capsule::signed_capsule;
@@ -35,7 +36,7 @@ pub struct Made {
 
 // makes the regions blank whose digest is that of blank pages
 fn blank_regions(image: &mut [u8], regions: &[RegionDescription])
-    requires { All (IsInside (length image.old)) regions.now }
+    requires { All (λ region. LiesInside (length image.old) region.start region.end) regions.now }
     ensures { image.new ≡ active_of regions.now image.old }
 {
     for region in regions {
@@ -47,7 +48,7 @@ fn blank_regions(image: &mut [u8], regions: &[RegionDescription])
 
 // the image with what the description makes blank
 fn active_image(alloc: Global, part: &BankDescription, image: &[u8]) -> Result<Vec<u8>, NoMemory>
-    requires { All (IsInside (length image.now)) part.now.regions }
+    requires { All (λ region. LiesInside (length image.now) region.start region.end) part.now.regions }
     ensures bytes { IfOk result (λ active. active.items ≡ active_of part.now.regions image.now) }
     ensures len { IfOk result (λ active. vec_len active ≡ length image.now) }
 {
@@ -71,8 +72,8 @@ fn check_image(desc: &Description, bank: Bank, image: &[u8]) -> Result<(), DescW
 
 // What a manifest would have of the description.
 fn check_manifest(bank: Bank, part: &BankDescription) -> Result<(), DescWhy>
-    ensures exact { result ≡ of_manifest bank (judge_entries part.now) }
-    ensures inside { OnOk result (All (IsInside part.now.size) part.now.regions) }
+    ensures exact { result ≡ told_as (DescWhy.Manifest bank) (judge_entries part.now) }
+    ensures inside { OnOk result (All (λ region. LiesInside part.now.size region.start region.end) part.now.regions) }
 {
     match check_entries(part) {
         Ok(()) => Ok(()),
@@ -85,7 +86,7 @@ fn check_manifest(bank: Bank, part: &BankDescription) -> Result<(), DescWhy>
 fn check_given(desc: &Description, bank: Bank, image: &[u8]) -> Result<(), DescWhy>
     ensures exact { result ≡ judge_given desc.now bank image.now }
     ensures placed { OnOk result (IsPlaced (bank_of desc.now bank) × (length image.now ≡ (bank_of desc.now bank).size)) }
-    ensures inside { OnOk result (All (IsInside (length image.now)) (bank_of desc.now bank).regions) }
+    ensures inside { OnOk result (All (λ region. LiesInside (length image.now) region.start region.end) (bank_of desc.now bank).regions) }
     ensures judged { (why : DescWhy) → judge_image bank (bank_of desc.now bank) image.now ≡ Err why → result ≡ Err why }
 {
     check_image(desc, bank, image)?;
@@ -135,7 +136,7 @@ fn make_parts(
     staged: &[u8],
 ) -> Result<Parts, DescFail>
     requires size { length image.now ≡ (bank_of desc.now bank).size }
-    requires inside { All (IsInside (length image.now)) (bank_of desc.now bank).regions }
+    requires inside { All (λ region. LiesInside (length image.now) region.start region.end) (bank_of desc.now bank).regions }
     ensures active { IfOk result (λ parts. parts.active.items ≡ active_image desc.now bank image.now) }
     ensures len { IfOk result (λ parts. vec_len parts.active ≡ length image.now) }
     ensures manifest { IfOk result (λ parts. parts.manifest.items ≡ signed_manifest desc.now bank (active_image desc.now bank image.now)) }

@@ -1,6 +1,7 @@
 // Signature blocks, of 1,024 bytes in front of what they sign.
 ghost use Rattle.std.specs.Prelude.{◌≡◌, ◌+◌, ◌<◌, ◌^◌, ◌++◌, length, vec_len, OnOk, IfOk};
-ghost use Rattle.pfr_made.specs.Blocks.{magic_of_block0, stated_length, block0_bytes, block_in, rows_in, signed_bytes, signed_rows, root_block_in, root_row_in, root_signed_bytes, root_signed_row};
+ghost use Rattle.pfr_chain.specs.Block.{magic_of_block0};
+ghost use Rattle.pfr_made.specs.Blocks.{chain_form, stated_length, block0_bytes, block_in, rows_in, signed_bytes, signed_rows, root_block_in, root_row_in, root_signed_bytes, root_signed_row};
 
 use crate::writing::{pad, push_number};
 use crate::{form1, form2};
@@ -27,7 +28,7 @@ pub struct Signed {
 
 // Block 0's magic, and what stands behind the type: only form 2 states the block's length
 fn form_numbers(form: Form) -> (u32, u32)
-    ensures magic { result.0 ≡ magic_of_block0 form }
+    ensures magic { result.0 ≡ magic_of_block0 (chain_form form) }
     ensures length { result.1 ≡ stated_length form }
 {
     match form {

@@ -6,7 +6,7 @@ ghost use Rattle.pfr_description.specs.Banks.{bank_of};
 ghost use Rattle.pfr_made.specs.Manifests.{hash_of, region_of, rule_of, entry_bytes, manifest_with, text_of};
 ghost use Rattle.pfr_made.specs.Judge.{Judged, fit_manifest};
 ghost use Rattle.pfr_made.specs.Images.{signed_manifest, manifest_rows};
-ghost use Rattle.pfr_made.specs.Regions.{IsInside};
+ghost use Rattle.pfr_manifest.specs.Regions.{LiesInside};
 
 use crate::block::{BLOCK, Signed, sign_content};
 use crate::region::{bytes_in, hash_info};
@@ -40,7 +40,7 @@ fn push_region(
     region: &RegionDescription,
     image: &[u8],
 ) -> Result<(), NoMemory>
-    requires { IsInside (length image.now) region.now }
+    requires { LiesInside (length image.now) region.now.start region.now.end }
     ensures { OnOk result (entries.new.items ≡ entries.old.items ++ region_bytes (region_of image.now region.now)) }
 {
     entries.extend_from_slice(&[1, region.mask])?;
@@ -56,7 +56,7 @@ fn push_regions(
     regions: &[RegionDescription],
     image: &[u8],
 ) -> Result<(), NoMemory>
-    requires { All (IsInside (length image.now)) regions.now }
+    requires { All (λ region. LiesInside (length image.now) region.start region.end) regions.now }
     ensures { OnOk result (entries.new.items ≡ entries.old.items ++ flat_map region_bytes (map (region_of image.now) regions.now)) }
 {
     for region in regions {
@@ -102,7 +102,7 @@ fn push_header(manifest: &mut Vec<u8>, part: &BankDescription, length: u32) -> R
 // the definitions of the regions, then of the rules
 #[tactic(auto, unfolding(pfr_made::specs::Manifests::entry_bytes))]
 fn entries_of(alloc: Global, part: &BankDescription, image: &[u8]) -> Result<Vec<u8>, NoMemory>
-    requires { All (IsInside (length image.now)) part.now.regions }
+    requires { All (λ region. LiesInside (length image.now) region.start region.end) part.now.regions }
     ensures { IfOk result (λ entries. entries.items ≡ entry_bytes part.now image.now) }
 {
     let mut entries = Vec::new(alloc);
@@ -119,7 +119,7 @@ fn manifest_of(
     part: &BankDescription,
     image: &[u8],
 ) -> Result<Vec<u8>, DescFail>
-    requires { All (IsInside (length image.now)) part.now.regions }
+    requires { All (λ region. LiesInside (length image.now) region.start region.end) part.now.regions }
     ensures bytes { IfOk result (λ manifest. manifest.items ≡ text_of part.now image.now) }
     ensures fits { IfOk result (λ manifest. 1024 + vec_len manifest ≤ part.now.layout.manifest_len) }
     ensures short { IfOk result (λ manifest. 1024 + vec_len manifest < 2 ^ 32) }
@@ -146,7 +146,7 @@ pub fn signed_manifest(
     bank: Bank,
     image: &[u8],
 ) -> Result<Signed, DescFail>
-    requires { All (IsInside (length image.now)) (bank_of desc.now bank).regions }
+    requires { All (λ region. LiesInside (length image.now) region.start region.end) (bank_of desc.now bank).regions }
     ensures bytes { IfOk result (λ signed. signed.bytes.items ≡ signed_manifest desc.now bank image.now) }
     ensures rows { IfOk result (λ signed. signed.rows.items ≡ manifest_rows desc.now bank image.now) }
     ensures fits { IfOk result (λ signed. vec_len signed.bytes ≤ (bank_of desc.now bank).layout.manifest_len) }

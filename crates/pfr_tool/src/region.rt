@@ -5,7 +5,8 @@ ghost use Rattle.pfr_made.specs.Images.{is_blank, blanked};
 ghost use Rattle.pfr_made.specs.Manifests.{hash_of};
 ghost use Rattle.pfr_made.specs.Pages.{has_bit, has_byte};
 ghost use Rattle.pfr_made.specs.Entries.{stretch_of};
-ghost use Rattle.pfr_made.specs.Regions.{bytes_of, IsInside};
+ghost use Rattle.pfr_manifest.specs.Hashes.{bytes_between};
+ghost use Rattle.pfr_manifest.specs.Regions.{LiesInside};
 
 use pfr_description::{HashKind, PageUse, RegionDescription};
 use pfr_made::PageMap;
@@ -41,15 +42,15 @@ pub fn stretch_of(region: &RegionDescription) -> Stretch
 
 /// The region's bytes.
 pub fn bytes_in<'a>(region: &RegionDescription, image: &'a [u8]) -> &'a [u8]
-    requires { IsInside (length image.now) region.now }
-    ensures { result.now ≡ bytes_of image.now region.now }
+    requires { LiesInside (length image.now) region.now.start region.now.end }
+    ensures { result.now ≡ bytes_between image.now region.now.start region.now.end }
 {
     &image[region.start as usize..region.end as usize]
 }
 
 /// Makes the region 0xFF.
 pub fn blank_in(region: &RegionDescription, image: &mut [u8])
-    requires { IsInside (length image.old) region.now }
+    requires { LiesInside (length image.old) region.now.start region.now.end }
     ensures { image.new ≡ blanked region.now image.old }
 {
     image[region.start as usize..region.end as usize].fill(0xFF);

@@ -2,7 +2,7 @@
 ghost use Rattle.std.specs.Prelude.{◌≡◌, OnOk};
 ghost use Rattle.std.specs.List.{All};
 ghost use Rattle.pfr_made.specs.Entries.{judge_next, judge_regions, judge_entries};
-ghost use Rattle.pfr_made.specs.Regions.{IsInside};
+ghost use Rattle.pfr_manifest.specs.Regions.{LiesInside};
 
 use crate::region::stretch_of;
 use pfr_description::{BankDescription, RegionDescription};
@@ -51,7 +51,7 @@ fn check_regions(
 #[tactic(auto, unfolding(pfr_made::specs::Entries::judge_entries))]
 pub fn check_entries(part: &BankDescription) -> Result<(), ManifestFail>
     ensures exact { result ≡ judge_entries part.now }
-    ensures inside { OnOk result (All (IsInside part.now.size) part.now.regions) }
+    ensures inside { OnOk result (All (λ region. LiesInside part.now.size region.start region.end) part.now.regions) }
 {
     if part.svn > GREATEST_SVN {
         return Err(ManifestFail::Svn);
