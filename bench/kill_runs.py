@@ -3,9 +3,10 @@
 
     kill_runs.py <program> [<kills>]
 
-makes the ordinary platform (images of 64 and 32 MiB), lets one run go to its end, and then kills 300 runs, or as many as are
-asked for, each at a moment between its start and one and a half times what the whole run took. It is no part of the gate.
-Its status is 1 where an image was torn.
+makes the ordinary platform (images of 64 and 32 MiB) with a blank store and a script that provisions it, lets one run go to its
+end, and then kills 300 runs, or as many as are asked for, each at a moment between its start and one and a half times what the
+whole run took. The run changes the store's image; those of the banks it stores as they were. It is no part of the gate. Its
+status is 1 where an image was torn.
 """
 
 import os
@@ -18,7 +19,8 @@ import tempfile
 import time
 
 IMAGES = ("bmc", "pch", "nv")
-FILES = IMAGES + ("engine", "power")
+FILES = IMAGES + ("engine", "script")
+SLOT_LENGTH = 72
 
 
 def read(folder, name):
@@ -51,6 +53,13 @@ def killed_run(program, folder, seconds):
 def put(folder, name, content):
     with open(os.path.join(folder, name), "wb") as file:
         file.write(content)
+
+
+def unprovision(folder):
+    """Makes the store blank, and a script that provisions it as it was."""
+    store = read(folder, "nv")
+    put(folder, "nv", b"\xff" * len(store))
+    put(folder, "script", f"provision {store[:SLOT_LENGTH].hex()}\npower\n".encode())
 
 
 def states_of(folder, old, new):
@@ -97,6 +106,7 @@ def main():
     folder = tempfile.mkdtemp()
     try:
         subprocess.run([sys.executable, maker, "ordinary", folder], check=True)
+        unprovision(folder)
         for name in set(os.listdir(folder)) - set(FILES):
             os.remove(os.path.join(folder, name))
         old = {name: read(folder, name) for name in IMAGES}

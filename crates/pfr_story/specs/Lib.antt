@@ -1,0 +1,6 @@
+pub mod Guards
+pub mod Story
+pub mod World
+pub mod Goes
+pub mod Safety
+pub mod Course
