@@ -1,3 +1,4 @@
 pub mod WorldLaws
 pub mod Sequence
+pub mod Lift
 pub mod SafetyLaws

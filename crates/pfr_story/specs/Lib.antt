@@ -1,5 +1,6 @@
 pub mod Guards
 pub mod Story
+pub mod Deeds
 pub mod World
 pub mod Goes
 pub mod Safety
