@@ -2,3 +2,6 @@ pub mod WorldLaws
 pub mod Sequence
 pub mod Lift
 pub mod SafetyLaws
+pub mod Courses
+pub mod Traces
+pub mod StepTraces

@@ -14,7 +14,7 @@ module _ (G : Rule) where
   AllSafe-left [] b story p = p
   AllSafe-left (move ∷ a) b story p = AllSafe-left a b (moved_by move story) p.1
 
-  AllGood-append : (a b : List Move) (story : Story) → AllGood G a story → AllGood G b (after a story) → AllGood G (a ++ b) story
+  pub AllGood-append : (a b : List Move) (story : Story) → AllGood G a story → AllGood G b (after a story) → AllGood G (a ++ b) story
   AllGood-append [] b story p q = q
   AllGood-append (move ∷ a) b story p q = (p.0, AllGood-append a b (moved_by move story) p.1 q)
 

@@ -1,5 +1,5 @@
 -- The platform's devices as they are, its notes and its guards.
-use Rattle.std.specs.Prelude.{◌≡◌, ◌≢◌, ℕ, ◌+◌, true}
+use Rattle.std.specs.Prelude.{◌≡◌, ◌≢◌, ℕ, ◌+◌, true, List, length, drop}
 use Rattle.pfr_flash.specs.FlashState.{FlashState, raised_by, Rose}
 use Rattle.pfr_flash.specs.Holding.{HoldsBytes}
 use Rattle.pfr_flash.specs.Moved.{Moved}
@@ -8,6 +8,7 @@ use Rattle.pfr_flash.specs.declared.flash.FlashFail.TheVariants.{Fault, Lost}
 use Rattle.pfr_flash.specs.declared.names.Device.{Device}
 use Rattle.pfr_flash.specs.declared.names.Device.TheVariants as device
 use Rattle.pfr_report.specs.NotesState.{NotesState}
+use Rattle.pfr_report.specs.declared.note.Note.{Note}
 use Rattle.pfr_story.specs.Guards.{Guards}
 use Rattle.pfr_story.specs.Story.{Past, Story}
 
@@ -19,6 +20,10 @@ pub record World : Type 0 where
   pub item : ℕ
   pub notes : NotesState
   pub guards : Guards
+
+-- the notes that were added
+abbrev pub added : World → World → List Note
+added old new = drop (length old.notes.list) new.notes.list
 
 abbrev pub past_of : FlashState → Past
 past_of d = record { start = d.start; ops = d.ops }
