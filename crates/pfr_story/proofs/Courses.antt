@@ -5,7 +5,7 @@ use Rattle.pfr_flash.specs.declared.names.Device.{Device}
 use Rattle.pfr_story.specs.Story.{Story, after}
 use Rattle.pfr_story.specs.World.{World, story_of, state_at, AllMoved, NoneLost, NoneFailed, NoneRose}
 use Rattle.pfr_story.specs.Goes.{Ran}
-use Rattle.pfr_story.specs.Course.{Stretch, Faults, LosesPower, CrossesOrFaults, Ends, goes_on_if, Steps, Halts, lost, calm_of}
+use Rattle.pfr_story.specs.Course.{Stretch, Faults, LosesPower, CrossesOrFaults, Ends, goes_on_if, Steps, Halts, lost, calm_of, Course, Follows, Calm}
 use Rattle.pfr_story.proofs.WorldLaws.{AllMoved-trans, faults_moved, losses_moved, NoneLost-at, NoneFailed-at}
 use Rattle.pfr_story.proofs.Sequence.{Ran-refl, Ran-append}
 
@@ -72,3 +72,8 @@ Steps-calm (s ∷ ss) old new (inl (mid, c, rest)) none_lost none_rose =
     (subst (λ (t : Story). Ran (calm_of ss t) mid new) c.is calm)
 Steps-calm (s ∷ ss) old new (inr (inl (mid, f, rest))) none_lost none_rose = absurd (none_rose f.which (fault_rose s old mid new f (moved_behind s ss mid new rest)))
 Steps-calm (s ∷ ss) old new (inr (inr l)) none_lost none_rose = absurd (omega (arith, l.stopped.cause.0.once, losses_moved l.which l.at new l.noted.moved, NoneLost-at l.which old new none_lost))
+
+-- A step in which no count of losses or faults rose is calm.
+pub Follows-calm : (c : Course) (old new : World) → Follows c old new → NoneLost old new → NoneRose old new → Calm c old new
+Follows-calm c old new (mid, first, rest) none_lost none_rose =
+    Steps-calm (record { plan = λ story. c.first; on_fault = lost; goes_on = false } ∷ c.stretches) old new (inl (mid, first, rest)) none_lost none_rose

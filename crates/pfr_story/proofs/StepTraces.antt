@@ -7,7 +7,7 @@ use Rattle.pfr_report.specs.declared.note.What.TheVariants.{Lost}
 use Rattle.pfr_story.specs.Story.{Story, Move, Says, after, IsCut}
 use Rattle.pfr_story.specs.World.{World, story_of, state_at, AllMoved, AreDevices}
 use Rattle.pfr_story.specs.Safety.{Rule, AllGood, Leads}
-use Rattle.pfr_story.specs.Course.{Stretch, Crosses, Faults, LosesPower, goes_on_if, Steps, lost}
+use Rattle.pfr_story.specs.Course.{Stretch, Crosses, Faults, LosesPower, goes_on_if, Steps, lost, Course, Follows}
 use Rattle.pfr_story.proofs.WorldLaws.{AllMoved-trans, faults_moved, losses_moved}
 use Rattle.pfr_story.proofs.Courses.{Steps-moved, moved_behind, fault_rose}
 use Rattle.pfr_story.proofs.Traces.{Traced, Traced-then, Traced-ran, Traced-whole, Traced-cut, AreImages, images_before}
@@ -69,3 +69,10 @@ module _ (G : Rule) (first last : World) (held : AreDevices last) (allows : Allo
       omega (arith, losses_moved l.which first old within.before, l.stopped.cause.0.once, losses_moved l.which l.at last (AllMoved-trans l.at new last l.noted.moved within.behind)) in
       Traced-then G old l.at new (Traced-cut G (s.plan (story_of old)) l.which Loses old l.at l.stopped (good.plan.safe (story_of old) here))
       (Traced-ran G (lost l.which) l.at new l.noted (allows l.which (story_of l.at) fell))
+
+-- Each move of a step along a course is good, from where what it notes first is, and its stretches from there.
+pub Follows-good : (G : Rule) (first last : World) (P : Story → Type 0) (c : Course) (old new : World) → Between first last old new → Follows c old new
+    → AllGood G c.first (story_of old) → P (after c.first (story_of old)) → AreGood G first last P c.stretches → Traced G old new
+Follows-good G first last P c old new within (mid, says, rest) good p stretches =
+    Traced-then G old mid new (Traced-ran G c.first old mid says good)
+    (stretches mid new (record { before = AllMoved-trans first old mid within.before says.moved; behind = within.behind }) (subst P (sym says.is) p) rest)

@@ -72,3 +72,16 @@ Halts (stretch ∷ stretches) which old new =
 abbrev pub calm_of : List Stretch → Plan
 calm_of [] story = []
 calm_of (stretch ∷ stretches) story = then stretch.plan (calm_of stretches) story
+
+-- What a step notes at first, without a device call, and the stretches that follow.
+pub record Course : Type 0 where
+  pub first : List Move
+  pub stretches : List Stretch
+
+-- a step along a course
+abbrev pub Follows : Course → World → World → Type 0
+Follows course old new = After (Ran course.first) (Steps course.stretches) old new
+
+-- the same where no call fails: all its moves are made
+abbrev pub Calm : Course → World → World → Type 0
+Calm course old new = Ran (then (λ story. course.first) (calm_of course.stretches) (story_of old)) old new

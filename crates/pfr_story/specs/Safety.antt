@@ -39,3 +39,10 @@ Both G H move story = G move story × H move story
 pub record Leads (G : Rule) (P : Story → Type 0) (plan : Plan) (Q : Story → Type 0) : Type 0 where
   pub safe : (story : Story) → P story → AllSafe G (plan story) story
   pub ends : (story : Story) → P story → Q (after (plan story) story)
+
+-- each device that these moves call is one of these
+abbrev pub AllCall : (Device → Type 0) → List Move → Type 0
+AllCall D [] = Unit {0}
+AllCall D (Says what ∷ moves) = AllCall D moves
+AllCall D (Does which op ∷ moves) = D which × AllCall D moves
+AllCall D (Asks which ∷ moves) = D which × AllCall D moves

@@ -1,5 +1,5 @@
 -- The platform's devices as they are, its notes and its guards.
-use Rattle.std.specs.Prelude.{◌≡◌, ◌≢◌, ℕ, ◌+◌, true, List, length, drop}
+use Rattle.std.specs.Prelude.{◌≡◌, ◌≢◌, ℕ, ◌+◌, true, false, List, length, drop}
 use Rattle.pfr_flash.specs.FlashState.{FlashState, raised_by, Rose}
 use Rattle.pfr_flash.specs.Holding.{HoldsBytes}
 use Rattle.pfr_flash.specs.Moved.{Moved}
@@ -53,6 +53,18 @@ pub record IsOn (w : World) : Type 0 where
   pub bmc : w.bmc.powered ≡ true
   pub pch : w.pch.powered ≡ true
   pub nv : w.nv.powered ≡ true
+
+-- no device has power
+pub record IsDark (w : World) : Type 0 where
+  pub bmc : w.bmc.powered ≡ false
+  pub pch : w.pch.powered ≡ false
+  pub nv : w.nv.powered ≡ false
+
+-- no device was called
+pub record SameDevices (old new : World) : Type 0 where
+  pub bmc : new.bmc ≡ old.bmc
+  pub pch : new.pch ≡ old.pch
+  pub nv : new.nv ≡ old.nv
 
 -- no device lost its power
 pub record NoneLost (old new : World) : Type 0 where
