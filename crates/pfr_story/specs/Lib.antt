@@ -5,3 +5,7 @@ pub mod World
 pub mod Goes
 pub mod Safety
 pub mod Course
+pub mod Standing
+pub mod Plans
+pub mod Causes
+pub mod Turn
