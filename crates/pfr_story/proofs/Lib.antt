@@ -6,3 +6,4 @@ pub mod CallLaws
 pub mod Courses
 pub mod Traces
 pub mod StepTraces
+pub mod Facts
