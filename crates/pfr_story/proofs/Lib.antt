@@ -7,3 +7,4 @@ pub mod Courses
 pub mod Traces
 pub mod StepTraces
 pub mod Facts
+pub mod Turns
