@@ -17,18 +17,19 @@ use Rattle.pfr_report.specs.Texts.{IsNoted}
 use Rattle.pfr_report.specs.declared.note.What.{What}
 use Rattle.pfr_report.specs.declared.note.What.TheVariants as what
 use Rattle.pfr_story.specs.Story.{Story, Says, Plan, device_of, called, after, then}
-use Rattle.pfr_story.specs.World.{World, story_of, state_at, NoneLost, NoneRose, added}
-use Rattle.pfr_story.specs.Safety.{AllSafe, AllCall, Leads}
-use Rattle.pfr_story.specs.Course.{Stretch, Course, Calm}
+use Rattle.pfr_story.specs.World.{World, story_of, state_at, AreDevices, NoneLost, NoneRose, added}
+use Rattle.pfr_story.specs.Safety.{AllGood, AllSafe, AllCall}
+use Rattle.pfr_story.specs.Course.{Stretch, Course, Follows, Calm}
 use Rattle.pfr_story.specs.Standing.{standing_of, is_off}
 use Rattle.pfr_story.specs.Plans.{store, provisioned_in, provisioned, migration_in}
-use Rattle.pfr_story.specs.Turn.{bank_stretch, fuse_stretch, provision_stretch, where_off, ignored, course, begun, Turn}
+use Rattle.pfr_story.specs.Turn.{bank_stretch, fuse_stretch, provision_stretch, where_off, ignored, power_course, off_course, provision_course, course, begun, Turn}
+use Rattle.pfr_story.specs.Promises.{IsSwitchedOff}
 use Rattle.pfr_story.proofs.WorldLaws.{AllMoved-refl}
 use Rattle.pfr_story.proofs.SafetyLaws.{AllSafe-append}
 use Rattle.pfr_story.proofs.CallLaws.{AllCall-append, AllCall-called, cut_calls}
 use Rattle.pfr_story.proofs.Courses.{Follows-calm}
 use Rattle.pfr_story.proofs.Traces.{Traced, Traced-known, KnownBefore}
-use Rattle.pfr_story.proofs.StepTraces.{WithBytes, IsGoodStretch, AreGood, AreGood-none, AreGood-next, Follows-good}
+use Rattle.pfr_story.proofs.StepTraces.{Between, AllowsLosses, IsGoodStretch, AreGood, AreGood-none, AreGood-next, Follows-good}
 use Rattle.pfr_story.proofs.Facts.{Setting, Fact, IsTrue, call_true, brought_true, IsOwn, brought_calls, lock_true}
 
 -- A step in which no count of losses or faults rose is calm.
@@ -87,3 +88,57 @@ module _ (s : Setting) where
         ((refl, nv), ((refl, nv), tt));
     on = λ which story trace p cut e. tt;
   }
+
+  -- ---- a whole step
+  -- the power is switched off at `off` alone, where the banks aren't off
+  abbrev pub MaySwitch : Event → World → Type 0
+  MaySwitch e old = IsSwitchedOff e old → s.IsSwitched
+
+  module _ (e : Event) (old new : World) (within : Between s.first s.last (begun old) new) where
+    allows : AllowsLosses (IsTrue s) s.first s.last
+    allows which story fell = ((refl, fell), tt)
+
+    along : (c : Course) → Follows c (begun old) new → AllGood (IsTrue s) c.first (story_of (begun old)) → AreGood (IsTrue s) s.first s.last Any c.stretches → Traced (IsTrue s) (begun old) new
+    along c t first stretches = Follows-good (IsTrue s) s.first s.last Any c (begun old) new within t first tt stretches
+
+    none : AreGood (IsTrue s) s.first s.last Any []
+    none = AreGood-none (IsTrue s) s.first s.last s.held allows Any
+
+    next : (stretch : Stretch) (stretches : List Stretch) → IsTrueStretch stretch → AreGood (IsTrue s) s.first s.last Any stretches → AreGood (IsTrue s) s.first s.last Any (stretch ∷ stretches)
+    next stretch stretches good rest = AreGood-next (IsTrue s) s.first s.last s.held allows Any Any stretch stretches good rest
+
+    ignored_true : Follows ignored (begun old) new → Traced (IsTrue s) (begun old) new
+    ignored_true t = along ignored t (tt, tt) none
+
+    off_true : (off : Bool) → (off ≡ false → s.IsSwitched) → Follows (where_off off ignored off_course) (begun old) new → Traced (IsTrue s) (begun old) new
+    off_true true may t = ignored_true t
+    off_true false may t = along off_course t ((refl, may refl), tt) none
+
+    try_true : (root : RootSlot) (off : Bool) → Follows (where_off off ignored (provision_course root)) (begun old) new → Traced (IsTrue s) (begun old) new
+    try_true root true t = ignored_true t
+    try_true root false t = along (provision_course root) t tt (next (provision_stretch root) [] (provision_true root) none)
+
+  pub Turn-true : (e : Event) (old new : World) → Between s.first s.last (begun old) new → MaySwitch e old → Turn s.accepts e old new → Traced (IsTrue s) (begun old) new
+  Turn-true event.Power old new within may t =
+      let pch = bank_stretch s.accepts bank.Pch in
+      let bmc = bank_stretch s.accepts bank.Bmc in
+      along event.Power old new within (power_course s.accepts) t (tt, tt)
+      (next event.Power old new within fuse_stretch (bmc ∷ pch ∷ []) fuse_true
+      (next event.Power old new within bmc (pch ∷ []) (bank_true bank.Bmc) (next event.Power old new within pch [] (bank_true bank.Pch) (none event.Power old new within))))
+  Turn-true event.Off old new within may t =
+      off_true event.Off old new within (is_off (standing_of bank.Bmc old.notes.list)) (λ off. may (λ on. absurd (let k = off in cc))) t
+  Turn-true (event.Provision root) old new within may t = try_true (event.Provision root) old new within root (is_off (standing_of bank.Bmc old.notes.list)) t
+
+-- a step between its own two ends
+unfoldable pub step_of : Acceptance → Event → (old new : World) → AreDevices new → Setting
+step_of accepts e old new held = record { accepts = accepts; first = old; last = new; IsSwitched = IsSwitchedOff e old; held = held }
+
+-- what is known of each note that a step added
+pub Turn-known : (accepts : Acceptance) (e : Event) (old new : World) (held : AreDevices new) → Turn accepts e old new → (that : What) → IsNoted (added old new) that
+    → KnownBefore (Fact (step_of accepts e old new held)) that (story_of new)
+unfolding step_of
+Turn-known accepts e old new held t that n =
+    let s : Setting = record { accepts = accepts; first = old; last = new; IsSwitched = IsSwitchedOff e old; held = held } in
+    let same = AllMoved-refl old in
+    let within : Between old new (begun old) new = record { before = record { bmc = same.bmc; pch = same.pch; nv = same.nv }; behind = AllMoved-refl new } in
+    Traced-known (IsTrue s) (Fact s) (λ w story g. g) (begun old) new (Turn-true s e old new within (λ off. off) t) that n

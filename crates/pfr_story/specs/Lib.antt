@@ -9,3 +9,4 @@ pub mod Standing
 pub mod Plans
 pub mod Causes
 pub mod Turn
+pub mod Promises

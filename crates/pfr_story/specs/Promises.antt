@@ -1,0 +1,69 @@
+-- What each step promises of its notes.
+use Rattle.std.specs.Prelude.{◌≡◌, ℕ, ◌<◌, List, Some, None, true}
+use Rattle.pfr_flash.specs.FlashState.{upto, Rose}
+use Rattle.pfr_flash.specs.declared.names.Bank.{Bank}
+use Rattle.pfr_flash.specs.declared.names.Bank.TheVariants as bank
+use Rattle.pfr_flash.specs.declared.names.Counts.{Counts}
+use Rattle.pfr_flash.specs.declared.names.Device.{Device}
+use Rattle.pfr_engine.specs.Acceptance.{Acceptance}
+use Rattle.pfr_auth.specs.declared.fail.ActiveFail.{ActiveFail}
+use Rattle.pfr_script.specs.declared.event.Event.{Event}
+use Rattle.pfr_script.specs.declared.event.Event.TheVariants as event
+use Rattle.pfr_report.specs.Texts.{IsNoted}
+use Rattle.pfr_report.specs.declared.note.LockWhy.{LockWhy}
+use Rattle.pfr_report.specs.declared.note.LockWhy.TheVariants as why
+use Rattle.pfr_report.specs.declared.note.What.TheVariants.{Released, Locked, Lost, Untrusted}
+use Rattle.pfr_story.specs.Story.{device_of}
+use Rattle.pfr_story.specs.World.{World, state_at, added}
+use Rattle.pfr_story.specs.Standing.{standing_of, is_off}
+use Rattle.pfr_story.specs.Causes.{IsTrustedWith, IsAgainst, IsDue}
+
+-- the count of a bank's operations
+abbrev pub count_at : Bank → Counts → ℕ
+count_at bank.Bmc counts = counts.bmc
+count_at bank.Pch counts = counts.pch
+
+-- something that is true of the bytes of a bank and of the store at these counts
+abbrev pub AtCounts : (List ℕ → List ℕ → Type 0) → Bank → Counts → World → Type 0
+AtCounts P which at w = P (upto (state_at (device_of which) w) (count_at which at)) (upto w.nv at.nv)
+
+-- Released is noted of a bank only where it was trusted at the counts of the note, with this security version number.
+abbrev pub ReleasesTrusted : Acceptance → World → World → Type 0
+ReleasesTrusted accepts old new = (which : Bank) (svn : ℕ) (at : Counts) → IsNoted (added old new) (Released which svn at)
+    → AtCounts (λ image nv. IsTrustedWith svn image nv which accepts) which at new
+
+-- a lock that is noted at a fault
+abbrev pub IsFaultLock : LockWhy → Type 0
+IsFaultLock why.FlashFault = Unit {0}
+IsFaultLock why.StoreFault = Unit {0}
+IsFaultLock cause = ⊥
+
+-- a bank is locked for a fault only where a count of faults rose: its own device's, or the store's
+pub record FaultsHaveCauses (old new : World) : Type 0 where
+  pub flash : (which : Bank) (at : Counts) → IsNoted (added old new) (Locked which why.FlashFault at)
+      → Rose (state_at (device_of which) old).faults (state_at (device_of which) new).faults
+  pub store : (which : Bank) (at : Counts) → IsNoted (added old new) (Locked which why.StoreFault at) → Rose old.nv.faults new.nv.faults
+
+-- Each other lock has its cause in the contents at its counts.
+abbrev pub LocksHaveCauses : Acceptance → World → World → Type 0
+LocksHaveCauses accepts old new = (which : Bank) (cause : LockWhy) (at : Counts) → IsNoted (added old new) (Locked which cause at) → ¬ IsFaultLock cause
+    → AtCounts (λ image nv. IsDue cause which image nv accepts) which at new
+
+-- An image is called untrusted only with the first cause against it, at a moment of the step; also where a call fails behind it.
+abbrev pub DistrustsWithCause : Acceptance → World → World → Type 0
+DistrustsWithCause accepts old new = (which : Bank) (cause : ActiveFail) → IsNoted (added old new) (Untrusted which cause)
+    → (at : Counts) × AtCounts (λ image nv. IsAgainst cause which image nv accepts) which at new
+
+-- both banks are off, or neither is
+abbrev pub AreOff : World → Type 0
+AreOff w = is_off (standing_of bank.Bmc w.notes.list) ≡ true
+
+-- the power is taken by an event: at `off`, where the banks aren't off
+abbrev pub IsSwitchedOff : Event → World → Type 0
+IsSwitchedOff event.Off old = ¬ AreOff old
+IsSwitchedOff e old = ⊥
+
+-- A loss of power is noted only of a device whose count of losses rose, and without a device only where the power was taken.
+pub record LossesHaveCauses (e : Event) (old new : World) : Type 0 where
+  pub device : (which : Device) (at : Counts) → IsNoted (added old new) (Lost (Some which) at) → (state_at which old).losses < (state_at which new).losses
+  pub switched : (at : Counts) → IsNoted (added old new) (Lost None at) → IsSwitchedOff e old
