@@ -8,3 +8,4 @@ pub mod Traces
 pub mod StepTraces
 pub mod Facts
 pub mod Turns
+pub mod NoteLaws

@@ -54,7 +54,7 @@ abbrev pub DistrustsWithCause : Acceptance → World → World → Type 0
 DistrustsWithCause accepts old new = (which : Bank) (cause : ActiveFail) → IsNoted (added old new) (Untrusted which cause)
     → (at : Counts) × AtCounts (λ image nv. IsAgainst cause which image nv accepts) which at new
 
--- both banks are off, or neither is
+-- the banks are off: both are, or neither
 abbrev pub AreOff : World → Type 0
 AreOff w = is_off (standing_of bank.Bmc w.notes.list) ≡ true
 
