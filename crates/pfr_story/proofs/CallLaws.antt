@@ -1,6 +1,6 @@
 -- Safe plans of calls.
 use Rattle.std.proofs.Common.{◌≡◌, ℕ, refl, subst, List, [], ◌∷◌, ◌++◌, inl, inr}
-use Rattle.pfr_flash.specs.Operation.{Operation, IsTorn, applied}
+use Rattle.pfr_flash.specs.Operation.{Operation, applied}
 use Rattle.pfr_flash.specs.Plan.{IsPart}
 use Rattle.pfr_flash.specs.declared.names.Counts.{Counts}
 use Rattle.pfr_flash.specs.declared.names.Device.{Device}

@@ -1,11 +1,11 @@
 -- One stretch after another.
-use Rattle.std.proofs.Common.{◌≡◌, ◌∙◌, ◌≤◌, refl, sym, ap, subst, arith, ℕ, Bool, true, false, List, [], ◌∷◌, inl, inr}
+use Rattle.std.proofs.Common.{◌≡◌, ◌∙◌, ◌≤◌, sym, subst, arith, ℕ, Bool, true, false, List, [], ◌∷◌, inl, inr}
 use Rattle.pfr_flash.specs.FlashState.{Rose}
 use Rattle.pfr_flash.specs.declared.names.Device.{Device}
 use Rattle.pfr_story.specs.Story.{Story, after}
-use Rattle.pfr_story.specs.World.{World, story_of, state_at, AllMoved, NoneLost, NoneFailed, NoneRose}
+use Rattle.pfr_story.specs.World.{World, story_of, state_at, AllMoved, NoneLost, NoneRose}
 use Rattle.pfr_story.specs.Goes.{Ran}
-use Rattle.pfr_story.specs.Course.{Stretch, Faults, LosesPower, CrossesOrFaults, Ends, goes_on_if, Steps, Halts, lost, calm_of, Course, Follows, Calm}
+use Rattle.pfr_story.specs.Course.{Stretch, Faults, CrossesOrFaults, Ends, goes_on_if, Steps, Halts, lost, calm_of, Course, Follows, Calm}
 use Rattle.pfr_story.proofs.WorldLaws.{AllMoved-trans, faults_moved, losses_moved, NoneLost-at, NoneFailed-at}
 use Rattle.pfr_story.proofs.Sequence.{Ran-refl, Ran-append}
 

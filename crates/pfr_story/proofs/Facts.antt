@@ -1,5 +1,5 @@
 -- What is true of a note where it is made, and that a bank that is brought up makes only such notes.
-use Rattle.std.proofs.Common.{◌≡◌, refl, sym, ap, subst, ℕ, ◌<◌, List, [], ◌∷◌, length, ◌⊎◌, inl, inr, Some, None, Result, Ok, Err}
+use Rattle.std.proofs.Common.{◌≡◌, refl, sym, ap, subst, ℕ, ◌<◌, List, length, ◌⊎◌, inl, inr, Some, None, Result, Ok, Err}
 use Rattle.pfr_flash.specs.Bytes.{AreBytes}
 use Rattle.pfr_flash.specs.FlashState.{Rose}
 use Rattle.pfr_flash.specs.Judging.{◌>>◌, told_as}
@@ -26,7 +26,6 @@ use Rattle.pfr_capsule.specs.CapsuleState.{CapsuleState}
 use Rattle.pfr_capsule.specs.Good.{StandForBank}
 use Rattle.pfr_capsule.specs.declared.fail.CapsuleFail.{CapsuleFail}
 use Rattle.pfr_capsule.proofs.GoodLaw.{judged_good}
-use Rattle.pfr_auth.specs.Trusted.{IsTrusted}
 use Rattle.pfr_auth.specs.declared.fail.ActiveFail.{ActiveFail}
 use Rattle.pfr_auth.proofs.TrustedLaw.{judged_trusted, stands_whole, trusted_found}
 use Rattle.pfr_recoverable.specs.Recoverable.{HasGoodRecovery}

@@ -1,12 +1,12 @@
 -- What calls of lower crates do, as what the platform does.
-use Rattle.std.proofs.Common.{◌≡◌, ◌≢◌, ◌∙◌, ℕ, refl, sym, ap, subst, true, false, List, [], ◌∷◌, ◌++◌, map, append_assoc, ◌⊎◌, inl, inr, Result, Ok, Err, Some}
+use Rattle.std.proofs.Common.{◌≡◌, ◌≢◌, ◌∙◌, ℕ, refl, sym, ap, subst, true, false, List, [], ◌∷◌, ◌++◌, append_assoc, ◌⊎◌, inl, inr, Result, Ok, Err, Some}
 use Rattle.std.proofs.lemmas.List.{append-nil}
 use Rattle.std.proofs.lemmas.Bool.{cases_Bool}
 use Rattle.pfr_flash.specs.Operation.{Operation, play, IsTorn}
 use Rattle.pfr_flash.specs.FlashState.{FlashState, now}
 use Rattle.pfr_flash.specs.Moved.{Moved, Worked, was_done}
 use Rattle.pfr_flash.specs.Reading.{EndsAt, failed_by}
-use Rattle.pfr_flash.specs.Plan.{FailsWorking, Follows}
+use Rattle.pfr_flash.specs.Plan.{Follows}
 use Rattle.pfr_flash.specs.declared.flash.FlashFail.{FlashFail}
 use Rattle.pfr_flash.specs.declared.flash.FlashFail.TheVariants.{Fault, Lost}
 use Rattle.pfr_flash.specs.declared.names.Bank.{Bank}
@@ -27,7 +27,7 @@ use Rattle.pfr_strokes.specs.declared.side.CopyFail.TheVariants as fails
 use Rattle.pfr_strokes.proofs.PassesLemmas.{Did-ops, by_side, called_did, called_stopped}
 use Rattle.pfr_report.specs.declared.note.What.{What}
 use Rattle.pfr_story.specs.Guards.{guards_after}
-use Rattle.pfr_story.specs.Story.{Story, Move, Says, Does, Asks, after, moved_by, operated, image_at, device_of, counts_of, called, FailedAt, asking, unbegun, torn, IsCut}
+use Rattle.pfr_story.specs.Story.{Story, Move, Says, Does, after, operated, image_at, device_of, counts_of, called, FailedAt, asking, unbegun, torn, IsCut}
 use Rattle.pfr_story.specs.Deeds.{device_at, deed_move, deed_moves}
 use Rattle.pfr_story.specs.World.{World, story_of, state_at, AllMoved, NoneFailed, NoneLost, Caused}
 use Rattle.pfr_story.specs.Goes.{Ran, Stopped, Goes}

@@ -1,5 +1,5 @@
 -- Each step keeps its promises about releases, locks, faults and losses.
-use Rattle.std.proofs.Common.{◌≡◌, ◌∙◌, refl, sym, ap, subst, ℕ, ◌<◌, arith, List, length, take, Some, None}
+use Rattle.std.proofs.Common.{◌≡◌, ◌∙◌, refl, sym, ap, subst, ℕ, arith, List, length, take, Some, None}
 use Rattle.std.proofs.lemmas.List.{take-append-le, take_all}
 use Rattle.pfr_flash.specs.Operation.{play_first, Operation, play}
 use Rattle.pfr_flash.specs.FlashState.{upto}

@@ -1,5 +1,5 @@
 -- Safe plans, one after another, and cut short.
-use Rattle.std.proofs.Common.{◌≡◌, refl, sym, subst, List, [], ◌∷◌, ◌++◌}
+use Rattle.std.proofs.Common.{sym, subst, List, [], ◌∷◌, ◌++◌}
 use Rattle.pfr_flash.specs.declared.names.Device.{Device}
 use Rattle.pfr_story.specs.Story.{Story, Move, Says, Does, Asks, Plan, after, moved_by, then, FailedAt, asking, unbegun, torn, IsCut}
 use Rattle.pfr_story.specs.Safety.{Rule, AllGood, IsSafe, AllSafe, Keeps, IsByRange, Both, Leads}

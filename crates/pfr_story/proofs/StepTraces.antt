@@ -1,13 +1,12 @@
 -- Of a step along stretches each move is good.
-use Rattle.std.proofs.Common.{◌≡◌, ◌≤◌, ◌<◌, refl, sym, subst, arith, Bool, true, false, List, [], ◌∷◌, Some, inl, inr}
+use Rattle.std.proofs.Common.{◌≡◌, ◌<◌, refl, sym, subst, arith, Bool, true, false, List, [], ◌∷◌, inl, inr}
 use Rattle.pfr_flash.specs.FlashState.{Rose}
 use Rattle.pfr_flash.specs.declared.flash.FlashFail.TheVariants.{Fault, Lost as Loses}
 use Rattle.pfr_flash.specs.declared.names.Device.{Device}
-use Rattle.pfr_report.specs.declared.note.What.TheVariants.{Lost}
-use Rattle.pfr_story.specs.Story.{Story, Move, Says, after, IsCut}
+use Rattle.pfr_story.specs.Story.{Story, Move, after, IsCut}
 use Rattle.pfr_story.specs.World.{World, story_of, state_at, AllMoved, AreDevices}
 use Rattle.pfr_story.specs.Safety.{Rule, AllGood, Leads}
-use Rattle.pfr_story.specs.Course.{Stretch, Crosses, Faults, LosesPower, goes_on_if, Steps, lost, Course, Follows}
+use Rattle.pfr_story.specs.Course.{Stretch, goes_on_if, Steps, lost, Course, Follows}
 use Rattle.pfr_story.proofs.WorldLaws.{AllMoved-trans, faults_moved, losses_moved}
 use Rattle.pfr_story.proofs.Courses.{Steps-moved, moved_behind, fault_rose}
 use Rattle.pfr_story.proofs.Traces.{Traced, Traced-then, Traced-ran, Traced-whole, Traced-cut, AreImages, images_before}

@@ -1,14 +1,13 @@
 -- Each note of a step is true where it is made, by event.
-use Rattle.std.proofs.Common.{◌≡◌, refl, sym, subst, ℕ, List, [], ◌∷◌, Bool, true, false, Result, Ok, Err, inl, inr}
+use Rattle.std.proofs.Common.{◌≡◌, refl, subst, ℕ, List, [], ◌∷◌, Bool, true, false, Result, Ok, Err}
 use Rattle.pfr_flash.specs.FlashState.{Rose}
 use Rattle.pfr_flash.specs.declared.names.Bank.{Bank}
 use Rattle.pfr_flash.specs.declared.names.Bank.TheVariants as bank
-use Rattle.pfr_flash.specs.declared.names.Counts.{Counts}
 use Rattle.pfr_flash.specs.declared.names.Device.{Device}
 use Rattle.pfr_flash.specs.declared.names.Device.TheVariants as device
 use Rattle.pfr_engine.specs.Acceptance.{Acceptance}
 use Rattle.pfr_fuses.specs.FusesOf.{fuses_of}
-use Rattle.pfr_fuses.specs.Provisioning.{judge_provision, provision_plan}
+use Rattle.pfr_fuses.specs.Provisioning.{provision_plan}
 use Rattle.pfr_fuses.specs.declared.fuse_fail.FuseFail.{FuseFail}
 use Rattle.pfr_fuses.specs.declared.root_slot.RootSlot.{RootSlot}
 use Rattle.pfr_script.specs.declared.event.Event.{Event}
@@ -16,12 +15,12 @@ use Rattle.pfr_script.specs.declared.event.Event.TheVariants as event
 use Rattle.pfr_report.specs.Texts.{IsNoted}
 use Rattle.pfr_report.specs.declared.note.What.{What}
 use Rattle.pfr_report.specs.declared.note.What.TheVariants as what
-use Rattle.pfr_story.specs.Story.{Story, Says, Plan, device_of, called, after, then}
+use Rattle.pfr_story.specs.Story.{Story, Says, device_of, called, after}
 use Rattle.pfr_story.specs.World.{World, story_of, state_at, AreDevices, NoneLost, NoneRose, added}
 use Rattle.pfr_story.specs.Safety.{AllGood, AllSafe, AllCall}
 use Rattle.pfr_story.specs.Course.{Stretch, Course, Follows, Calm}
 use Rattle.pfr_story.specs.Standing.{standing_of, is_off}
-use Rattle.pfr_story.specs.Plans.{store, provisioned_in, provisioned, migration_in}
+use Rattle.pfr_story.specs.Plans.{store, provisioned_in, migration_in}
 use Rattle.pfr_story.specs.Turn.{bank_stretch, fuse_stretch, provision_stretch, where_off, ignored, power_course, off_course, provision_course, course, begun, Turn}
 use Rattle.pfr_story.specs.Promises.{IsSwitchedOff}
 use Rattle.pfr_story.proofs.WorldLaws.{AllMoved-refl}

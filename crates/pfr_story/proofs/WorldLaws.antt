@@ -1,5 +1,5 @@
 -- What devices do from one world to the next, and why a call failed.
-use Rattle.std.proofs.Common.{◌≡◌, ◌∙◌, ◌+◌, ◌≤◌, refl, sym, ap, ℕ, arith, ◌⊎◌, inl, inr, true, false}
+use Rattle.std.proofs.Common.{◌≡◌, ◌∙◌, ◌+◌, ◌≤◌, refl, ap, ℕ, arith, ◌⊎◌, inl, inr, true, false}
 use Rattle.std.proofs.lemmas.Bool.{cases_Bool}
 use Rattle.pfr_flash.specs.FlashState.{FlashState, raised_by}
 use Rattle.pfr_flash.specs.Moved.{Moved, was_done}
@@ -8,7 +8,7 @@ use Rattle.pfr_flash.specs.declared.flash.FlashFail.TheVariants.{Fault, Lost}
 use Rattle.pfr_flash.specs.declared.names.Device.{Device}
 use Rattle.pfr_flash.specs.declared.names.Device.TheVariants as device
 use Rattle.pfr_flash.proofs.MovedLemmas.{Moved-refl, Moved-trans}
-use Rattle.pfr_story.specs.World.{World, state_at, AllMoved, NoneFailed, NoneLost, LostAt, FaultedAt, Caused}
+use Rattle.pfr_story.specs.World.{World, state_at, AllMoved, NoneFailed, NoneLost, Caused}
 
 -- ---- what the devices did
 pub AllMoved-refl : (w : World) → AllMoved w w
