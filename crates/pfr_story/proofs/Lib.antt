@@ -9,3 +9,4 @@ pub mod StepTraces
 pub mod Facts
 pub mod Turns
 pub mod NoteLaws
+pub mod RecoverableLaws

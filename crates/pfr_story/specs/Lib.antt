@@ -10,3 +10,4 @@ pub mod Plans
 pub mod Causes
 pub mod Turn
 pub mod Promises
+pub mod Recovery
