@@ -9,4 +9,5 @@ pub mod StepTraces
 pub mod Facts
 pub mod Turns
 pub mod NoteLaws
+pub mod FaultLaws
 pub mod RecoverableLaws

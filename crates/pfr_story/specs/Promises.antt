@@ -12,9 +12,10 @@ use Rattle.pfr_script.specs.declared.event.Event.TheVariants as event
 use Rattle.pfr_report.specs.Texts.{IsNoted}
 use Rattle.pfr_report.specs.declared.note.LockWhy.{LockWhy}
 use Rattle.pfr_report.specs.declared.note.LockWhy.TheVariants as why
+use Rattle.pfr_report.specs.declared.note.Note.{Note}
 use Rattle.pfr_report.specs.declared.note.What.TheVariants.{Released, Locked, Lost, Untrusted}
 use Rattle.pfr_story.specs.Story.{device_of}
-use Rattle.pfr_story.specs.World.{World, state_at, added}
+use Rattle.pfr_story.specs.World.{World, state_at, NoneFailed, added}
 use Rattle.pfr_story.specs.Standing.{standing_of, is_off}
 use Rattle.pfr_story.specs.Causes.{IsTrustedWith, IsAgainst, IsDue}
 
@@ -53,6 +54,16 @@ LocksHaveCauses accepts old new = (which : Bank) (cause : LockWhy) (at : Counts)
 abbrev pub DistrustsWithCause : Acceptance → World → World → Type 0
 DistrustsWithCause accepts old new = (which : Bank) (cause : ActiveFail) → IsNoted (added old new) (Untrusted which cause)
     → (at : Counts) × AtCounts (λ image nv. IsAgainst cause which image nv accepts) which at new
+
+-- no bank is locked for a fault, and no device's loss of power is noted
+pub record IsUndisturbed (notes : List Note) : Type 0 where
+  pub flash : (which : Bank) (at : Counts) → ¬ IsNoted notes (Locked which why.FlashFault at)
+  pub store : (which : Bank) (at : Counts) → ¬ IsNoted notes (Locked which why.StoreFault at)
+  pub on : (which : Device) (at : Counts) → ¬ IsNoted notes (Lost (Some which) at)
+
+-- No fault of a device is passed over: where none of these is noted, no call of a device answered one.
+abbrev pub FaultsAreNoted : World → World → Type 0
+FaultsAreNoted old new = IsUndisturbed (added old new) → NoneFailed old new
 
 -- the banks are off: both are, or neither
 abbrev pub AreOff : World → Type 0
