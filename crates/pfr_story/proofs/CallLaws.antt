@@ -20,6 +20,11 @@ image_operated device.Bmc op story = play_push story.bmc.start story.bmc.ops op
 image_operated device.Pch op story = play_push story.pch.start story.pch.ops op
 image_operated device.Nv op story = play_push story.nv.start story.nv.ops op
 
+pub notes_operated : (which : Device) (op : Operation) (story : Story) → (operated which op story).notes ≡ story.notes
+notes_operated device.Bmc op story = refl
+notes_operated device.Pch op story = refl
+notes_operated device.Nv op story = refl
+
 -- A call is safe where each part of its operations, the last perhaps torn, leaves the story so that the rule lets its last one through.
 pub called_safe : (G : Rule) (which : Device) (Q : Story → Type 0) → ((op : Operation) (story : Story) → Q (operated which op story) → G (Does which op) story)
     → ((story : Story) → G (Asks which) story) → (plan : List Operation) (story : Story)

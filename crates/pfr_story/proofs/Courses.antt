@@ -73,7 +73,11 @@ Steps-calm (s ∷ ss) old new (inl (mid, c, rest)) none_lost none_rose =
 Steps-calm (s ∷ ss) old new (inr (inl (mid, f, rest))) none_lost none_rose = absurd (none_rose f.which (fault_rose s old mid new f (moved_behind s ss mid new rest)))
 Steps-calm (s ∷ ss) old new (inr (inr l)) none_lost none_rose = absurd (omega (arith, l.stopped.cause.0.once, losses_moved l.which l.at new l.noted.moved, NoneLost-at l.which old new none_lost))
 
+-- what a course notes first, as a stretch
+abbrev pub opening : Course → Stretch
+opening c = record { plan = λ story. c.first; on_fault = lost; goes_on = false }
+
 -- A step in which no count of losses or faults rose is calm.
 pub Follows-calm : (c : Course) (old new : World) → Follows c old new → NoneLost old new → NoneRose old new → Calm c old new
 Follows-calm c old new (mid, first, rest) none_lost none_rose =
-    Steps-calm (record { plan = λ story. c.first; on_fault = lost; goes_on = false } ∷ c.stretches) old new (inl (mid, first, rest)) none_lost none_rose
+    Steps-calm (opening c ∷ c.stretches) old new (inl (mid, first, rest)) none_lost none_rose

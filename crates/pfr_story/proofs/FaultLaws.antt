@@ -25,6 +25,8 @@ use Rattle.pfr_story.specs.Course.{Stretch, Faults, LosesPower, goes_on_if, Step
 use Rattle.pfr_story.specs.Standing.{standing_of, is_off}
 use Rattle.pfr_story.specs.Turn.{bank_stretch, where_off, ignored, off_course, provision_course, course, begun, Turn}
 use Rattle.pfr_story.specs.Promises.{IsFaultLock, IsUndisturbed, FaultsAreNoted}
+use Rattle.pfr_story.proofs.CallLaws.{notes_operated}
+use Rattle.pfr_story.proofs.Courses.{opening}
 use Rattle.pfr_story.proofs.Sequence.{after-append, Ran-append}
 
 -- ---- the notes that moves make
@@ -33,11 +35,6 @@ said [] story = []
 said (Says w ∷ moves) story = record { item = story.item; what = w (counts_of story) } ∷ said moves (noted w story)
 said (Does which op ∷ moves) story = said moves (operated which op story)
 said (Asks which ∷ moves) story = said moves story
-
-notes_operated : (which : Device) (op : Operation) (story : Story) → (operated which op story).notes ≡ story.notes
-notes_operated device.Bmc op story = refl
-notes_operated device.Pch op story = refl
-notes_operated device.Nv op story = refl
 
 notes_after : (moves : List Move) (story : Story) → (after moves story).notes ≡ story.notes ++ said moves story
 notes_after [] story = sym (append-nil story.notes)
@@ -150,7 +147,7 @@ told_noted old new t u =
 -- A step along a course that notes no fault and no loss is calm.
 pub Follows-undisturbed : (c : Course) (old new : World) → AllTell c.stretches → Follows c old new → IsUndisturbed (added old new) → Calm c old new
 Follows-undisturbed c old new tells (mid, first, rest) u =
-    elim (Steps-ends (record { plan = λ story. c.first; on_fault = lost; goes_on = false } ∷ c.stretches) old new ((λ which. inl (inr (which, refl))), tells) (inl (mid, first, rest))) [
+    elim (Steps-ends (opening c ∷ c.stretches) old new ((λ which. inl (inr (which, refl))), tells) (inl (mid, first, rest))) [
       | inl r ↦ r
       | inr t ↦ absurd (told_noted old new t u)
     ]

@@ -1,7 +1,6 @@
 -- Each step keeps its promises about releases, locks, faults and losses.
 use Rattle.std.proofs.Common.{◌≡◌, ◌∙◌, refl, sym, ap, subst, ℕ, arith, List, length, take, Some, None}
-use Rattle.std.proofs.lemmas.List.{take-append-le, take_all}
-use Rattle.pfr_flash.specs.Operation.{play_first, Operation, play}
+use Rattle.pfr_flash.specs.Bytes.{AreBytes}
 use Rattle.pfr_flash.specs.FlashState.{upto}
 use Rattle.pfr_flash.specs.declared.names.Bank.{Bank}
 use Rattle.pfr_flash.specs.declared.names.Bank.TheVariants as bank
@@ -11,24 +10,17 @@ use Rattle.pfr_script.specs.declared.event.Event.{Event}
 use Rattle.pfr_report.specs.declared.note.LockWhy.{LockWhy}
 use Rattle.pfr_report.specs.declared.note.LockWhy.TheVariants as why
 use Rattle.pfr_report.specs.declared.note.What.TheVariants as what
-use Rattle.pfr_story.specs.Story.{Past, Story, counts_of, device_of, image_of}
+use Rattle.pfr_story.specs.Story.{Story, counts_of, device_of}
 use Rattle.pfr_story.specs.World.{World, story_of, state_at, AreDevices}
 use Rattle.pfr_story.specs.Plans.{mine, store}
 use Rattle.pfr_story.specs.Causes.{IsTrustedWith, IsAgainst, IsDue}
 use Rattle.pfr_story.specs.Turn.{Turn}
 use Rattle.pfr_story.specs.Promises.{count_at, AtCounts, ReleasesTrusted, IsFaultLock, FaultsHaveCauses, LocksHaveCauses, DistrustsWithCause, LossesHaveCauses}
-use Rattle.pfr_story.proofs.Traces.{Begins, Precedes}
+use Rattle.pfr_story.proofs.Traces.{Precedes, upto_begins, images_before}
 use Rattle.pfr_story.proofs.Facts.{Setting, LockFact}
 use Rattle.pfr_story.proofs.Turns.{step_of, Turn-known}
 
--- ---- what a device held at a moment, by its count then
-upto_begins : (a b : Past) → Begins a b → play_first (length a.ops) b.start b.ops ≡ image_of a
-upto_begins a b p =
-    let front : take (length a.ops) b.ops ≡ a.ops =
-    ap (λ (ops : List Operation). take (length a.ops) ops) p.ops
-    ∙ take-append-le (length a.ops) a.ops p.more (omega arith) ∙ take_all (length a.ops) a.ops (omega arith) in
-    ap (λ (start : List ℕ). play start (take (length a.ops) b.ops)) p.start ∙ ap (λ (ops : List Operation). play a.start ops) front
-
+-- ---- what was held at a moment, by the counts then
 bank_then : (which : Bank) (at : Story) (new : World) → Precedes at (story_of new) → upto (state_at (device_of which) new) (count_at which (counts_of at)) ≡ mine which at
 bank_then bank.Bmc at new p = upto_begins at.bmc (story_of new).bmc p.bmc
 bank_then bank.Pch at new p = upto_begins at.pch (story_of new).pch p.pch
@@ -39,47 +31,50 @@ pub at_moment : (P : List ℕ → List ℕ → Type 0) (which : Bank) (at : Stor
 at_moment P which at counts new e p h =
     rw e (subst (λ (image : List ℕ). P image (upto new.nv (counts_of at).nv)) (sym (bank_then which at new p)) (subst (λ (nv : List ℕ). P (mine which at) nv) (sym (upto_begins at.nv (story_of new).nv p.nv)) h))
 
-lock_due : (s : Setting) (cause : LockWhy) (which : Bank) (at : Story) → ¬ IsFaultLock cause → LockFact s cause which at → IsDue cause which (mine which at) (store at) s.accepts
-lock_due s why.FlashFault which at n p = absurd (n tt)
-lock_due s why.StoreFault which at n p = absurd (n tt)
-lock_due s why.Unprovisioned which at n p = p
-lock_due s why.SlotsSpent which at n p = p
-lock_due s (why.Layout rule) which at n p = p
-lock_due s why.NotRestored which at n p = p
-lock_due s (why.NoGoodImage active recovery) which at n p = p
+lock_due : (s : Setting) (cause : LockWhy) (which : Bank) (at : Story) → ¬ IsFaultLock cause → AreBytes (mine which at) → LockFact s cause which at → IsDue cause which (mine which at) (store at) s.accepts
+lock_due s why.FlashFault which at n bytes p = absurd (n tt)
+lock_due s why.StoreFault which at n bytes p = absurd (n tt)
+lock_due s why.Unprovisioned which at n bytes p = p bytes
+lock_due s why.SlotsSpent which at n bytes p = p bytes
+lock_due s (why.Layout rule) which at n bytes p = p bytes
+lock_due s why.NotRestored which at n bytes p = p bytes
+lock_due s (why.NoGoodImage active recovery) which at n bytes p = p bytes
 
-module _ (accepts : Acceptance) (e : Event) (old new : World) (held : AreDevices new) (t : Turn accepts e old new) where
+module _ (accepts : Acceptance) (e : Event) (old new : World) (t : Turn accepts e old new) where
   -- A bank is locked for a fault only where a count of faults rose.
   pub Turn-faults : FaultsHaveCauses old new
   unfolding step_of
   Turn-faults = record {
-    flash = λ which at n. (Turn-known accepts e old new held t (what.Locked which why.FlashFault at) n).1.1;
-    store = λ which at n. (Turn-known accepts e old new held t (what.Locked which why.StoreFault at) n).1.1;
+    flash = λ which at n. (Turn-known accepts e old new t (what.Locked which why.FlashFault at) n).1.1;
+    store = λ which at n. (Turn-known accepts e old new t (what.Locked which why.StoreFault at) n).1.1;
   }
 
   -- A loss of power is noted only where it was counted, or where the power was taken.
   pub Turn-losses : LossesHaveCauses e old new
   unfolding step_of
   Turn-losses = record {
-    device = λ which at n. (Turn-known accepts e old new held t (what.Lost (Some which) at) n).1.1;
-    switched = λ at n. (Turn-known accepts e old new held t (what.Lost None at) n).1.1;
+    device = λ which at n. (Turn-known accepts e old new t (what.Lost (Some which) at) n).1.1;
+    switched = λ at n. (Turn-known accepts e old new t (what.Lost None at) n).1.1;
   }
-
-  -- A bank is released only where it was trusted.
-  pub Turn-releases : ReleasesTrusted accepts old new
-  unfolding step_of
-  Turn-releases which svn at n = let k = Turn-known accepts e old new held t (what.Released which svn at) n in
-      at_moment (λ image nv. IsTrustedWith svn image nv which accepts) which k.0 at new k.1.0 k.2 k.1.1
-
-  -- A bank is locked, but for a fault, only with a cause in its contents.
-  pub Turn-locks : LocksHaveCauses accepts old new
-  unfolding step_of
-  Turn-locks which cause at n no_fault =
-      let k = Turn-known accepts e old new held t (what.Locked which cause at) n in
-      at_moment (λ image nv. IsDue cause which image nv accepts) which k.0 at new k.1.0 k.2 (lock_due (step_of accepts e old new held) cause which k.0 no_fault k.1.1)
 
   -- A bank's image is called untrusted only with the cause against it.
   pub Turn-distrusts : DistrustsWithCause accepts old new
   unfolding step_of
-  Turn-distrusts which cause n = let k = Turn-known accepts e old new held t (what.Untrusted which cause) n in
+  Turn-distrusts which cause n =
+      let k = Turn-known accepts e old new t (what.Untrusted which cause) n in
       (counts_of k.0, at_moment (λ image nv. IsAgainst cause which image nv accepts) which k.0 (counts_of k.0) new refl k.2 k.1)
+
+  -- A bank is released only where it was trusted.
+  pub Turn-releases : AreDevices new → ReleasesTrusted accepts old new
+  unfolding step_of
+  Turn-releases held which svn at n =
+      let k = Turn-known accepts e old new t (what.Released which svn at) n in
+      at_moment (λ image nv. IsTrustedWith svn image nv which accepts) which k.0 at new k.1.0 k.2 (k.1.1 (images_before k.0 new k.2 held (device_of which)))
+
+  -- A bank is locked, but for a fault, only with a cause in its contents.
+  pub Turn-locks : AreDevices new → LocksHaveCauses accepts old new
+  unfolding step_of
+  Turn-locks held which cause at n no_fault =
+      let k = Turn-known accepts e old new t (what.Locked which cause at) n in
+      at_moment (λ image nv. IsDue cause which image nv accepts) which k.0 at new k.1.0 k.2
+      (lock_due (step_of accepts e old new) cause which k.0 no_fault (images_before k.0 new k.2 held (device_of which)) k.1.1)

@@ -4,30 +4,26 @@ use Rattle.pfr_flash.specs.FlashState.{Rose}
 use Rattle.pfr_flash.specs.declared.flash.FlashFail.TheVariants.{Fault, Lost as Loses}
 use Rattle.pfr_flash.specs.declared.names.Device.{Device}
 use Rattle.pfr_story.specs.Story.{Story, Move, after, IsCut}
-use Rattle.pfr_story.specs.World.{World, story_of, state_at, AllMoved, AreDevices}
+use Rattle.pfr_story.specs.World.{World, story_of, state_at, AllMoved}
 use Rattle.pfr_story.specs.Safety.{Rule, AllGood, Leads}
 use Rattle.pfr_story.specs.Course.{Stretch, goes_on_if, Steps, lost, Course, Follows}
 use Rattle.pfr_story.proofs.WorldLaws.{AllMoved-trans, faults_moved, losses_moved}
 use Rattle.pfr_story.proofs.Courses.{Steps-moved, moved_behind, fault_rose}
-use Rattle.pfr_story.proofs.Traces.{Traced, Traced-then, Traced-ran, Traced-whole, Traced-cut, AreImages, images_before}
-
--- the devices hold bytes besides
-abbrev pub WithBytes : (Story → Type 0) → Story → Type 0
-WithBytes P story = AreImages story × P story
+use Rattle.pfr_story.proofs.Traces.{Traced, Traced-then, Traced-ran, Traced-whole, Traced-cut}
 
 -- The worlds of a part of a step lie between the two ends that are looked at.
 pub record Between (first last old new : World) : Type 0 where
   pub before : AllMoved first old
   pub behind : AllMoved new last
 
--- What has to be shown of a stretch that begins where P holds, for a rule that knows of counts between two worlds: Q holds where
--- the step goes on.
-pub record IsGoodStretch (G : Rule) (first last : World) (P : Story → Type 0) (stretch : Stretch) (Q : Story → Type 0) : Type 0 where
-  pub plan : Leads G (WithBytes P) stretch.plan Q
+-- What has to be shown of a stretch that begins where P holds, and K, as of each story between the two worlds: Q holds where the
+-- step goes on.
+pub record IsGoodStretch (G : Rule) (first last : World) (K P : Story → Type 0) (stretch : Stretch) (Q : Story → Type 0) : Type 0 where
+  pub plan : Leads G (λ story. K story × P story) stretch.plan Q
   -- what is noted at a fault
-  pub noted : (which : Device) (story : Story) (trace : List Move) → WithBytes P story → IsCut which (stretch.plan story) story trace
+  pub noted : (which : Device) (story : Story) (trace : List Move) → K story × P story → IsCut which (stretch.plan story) story trace
       → Rose (state_at which first).faults (state_at which last).faults → AllGood G (stretch.on_fault which) (after trace story)
-  pub on : (which : Device) (story : Story) (trace : List Move) → WithBytes P story → IsCut which (stretch.plan story) story trace
+  pub on : (which : Device) (story : Story) (trace : List Move) → K story × P story → IsCut which (stretch.plan story) story trace
       → stretch.goes_on ≡ true → Q (after (stretch.on_fault which) (after trace story))
 
 -- a loss of power is noted only where it was counted
@@ -38,7 +34,7 @@ AllowsLosses G first last = (which : Device) (story : Story) → (state_at which
 abbrev pub AreGood : Rule → World → World → (Story → Type 0) → List Stretch → Type 0
 AreGood G first last P stretches = (old new : World) → Between first last old new → P (story_of old) → Steps stretches old new → Traced G old new
 
-module _ (G : Rule) (first last : World) (held : AreDevices last) (allows : AllowsLosses G first last) where
+module _ (G : Rule) (first last : World) (K : Story → Type 0) (known : (w : World) → AllMoved w last → K (story_of w)) (allows : AllowsLosses G first last) where
   pub AreGood-none : (P : Story → Type 0) → AreGood G first last P []
   AreGood-none P old new within p r = Traced-ran G [] old new r tt
 
@@ -46,15 +42,15 @@ module _ (G : Rule) (first last : World) (held : AreDevices last) (allows : Allo
   traced_on true steps mid new f r = f refl r
   traced_on false steps mid new f r = Traced-ran G [] mid new r tt
 
-  pub AreGood-next : (P Q : Story → Type 0) (s : Stretch) (ss : List Stretch) → IsGoodStretch G first last P s Q → AreGood G first last Q ss → AreGood G first last P (s ∷ ss)
+  pub AreGood-next : (P Q : Story → Type 0) (s : Stretch) (ss : List Stretch) → IsGoodStretch G first last K P s Q → AreGood G first last Q ss → AreGood G first last P (s ∷ ss)
   AreGood-next P Q s ss good next old new within p (inl (mid, c, rest)) =
-      let here : WithBytes P (story_of old) = (images_before old last (AllMoved-trans old mid last c.moved (AllMoved-trans mid new last (Steps-moved ss mid new rest) within.behind)) held, p) in
+      let here : K (story_of old) × P (story_of old) = (known old (AllMoved-trans old mid last c.moved (AllMoved-trans mid new last (Steps-moved ss mid new rest) within.behind)), p) in
       Traced-then G old mid new (Traced-whole G (s.plan (story_of old)) old mid c (good.plan.safe (story_of old) here))
       (next mid new (record { before = AllMoved-trans first old mid within.before c.moved; behind = within.behind }) (subst Q (sym c.is) (good.plan.ends (story_of old) here)) rest)
   AreGood-next P Q s ss good next old new within p (inr (inl (mid, f, rest))) =
       let behind : AllMoved mid last = AllMoved-trans mid new last (moved_behind s ss mid new rest) within.behind in
       let whole : AllMoved old mid = AllMoved-trans old f.at mid f.stopped.moved f.noted.moved in
-      let here : WithBytes P (story_of old) = (images_before old last (AllMoved-trans old mid last whole behind) held, p) in
+      let here : K (story_of old) × P (story_of old) = (known old (AllMoved-trans old mid last whole behind), p) in
       let rose : Rose (state_at f.which first).faults (state_at f.which last).faults = omega (arith, faults_moved f.which first old within.before, fault_rose s old mid last f behind) in
       let notes = subst (λ (t : Story). AllGood G (s.on_fault f.which) t) (sym f.stopped.is) (good.noted f.which (story_of old) f.stopped.trace here f.stopped.cut rose) in
       Traced-then G old f.at new (Traced-cut G (s.plan (story_of old)) f.which Fault old f.at f.stopped (good.plan.safe (story_of old) here))
@@ -63,7 +59,7 @@ module _ (G : Rule) (first last : World) (held : AreDevices last) (allows : Allo
       (subst Q (sym f.noted.is) (subst (λ (t : Story). Q (after (s.on_fault f.which) t)) (sym f.stopped.is) (good.on f.which (story_of old) f.stopped.trace here f.stopped.cut e))) r) rest))
   AreGood-next P Q s ss good next old new within p (inr (inr l)) =
       let moved : AllMoved old new = AllMoved-trans old l.at new l.stopped.moved l.noted.moved in
-      let here : WithBytes P (story_of old) = (images_before old last (AllMoved-trans old new last moved within.behind) held, p) in
+      let here : K (story_of old) × P (story_of old) = (known old (AllMoved-trans old new last moved within.behind), p) in
       let fell : (state_at l.which first).losses < (state_at l.which last).losses =
       omega (arith, losses_moved l.which first old within.before, l.stopped.cause.0.once, losses_moved l.which l.at last (AllMoved-trans l.at new last l.noted.moved within.behind)) in
       Traced-then G old l.at new (Traced-cut G (s.plan (story_of old)) l.which Loses old l.at l.stopped (good.plan.safe (story_of old) here))

@@ -1,26 +1,27 @@
 -- The world moved by good moves.
-use Rattle.std.proofs.Common.{◌≡◌, ◌∙◌, refl, sym, ap, subst, arith, List, [], ◌∷◌, ◌++◌, length, drop, append_assoc, ◌⊎◌, inl, inr}
-use Rattle.std.proofs.lemmas.List.{append-nil, take_all}
+use Rattle.std.proofs.Common.{◌≡◌, ◌∙◌, refl, sym, ap, subst, arith, ℕ, List, [], ◌∷◌, ◌++◌, length, take, drop, append_assoc, ◌⊎◌, inl, inr}
+use Rattle.std.proofs.lemmas.List.{append-nil, take_all, take-append-le}
 use Rattle.std.proofs.Math.Seq.{drop-append_seam}
 use Rattle.pfr_flash.specs.Bytes.{AreBytes}
-use Rattle.pfr_flash.specs.FlashState.{FlashState, now}
+use Rattle.pfr_flash.specs.FlashState.{FlashState}
 use Rattle.pfr_flash.specs.Holding.{HoldsBytes}
 use Rattle.pfr_flash.specs.Moved.{Moved}
-use Rattle.pfr_flash.specs.Operation.{Operation, play}
+use Rattle.pfr_flash.specs.Operation.{Operation, play, play_first}
 use Rattle.pfr_flash.specs.declared.flash.FlashFail.{FlashFail}
 use Rattle.pfr_flash.specs.declared.names.Counts.{Counts}
 use Rattle.pfr_flash.specs.declared.names.Device.{Device}
 use Rattle.pfr_flash.specs.declared.names.Device.TheVariants as device
-use Rattle.pfr_flash.proofs.StateLemmas.{moved_bytes}
+use Rattle.pfr_flash.proofs.HoldingLemmas.{upto_bytes}
 use Rattle.pfr_report.specs.Texts.{IsNoted}
 use Rattle.pfr_report.specs.declared.note.Note.{Note}
 use Rattle.pfr_report.specs.declared.note.What.{What}
-use Rattle.pfr_story.specs.Story.{Past, Story, Move, Says, Does, Asks, after, moved_by, noted, operated, with_op, counts_of, image_at}
-use Rattle.pfr_story.specs.World.{World, story_of, AllMoved, AreDevices, added}
+use Rattle.pfr_story.specs.Story.{Past, Story, Move, Says, Does, Asks, after, moved_by, noted, operated, with_op, counts_of, image_at, image_of}
+use Rattle.pfr_story.specs.World.{World, past_of, story_of, AllMoved, AreDevices, added}
 use Rattle.pfr_story.specs.Goes.{Ran, Stopped}
 use Rattle.pfr_story.specs.Safety.{Rule, AllGood, AllSafe, Keeps}
 use Rattle.pfr_story.proofs.WorldLaws.{AllMoved-trans}
 use Rattle.pfr_story.proofs.Sequence.{after-append}
+use Rattle.pfr_story.proofs.CallLaws.{notes_operated}
 use Rattle.pfr_story.proofs.SafetyLaws.{AllGood-append, safe_whole, safe_cut, kept_by}
 
 pub record Traced (G : Rule) (old new : World) : Type 0 where
@@ -83,18 +84,31 @@ Precedes-move a b (Does device.Pch op) p = record { bmc = p.bmc; pch = Begins-op
 Precedes-move a b (Does device.Nv op) p = record { bmc = p.bmc; pch = p.pch; nv = Begins-op a.nv b.nv op p.nv }
 Precedes-move a b (Asks which) p = p
 
+-- what a device held at a moment, by its count then
+pub upto_begins : (a b : Past) → Begins a b → play_first (length a.ops) b.start b.ops ≡ image_of a
+upto_begins a b p =
+    let front : take (length a.ops) b.ops ≡ a.ops =
+    ap (λ (ops : List Operation). take (length a.ops) ops) p.ops
+    ∙ take-append-le (length a.ops) a.ops p.more (omega arith) ∙ take_all (length a.ops) a.ops (omega arith) in
+    ap (λ (start : List ℕ). play start (take (length a.ops) b.ops)) p.start ∙ ap (λ (ops : List Operation). play a.start ops) front
+
+begins_moved : (old new : FlashState) → Moved old new → Begins (past_of old) (past_of new)
+begins_moved old new m = record { start = m.start; more = m.ops.more; ops = m.ops.is }
+
+pub Precedes-moved : (old new : World) → AllMoved old new → Precedes (story_of old) (story_of new)
+Precedes-moved old new m = record { bmc = begins_moved old.bmc new.bmc m.bmc; pch = begins_moved old.pch new.pch m.pch; nv = begins_moved old.nv new.nv m.nv }
+
 -- ---- what devices hold that hold bytes later
 abbrev pub AreImages : Story → Type 0
 AreImages story = (which : Device) → AreBytes (image_at which story)
 
-bytes_before : (old new : FlashState) → Moved old new → HoldsBytes new → AreBytes (now old)
-bytes_before old new m h =
-    subst (λ (ops : List Operation). AreBytes (play old.start ops)) (take_all (length old.ops) old.ops (omega arith)) (moved_bytes old new (length old.ops) m h (omega arith))
+bytes_before : (a : Past) (d : FlashState) → Begins a (past_of d) → HoldsBytes d → AreBytes (image_of a)
+bytes_before a d p h = subst AreBytes (upto_begins a (past_of d) p) (upto_bytes d (length a.ops) h)
 
-pub images_before : (old new : World) → AllMoved old new → AreDevices new → AreImages (story_of old)
-images_before old new m h device.Bmc = bytes_before old.bmc new.bmc m.bmc h.bmc
-images_before old new m h device.Pch = bytes_before old.pch new.pch m.pch h.pch
-images_before old new m h device.Nv = bytes_before old.nv new.nv m.nv h.nv
+pub images_before : (at : Story) (new : World) → Precedes at (story_of new) → AreDevices new → AreImages at
+images_before at new p h device.Bmc = bytes_before at.bmc new.bmc p.bmc h.bmc
+images_before at new p h device.Pch = bytes_before at.pch new.pch p.pch h.pch
+images_before at new p h device.Nv = bytes_before at.nv new.nv p.nv h.nv
 
 -- ---- what is known of each note
 pub noted_append : (xs ys : List Note) (that : What) → IsNoted (xs ++ ys) that → IsNoted xs that ⊎ IsNoted ys that
@@ -119,11 +133,6 @@ pub record Known (F : What → Story → Type 0) (base : List Note) (story : Sto
 module _ (G : Rule) (F : What → Story → Type 0) (tells : Tells G F) (base : List Note) where
   known_later : (move : Move) (story : Story) (more : List Note) → ((that : What) → IsNoted more that → KnownBefore F that story) → (that : What) → IsNoted more that → KnownBefore F that (moved_by move story)
   known_later move story more all that n = let k = all that n in (k.0, k.1, Precedes-move k.0 story move k.2)
-
-  notes_operated : (which : Device) (op : Operation) (story : Story) → (operated which op story).notes ≡ story.notes
-  notes_operated device.Bmc op story = refl
-  notes_operated device.Pch op story = refl
-  notes_operated device.Nv op story = refl
 
   known_says : (w : Counts → What) (story : Story) → G (Says w) story → Known F base story → Known F base (noted w story)
   known_says w story g k =

@@ -16,7 +16,7 @@ use Rattle.pfr_report.specs.Texts.{IsNoted}
 use Rattle.pfr_report.specs.declared.note.What.{What}
 use Rattle.pfr_report.specs.declared.note.What.TheVariants as what
 use Rattle.pfr_story.specs.Story.{Story, Says, device_of, called, after}
-use Rattle.pfr_story.specs.World.{World, story_of, state_at, AreDevices, NoneLost, NoneRose, added}
+use Rattle.pfr_story.specs.World.{World, story_of, state_at, NoneLost, NoneRose, added}
 use Rattle.pfr_story.specs.Safety.{AllGood, AllSafe, AllCall}
 use Rattle.pfr_story.specs.Course.{Stretch, Course, Follows, Calm}
 use Rattle.pfr_story.specs.Standing.{standing_of, is_off}
@@ -46,11 +46,11 @@ Any story = Unit {0}
 -- ---- the stretches
 module _ (s : Setting) where
   abbrev pub IsTrueStretch : Stretch → Type 0
-  IsTrueStretch stretch = IsGoodStretch (IsTrue s) s.first s.last Any stretch Any
+  IsTrueStretch stretch = IsGoodStretch (IsTrue s) s.first s.last Any Any stretch Any
 
   bank_true : (b : Bank) → IsTrueStretch (bank_stretch s.accepts b)
   bank_true b = record {
-    plan = record { safe = λ story p. brought_true s b story (p.0 (device_of b)); ends = λ story p. tt };
+    plan = record { safe = λ story p. brought_true s b story; ends = λ story p. tt };
     noted = λ which story trace p cut rose. ((refl, lock_true s b which (after trace story) (cut_calls (IsOwn b) which _ trace story (brought_calls s.accepts b story) cut) rose), tt);
     on = λ which story trace p cut e. tt;
   }
@@ -101,10 +101,10 @@ module _ (s : Setting) where
     along c t first stretches = Follows-good (IsTrue s) s.first s.last Any c (begun old) new within t first tt stretches
 
     none : AreGood (IsTrue s) s.first s.last Any []
-    none = AreGood-none (IsTrue s) s.first s.last s.held allows Any
+    none = AreGood-none (IsTrue s) s.first s.last Any (λ w moved. tt) allows Any
 
     next : (stretch : Stretch) (stretches : List Stretch) → IsTrueStretch stretch → AreGood (IsTrue s) s.first s.last Any stretches → AreGood (IsTrue s) s.first s.last Any (stretch ∷ stretches)
-    next stretch stretches good rest = AreGood-next (IsTrue s) s.first s.last s.held allows Any Any stretch stretches good rest
+    next stretch stretches good rest = AreGood-next (IsTrue s) s.first s.last Any (λ w moved. tt) allows Any Any stretch stretches good rest
 
     ignored_true : Follows ignored (begun old) new → Traced (IsTrue s) (begun old) new
     ignored_true t = along ignored t (tt, tt) none
@@ -129,15 +129,15 @@ module _ (s : Setting) where
   Turn-true (event.Provision root) old new within may t = try_true (event.Provision root) old new within root (is_off (standing_of bank.Bmc old.notes.list)) t
 
 -- a step between its own two ends
-unfoldable pub step_of : Acceptance → Event → (old new : World) → AreDevices new → Setting
-step_of accepts e old new held = record { accepts = accepts; first = old; last = new; IsSwitched = IsSwitchedOff e old; held = held }
+unfoldable pub step_of : Acceptance → Event → World → World → Setting
+step_of accepts e old new = record { accepts = accepts; first = old; last = new; IsSwitched = IsSwitchedOff e old }
 
 -- what is known of each note that a step added
-pub Turn-known : (accepts : Acceptance) (e : Event) (old new : World) (held : AreDevices new) → Turn accepts e old new → (that : What) → IsNoted (added old new) that
-    → KnownBefore (Fact (step_of accepts e old new held)) that (story_of new)
+pub Turn-known : (accepts : Acceptance) (e : Event) (old new : World) → Turn accepts e old new → (that : What) → IsNoted (added old new) that
+    → KnownBefore (Fact (step_of accepts e old new)) that (story_of new)
 unfolding step_of
-Turn-known accepts e old new held t that n =
-    let s : Setting = record { accepts = accepts; first = old; last = new; IsSwitched = IsSwitchedOff e old; held = held } in
+Turn-known accepts e old new t that n =
+    let s : Setting = record { accepts = accepts; first = old; last = new; IsSwitched = IsSwitchedOff e old } in
     let same = AllMoved-refl old in
     let within : Between old new (begun old) new = record { before = record { bmc = same.bmc; pch = same.pch; nv = same.nv }; behind = AllMoved-refl new } in
     Traced-known (IsTrue s) (Fact s) (λ w story g. g) (begun old) new (Turn-true s e old new within (λ off. off) t) that n
