@@ -35,7 +35,7 @@ use Rattle.pfr_report.specs.declared.note.What.{What}
 use Rattle.pfr_report.specs.declared.note.What.TheVariants as what
 use Rattle.pfr_story.specs.Story.{Story, Says, Does, Asks, noted, counts_of, device_of, called}
 use Rattle.pfr_story.specs.World.{World, state_at}
-use Rattle.pfr_story.specs.Safety.{Rule, AllSafe, AllCall}
+use Rattle.pfr_story.specs.Safety.{Rule, AllSafe, AllMake}
 use Rattle.pfr_story.specs.Plans.{mine, store, ready_in, ready_of, judged_active, judged_recovery, by_recovery, by_active, by_ready, brought_up}
 use Rattle.pfr_story.specs.Causes.{IsTrustedWith, IsNotTrusted, IsAgainst, IsDue}
 use Rattle.pfr_story.specs.Turn.{fault_of}
@@ -141,25 +141,34 @@ module _ (s : Setting) (b : Bank) where
   pub brought_true : (story : Story) → AllSafe (IsTrue s) (brought_up s.accepts b story) story
   brought_true story = let held : Story = noted (what.Held b) story in (refl, (tt, ready_true (fuses_of (store held)) held refl))
 
--- ---- and calls its device and the store alone
+-- ---- and calls its device and the store alone, and notes no loss
 abbrev pub IsOwn : Bank → Device → Type 0
 IsOwn b which = (which ≡ device_of b) ⊎ (which ≡ device.Nv)
 
+abbrev pub IsLoss : What → Type 0
+IsLoss (what.Lost device at) = Unit {0}
+IsLoss that = ⊥
+
+abbrev pub IsNoLoss : (Counts → What) → Type 0
+IsNoLoss w = (at : Counts) → ¬ IsLoss (w at)
+
 module _ (accepts : Acceptance) (b : Bank) where
-  recovery_calls : (cause : ActiveFail) (judged : Result CapsuleState CapsuleFail) (story : Story) → AllCall (IsOwn b) (by_recovery b cause judged story)
-  recovery_calls cause (Ok capsule) story = tt
-  recovery_calls cause (Err other) story = tt
+  recovery_makes : (cause : ActiveFail) (judged : Result CapsuleState CapsuleFail) (story : Story) → AllMake (IsOwn b) IsNoLoss (by_recovery b cause judged story)
+  recovery_makes cause (Ok capsule) story = ((λ at loss. loss), tt)
+  recovery_makes cause (Err other) story = ((λ at loss. loss), tt)
 
-  active_calls : (fuses : FusesState) (judged : Result Manifest ActiveFail) (story : Story) → AllCall (IsOwn b) (by_active accepts b fuses judged story)
-  active_calls fuses (Ok m) story = tt
-  active_calls fuses (Err cause) story = (inl refl, recovery_calls cause (judged_recovery accepts b fuses (noted (λ _. what.Untrusted b cause) story)) (noted (λ _. what.Untrusted b cause) story))
+  active_makes : (fuses : FusesState) (judged : Result Manifest ActiveFail) (story : Story) → AllMake (IsOwn b) IsNoLoss (by_active accepts b fuses judged story)
+  active_makes fuses (Ok m) story = ((λ at loss. loss), tt)
+  active_makes fuses (Err cause) story =
+      let told : Story = noted (λ _. what.Untrusted b cause) story in
+      ((λ at loss. loss), (inl refl, recovery_makes cause (judged_recovery accepts b fuses told) told))
 
-  ready_calls : (ready : Result FusesState LockWhy) (story : Story) → AllCall (IsOwn b) (by_ready accepts b ready story)
-  ready_calls (Ok fuses) story = (inl refl, active_calls fuses (judged_active accepts b fuses story) story)
-  ready_calls (Err cause) story = tt
+  ready_makes : (ready : Result FusesState LockWhy) (story : Story) → AllMake (IsOwn b) IsNoLoss (by_ready accepts b ready story)
+  ready_makes (Ok fuses) story = (inl refl, active_makes fuses (judged_active accepts b fuses story) story)
+  ready_makes (Err cause) story = ((λ at loss. loss), tt)
 
-  pub brought_calls : (story : Story) → AllCall (IsOwn b) (brought_up accepts b story)
-  brought_calls story = (inr refl, ready_calls (ready_of b (noted (what.Held b) story)) (noted (what.Held b) story))
+  pub brought_makes : (story : Story) → AllMake (IsOwn b) IsNoLoss (brought_up accepts b story)
+  brought_makes story = ((λ at loss. loss), (inr refl, ready_makes (ready_of b (noted (what.Held b) story)) (noted (what.Held b) story)))
 
 -- so a lock for a fault of one of them is true
 pub lock_true : (s : Setting) (b : Bank) (which : Device) (story : Story) → IsOwn b which → Rose (state_at which s.first).faults (state_at which s.last).faults → LockFact s (fault_of which) b story

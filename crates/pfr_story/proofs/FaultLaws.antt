@@ -25,23 +25,9 @@ use Rattle.pfr_story.specs.Course.{Stretch, Faults, LosesPower, goes_on_if, Step
 use Rattle.pfr_story.specs.Standing.{standing_of, is_off}
 use Rattle.pfr_story.specs.Turn.{bank_stretch, where_off, ignored, off_course, provision_course, course, begun, Turn}
 use Rattle.pfr_story.specs.Promises.{IsFaultLock, IsUndisturbed, FaultsAreNoted}
-use Rattle.pfr_story.proofs.CallLaws.{notes_operated}
+use Rattle.pfr_story.proofs.Made.{said, Made, made_then, made_on, Steps-made, added_said}
 use Rattle.pfr_story.proofs.Courses.{opening}
 use Rattle.pfr_story.proofs.Sequence.{after-append, Ran-append}
-
--- ---- the notes that moves make
-abbrev said : List Move → Story → List Note
-said [] story = []
-said (Says w ∷ moves) story = record { item = story.item; what = w (counts_of story) } ∷ said moves (noted w story)
-said (Does which op ∷ moves) story = said moves (operated which op story)
-said (Asks which ∷ moves) story = said moves story
-
-notes_after : (moves : List Move) (story : Story) → (after moves story).notes ≡ story.notes ++ said moves story
-notes_after [] story = sym (append-nil story.notes)
-notes_after (Says w ∷ moves) story = notes_after moves (noted w story) ∙ append_assoc story.notes (record { item = story.item; what = w (counts_of story) } ∷ []) (said moves (noted w story))
-notes_after (Does which op ∷ moves) story =
-    notes_after moves (operated which op story) ∙ ap (λ (notes : List Note). notes ++ said moves (operated which op story)) (notes_operated which op story)
-notes_after (Asks which ∷ moves) story = notes_after moves story
 
 -- ---- moves that tell of a fault or of a loss of power
 abbrev pub IsTrouble : (Counts → What) → Type 0
@@ -87,30 +73,6 @@ trouble_said (Says w ∷ moves) story (inr t) = let k = trouble_said moves (note
 trouble_said (Does which op ∷ moves) story t = trouble_said moves (operated which op story) t
 trouble_said (Asks which ∷ moves) story t = trouble_said moves story t
 
--- ---- what a step made
-pub record Made (old new : World) : Type 0 where
-  pub trace : List Move
-  pub is : story_of new ≡ after trace (story_of old)
-
-abbrev made_then : (a b c : World) → Made a b → Made b c → Made a c
-made_then a b c p q = record {
-  trace = p.trace ++ q.trace;
-  is = q.is ∙ ap (λ (s : Story). after q.trace s) p.is ∙ sym (after-append p.trace q.trace (story_of a));
-}
-
-made_on : (on : Bool) (steps : World → World → Type 0) (mid new : World) → (steps mid new → Made mid new) → goes_on_if on steps mid new → Made mid new
-made_on true steps mid new f r = f r
-made_on false steps mid new f r = record { trace = []; is = r.is }
-
-pub Steps-made : (ss : List Stretch) (old new : World) → Steps ss old new → Made old new
-Steps-made [] old new p = record { trace = []; is = p.is }
-Steps-made (s ∷ ss) old new (inl (mid, c, rest)) = made_then old mid new (record { trace = s.plan (story_of old); is = c.is }) (Steps-made ss mid new rest)
-Steps-made (s ∷ ss) old new (inr (inl (mid, f, rest))) =
-    made_then old f.at new (record { trace = f.stopped.trace; is = f.stopped.is })
-    (made_then f.at mid new (record { trace = s.on_fault f.which; is = f.noted.is }) (made_on s.goes_on (Steps ss) mid new (λ r. Steps-made ss mid new r) rest))
-Steps-made (s ∷ ss) old new (inr (inr l)) =
-    made_then old l.at new (record { trace = l.stopped.trace; is = l.stopped.is }) (record { trace = lost l.which; is = l.noted.is })
-
 -- it made moves that tell of trouble
 abbrev pub IsTold : World → World → Type 0
 IsTold old new = (made : Made old new) × TellsTrouble made.trace
@@ -139,10 +101,7 @@ Steps-ends (s ∷ ss) old new tells (inr (inr l)) =
 told_noted : (old new : World) → IsTold old new → ¬ IsUndisturbed (added old new)
 told_noted old new t u =
     let k = trouble_said t.0.trace (story_of old) t.1 in
-    let all : new.notes.list ≡ old.notes.list ++ said t.0.trace (story_of old) = ap (λ (s : Story). s.notes) t.0.is ∙ notes_after t.0.trace (story_of old) in
-    let e : added old new ≡ said t.0.trace (story_of old) =
-    ap (λ (notes : List Note). drop (length old.notes.list) notes) all ∙ drop-append_seam old.notes.list (said t.0.trace (story_of old)) in
-    no_trouble (added old new) k.0 k.1 k.2 u (subst (λ (notes : List Note). IsNoted notes (k.0 k.1)) (sym e) k.3)
+    no_trouble (added old new) k.0 k.1 k.2 u (subst (λ (notes : List Note). IsNoted notes (k.0 k.1)) (sym (added_said old new t.0)) k.3)
 
 -- A step along a course that notes no fault and no loss is calm.
 pub Follows-undisturbed : (c : Course) (old new : World) → AllTell c.stretches → Follows c old new → IsUndisturbed (added old new) → Calm c old new

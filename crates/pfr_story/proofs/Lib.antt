@@ -9,5 +9,7 @@ pub mod StepTraces
 pub mod Facts
 pub mod Turns
 pub mod NoteLaws
+pub mod Made
 pub mod FaultLaws
+pub mod LossLaws
 pub mod RecoverableLaws

@@ -116,6 +116,10 @@ noted_append [] ys that n = inr n
 noted_append (x ∷ xs) ys that (inl e) = inl (inl e)
 noted_append (x ∷ xs) ys that (inr n) = elim (noted_append xs ys that n) [ inl m ↦ inl (inr m) | inr m ↦ inr m ]
 
+pub noted_right : (xs ys : List Note) (that : What) → IsNoted ys that → IsNoted (xs ++ ys) that
+noted_right [] ys that n = n
+noted_right (x ∷ xs) ys that n = inr (noted_right xs ys that n)
+
 -- a fact of each note that the rule lets through, where it is made
 abbrev pub Tells : Rule → (What → Story → Type 0) → Type 0
 Tells G F = (w : Counts → What) (story : Story) → G (Says w) story → F (w (counts_of story)) story

@@ -1,5 +1,5 @@
 -- Each note of a step is true where it is made, by event.
-use Rattle.std.proofs.Common.{◌≡◌, refl, subst, ℕ, List, [], ◌∷◌, Bool, true, false, Result, Ok, Err}
+use Rattle.std.proofs.Common.{◌≡◌, refl, subst, ℕ, length, List, [], ◌∷◌, Bool, true, false, Result, Ok, Err}
 use Rattle.pfr_flash.specs.FlashState.{Rose}
 use Rattle.pfr_flash.specs.declared.names.Bank.{Bank}
 use Rattle.pfr_flash.specs.declared.names.Bank.TheVariants as bank
@@ -7,7 +7,7 @@ use Rattle.pfr_flash.specs.declared.names.Device.{Device}
 use Rattle.pfr_flash.specs.declared.names.Device.TheVariants as device
 use Rattle.pfr_engine.specs.Acceptance.{Acceptance}
 use Rattle.pfr_fuses.specs.FusesOf.{fuses_of}
-use Rattle.pfr_fuses.specs.Provisioning.{provision_plan}
+use Rattle.pfr_fuses.specs.Provisioning.{judge_provision, provision_plan}
 use Rattle.pfr_fuses.specs.declared.fuse_fail.FuseFail.{FuseFail}
 use Rattle.pfr_fuses.specs.declared.root_slot.RootSlot.{RootSlot}
 use Rattle.pfr_script.specs.declared.event.Event.{Event}
@@ -17,19 +17,19 @@ use Rattle.pfr_report.specs.declared.note.What.{What}
 use Rattle.pfr_report.specs.declared.note.What.TheVariants as what
 use Rattle.pfr_story.specs.Story.{Story, Says, device_of, called, after}
 use Rattle.pfr_story.specs.World.{World, story_of, state_at, NoneLost, NoneRose, added}
-use Rattle.pfr_story.specs.Safety.{AllGood, AllSafe, AllCall}
+use Rattle.pfr_story.specs.Safety.{AllGood, AllSafe, AllMake}
 use Rattle.pfr_story.specs.Course.{Stretch, Course, Follows, Calm}
 use Rattle.pfr_story.specs.Standing.{standing_of, is_off}
-use Rattle.pfr_story.specs.Plans.{store, provisioned_in, migration_in}
+use Rattle.pfr_story.specs.Plans.{store, migrated, provisioned, provisioned_in, migration_in}
 use Rattle.pfr_story.specs.Turn.{bank_stretch, fuse_stretch, provision_stretch, where_off, ignored, power_course, off_course, provision_course, course, begun, Turn}
 use Rattle.pfr_story.specs.Promises.{IsSwitchedOff}
 use Rattle.pfr_story.proofs.WorldLaws.{AllMoved-refl}
 use Rattle.pfr_story.proofs.SafetyLaws.{AllSafe-append}
-use Rattle.pfr_story.proofs.CallLaws.{AllCall-append, AllCall-called, cut_calls}
+use Rattle.pfr_story.proofs.CallLaws.{AllMake-append, AllMake-called, cut_makes}
 use Rattle.pfr_story.proofs.Courses.{Follows-calm}
 use Rattle.pfr_story.proofs.Traces.{Traced, Traced-known, KnownBefore}
 use Rattle.pfr_story.proofs.StepTraces.{Between, AllowsLosses, IsGoodStretch, AreGood, AreGood-none, AreGood-next, Follows-good}
-use Rattle.pfr_story.proofs.Facts.{Setting, Fact, IsTrue, call_true, brought_true, IsOwn, brought_calls, lock_true}
+use Rattle.pfr_story.proofs.Facts.{Setting, Fact, IsTrue, call_true, brought_true, IsOwn, IsNoLoss, brought_makes, lock_true}
 
 -- A step in which no count of losses or faults rose is calm.
 pub Turn-calm : (accepts : Acceptance) (e : Event) (old new : World) → Turn accepts e old new → NoneLost old new → NoneRose old new → Calm (course accepts e (story_of old)) (begun old) new
@@ -44,6 +44,20 @@ abbrev pub Any : Story → Type 0
 Any story = Unit {0}
 
 -- ---- the stretches
+abbrev pub IsStore : Device → Type 0
+IsStore which = which ≡ device.Nv
+
+pub migrated_makes : (story : Story) → AllMake IsStore IsNoLoss (migrated story)
+migrated_makes story = AllMake-called IsStore IsNoLoss device.Nv (migration_in (fuses_of (store story))) refl
+
+tried_makes : (root : RootSlot) (judged : Result ℕ FuseFail) (story : Story) → AllMake IsStore IsNoLoss (provisioned_in root judged story)
+tried_makes root (Ok number) story =
+    AllMake-append IsStore IsNoLoss (called device.Nv (provision_plan number root)) (Says (λ _. what.Provisioned) ∷ []) (AllMake-called IsStore IsNoLoss device.Nv (provision_plan number root) refl) ((λ at loss. loss), tt)
+tried_makes root (Err cause) story = ((λ at loss. loss), tt)
+
+pub provisioned_makes : (root : RootSlot) (story : Story) → AllMake IsStore IsNoLoss (provisioned root story)
+provisioned_makes root story = (refl, tried_makes root (judge_provision (store story) root (length story.bmc.start) (length story.pch.start)) story)
+
 module _ (s : Setting) where
   abbrev pub IsTrueStretch : Stretch → Type 0
   IsTrueStretch stretch = IsGoodStretch (IsTrue s) s.first s.last Any Any stretch Any
@@ -51,12 +65,9 @@ module _ (s : Setting) where
   bank_true : (b : Bank) → IsTrueStretch (bank_stretch s.accepts b)
   bank_true b = record {
     plan = record { safe = λ story p. brought_true s b story; ends = λ story p. tt };
-    noted = λ which story trace p cut rose. ((refl, lock_true s b which (after trace story) (cut_calls (IsOwn b) which _ trace story (brought_calls s.accepts b story) cut) rose), tt);
+    noted = λ which story trace p cut rose. ((refl, lock_true s b which (after trace story) (cut_makes (IsOwn b) IsNoLoss which _ trace story (brought_makes s.accepts b story) cut).0 rose), tt);
     on = λ which story trace p cut e. tt;
   }
-
-  abbrev pub IsStore : Device → Type 0
-  IsStore which = which ≡ device.Nv
 
   store_rose : (which : Device) → IsStore which → Rose (state_at which s.first).faults (state_at which s.last).faults → Rose s.first.nv.faults s.last.nv.faults
   store_rose which e rose = subst (λ (d : Device). Rose (state_at d s.first).faults (state_at d s.last).faults) e rose
@@ -65,7 +76,7 @@ module _ (s : Setting) where
   fuse_true = record {
     plan = record { safe = λ story p. call_true s device.Nv (migration_in (fuses_of (store story))) story; ends = λ story p. tt };
     noted = λ which story trace p cut rose.
-        let nv = store_rose which (cut_calls IsStore which _ trace story (AllCall-called IsStore device.Nv (migration_in (fuses_of (store story))) refl) cut) rose in
+        let nv = store_rose which (cut_makes IsStore IsNoLoss which _ trace story (migrated_makes story) cut).0 rose in
         (refl, ((refl, nv), (refl, ((refl, nv), tt))));
     on = λ which story trace p cut e. tt;
   }
@@ -75,15 +86,11 @@ module _ (s : Setting) where
       AllSafe-append (IsTrue s) (called device.Nv (provision_plan number root)) (Says (λ _. what.Provisioned) ∷ []) story (call_true s device.Nv (provision_plan number root) story) (tt, tt)
   provisioned_true root (Err cause) story = (tt, tt)
 
-  provisioned_calls : (root : RootSlot) (judged : Result ℕ FuseFail) (story : Story) → AllCall IsStore (provisioned_in root judged story)
-  provisioned_calls root (Ok number) story = AllCall-append IsStore (called device.Nv (provision_plan number root)) (Says (λ _. what.Provisioned) ∷ []) (AllCall-called IsStore device.Nv (provision_plan number root) refl) tt
-  provisioned_calls root (Err cause) story = tt
-
   provision_true : (root : RootSlot) → IsTrueStretch (provision_stretch root)
   provision_true root = record {
     plan = record { safe = λ story p. (tt, provisioned_true root _ story); ends = λ story p. tt };
     noted = λ which story trace p cut rose.
-        let nv = store_rose which (cut_calls IsStore which _ trace story (refl, provisioned_calls root _ story) cut) rose in
+        let nv = store_rose which (cut_makes IsStore IsNoLoss which _ trace story (provisioned_makes root story) cut).0 rose in
         ((refl, nv), ((refl, nv), tt));
     on = λ which story trace p cut e. tt;
   }

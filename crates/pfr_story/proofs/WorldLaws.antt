@@ -1,5 +1,5 @@
 -- What devices do from one world to the next, and why a call failed.
-use Rattle.std.proofs.Common.{◌≡◌, ◌∙◌, ◌+◌, ◌≤◌, refl, ap, ℕ, arith, ◌⊎◌, inl, inr, true, false}
+use Rattle.std.proofs.Common.{◌≡◌, ◌≢◌, ◌∙◌, ◌+◌, ◌≤◌, refl, ap, ℕ, arith, ◌⊎◌, inl, inr, true, false}
 use Rattle.std.proofs.lemmas.Bool.{cases_Bool}
 use Rattle.pfr_flash.specs.FlashState.{FlashState, raised_by}
 use Rattle.pfr_flash.specs.Moved.{Moved, was_done}
@@ -8,7 +8,7 @@ use Rattle.pfr_flash.specs.declared.flash.FlashFail.TheVariants.{Fault, Lost}
 use Rattle.pfr_flash.specs.declared.names.Device.{Device}
 use Rattle.pfr_flash.specs.declared.names.Device.TheVariants as device
 use Rattle.pfr_flash.proofs.MovedLemmas.{Moved-refl, Moved-trans}
-use Rattle.pfr_story.specs.World.{World, state_at, AllMoved, NoneFailed, NoneLost, Caused}
+use Rattle.pfr_story.specs.World.{World, state_at, AllMoved, NoneFailed, NoneLost, LostAt, Caused}
 
 -- ---- what the devices did
 pub AllMoved-refl : (w : World) → AllMoved w w
@@ -64,6 +64,18 @@ NoneFailed-at device.Pch a b p = p.pch
 NoneFailed-at device.Nv a b p = p.nv
 
 -- ---- why a call failed
+pub LostAt-later : (which : Device) (a b c : World) → NoneLost a b → LostAt which b c → LostAt which a c
+LostAt-later which a b c l p = record {
+  once = p.once ∙ ap (λ (n : ℕ). n + 1) (NoneLost-at which a b l);
+  others = λ other no. p.others other no ∙ NoneLost-at other a b l;
+}
+
+pub LostAt-on : (which : Device) (a b c : World) → LostAt which a b → NoneLost b c → LostAt which a c
+LostAt-on which a b c p l = record {
+  once = NoneLost-at which b c l ∙ p.once;
+  others = λ other no. NoneLost-at other b c l ∙ p.others other no;
+}
+
 -- what was done before without a loss or a fault changes nothing of it
 pub Caused-later : (which : Device) (fail : FlashFail) (a b c : World) → NoneLost a b → NoneFailed a b → Caused which fail b c → Caused which fail a c
 Caused-later which Fault a b c l f p = (
@@ -73,10 +85,16 @@ Caused-later which Fault a b c l f p = (
   },
   NoneLost-trans a b c l p.1,
 )
-Caused-later which Lost a b c l f p = (
-  record {
-    once = p.0.once ∙ ap (λ (n : ℕ). n + 1) (NoneLost-at which a b l);
-    others = λ other no. p.0.others other no ∙ NoneLost-at other a b l;
-  },
-  NoneFailed-trans a b c f p.1,
-)
+Caused-later which Lost a b c l f p = (LostAt-later which a b c l p.0, NoneFailed-trans a b c f p.1)
+
+-- each device is this one, or another
+pub each_at : (which other : Device) → (other ≡ which) ⊎ (other ≢ which)
+each_at device.Bmc device.Bmc = inl refl
+each_at device.Pch device.Pch = inl refl
+each_at device.Nv device.Nv = inl refl
+each_at device.Bmc device.Pch = inr (λ e. cc)
+each_at device.Bmc device.Nv = inr (λ e. cc)
+each_at device.Pch device.Bmc = inr (λ e. cc)
+each_at device.Pch device.Nv = inr (λ e. cc)
+each_at device.Nv device.Bmc = inr (λ e. cc)
+each_at device.Nv device.Pch = inr (λ e. cc)

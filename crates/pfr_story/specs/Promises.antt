@@ -1,5 +1,5 @@
 -- What each step promises of its notes.
-use Rattle.std.specs.Prelude.{◌≡◌, ℕ, ◌<◌, List, Some, None, true}
+use Rattle.std.specs.Prelude.{◌≡◌, ◌↔◌, ℕ, ◌<◌, List, [], ◌∷◌, ◌++◌, Option, Some, None, true}
 use Rattle.pfr_flash.specs.FlashState.{upto, Rose}
 use Rattle.pfr_flash.specs.declared.names.Bank.{Bank}
 use Rattle.pfr_flash.specs.declared.names.Bank.TheVariants as bank
@@ -14,9 +14,9 @@ use Rattle.pfr_report.specs.declared.note.LockWhy.{LockWhy}
 use Rattle.pfr_report.specs.declared.note.LockWhy.TheVariants as why
 use Rattle.pfr_report.specs.declared.note.Note.{Note}
 use Rattle.pfr_report.specs.declared.note.What.TheVariants.{Released, Locked, Lost, Untrusted}
-use Rattle.pfr_story.specs.Story.{device_of}
-use Rattle.pfr_story.specs.World.{World, state_at, NoneFailed, added}
-use Rattle.pfr_story.specs.Standing.{standing_of, is_off}
+use Rattle.pfr_story.specs.Story.{counts_of, device_of}
+use Rattle.pfr_story.specs.World.{World, story_of, state_at, NoneFailed, added}
+use Rattle.pfr_story.specs.Standing.{standing_of, is_off, Off}
 use Rattle.pfr_story.specs.Causes.{IsTrustedWith, IsAgainst, IsDue}
 
 -- the count of a bank's operations
@@ -78,3 +78,24 @@ IsSwitchedOff e old = ⊥
 pub record LossesHaveCauses (e : Event) (old new : World) : Type 0 where
   pub device : (which : Device) (at : Counts) → IsNoted (added old new) (Lost (Some which) at) → (state_at which old).losses < (state_at which new).losses
   pub switched : (at : Counts) → IsNoted (added old new) (Lost None at) → IsSwitchedOff e old
+
+-- it was noted that this device lost the power
+pub record HasLost (which : Device) (notes : List Note) : Type 0 where
+  pub at : Counts
+  pub noted : IsNoted notes (Lost (Some which) at)
+
+-- It is noted exactly of a device whose count of losses rose.
+abbrev pub LossesAreNoted : World → World → Type 0
+LossesAreNoted old new = (which : Device) → (HasLost which (added old new) ↔ ((state_at which old).losses < (state_at which new).losses))
+
+-- it is the last note, with the counts at the end, and both banks are off
+pub record IsLast (device : Option Device) (at : Counts) (w : World) : Type 0 where
+  pub before : List Note
+  pub last : w.notes.list ≡ before ++ record { item = w.item; what = Lost device at } ∷ []
+  pub counts : at ≡ counts_of (story_of w)
+  pub bmc : standing_of bank.Bmc w.notes.list ≡ Off
+  pub pch : standing_of bank.Pch w.notes.list ≡ Off
+
+-- Lost ends the step.
+abbrev pub LostEnds : World → World → Type 0
+LostEnds old new = (device : Option Device) (at : Counts) → IsNoted (added old new) (Lost device at) → IsLast device at new

@@ -1,7 +1,9 @@
 -- What is true of each move of a plan, also of one that is torn.
 use Rattle.std.specs.Prelude.{List, [], ◌∷◌}
 use Rattle.pfr_flash.specs.Operation.{Operation, IsTorn}
+use Rattle.pfr_flash.specs.declared.names.Counts.{Counts}
 use Rattle.pfr_flash.specs.declared.names.Device.{Device}
+use Rattle.pfr_report.specs.declared.note.What.{What}
 use Rattle.pfr_story.specs.Story.{Story, Move, Says, Does, Asks, Plan, after, moved_by, image_at}
 
 -- a rule for moves, by the story before each
@@ -40,9 +42,9 @@ pub record Leads (G : Rule) (P : Story → Type 0) (plan : Plan) (Q : Story → 
   pub safe : (story : Story) → P story → AllSafe G (plan story) story
   pub ends : (story : Story) → P story → Q (after (plan story) story)
 
--- each device that these moves call is one of these
-abbrev pub AllCall : (Device → Type 0) → List Move → Type 0
-AllCall D [] = Unit {0}
-AllCall D (Says what ∷ moves) = AllCall D moves
-AllCall D (Does which op ∷ moves) = D which × AllCall D moves
-AllCall D (Asks which ∷ moves) = D which × AllCall D moves
+-- each device that these moves call is one of these, and so is each of their notes
+abbrev pub AllMake : (Device → Type 0) → ((Counts → What) → Type 0) → List Move → Type 0
+AllMake D S [] = Unit {0}
+AllMake D S (Says what ∷ moves) = S what × AllMake D S moves
+AllMake D S (Does which op ∷ moves) = D which × AllMake D S moves
+AllMake D S (Asks which ∷ moves) = D which × AllMake D S moves
