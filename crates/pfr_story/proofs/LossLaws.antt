@@ -22,14 +22,14 @@ use Rattle.pfr_story.specs.Course.{Stretch, Faults, goes_on_if, Steps, lost, Cou
 use Rattle.pfr_story.specs.Standing.{standing_of, standing_from, standing_after, is_off, Standing, Off}
 use Rattle.pfr_story.specs.Plans.{brought_up, migrated, provisioned}
 use Rattle.pfr_story.specs.Turn.{bank_stretch, fuse_stretch, provision_stretch, where_off, ignored, off_course, power_course, provision_course, begun, Turn}
-use Rattle.pfr_story.specs.Promises.{HasLost, LossesAreNoted, IsLast, LostEnds}
+use Rattle.pfr_story.specs.Promises.{HasLost, LossesAreNoted, IsLast, LostEnds, IsSwitchedOff, NotesOff}
 use Rattle.pfr_story.proofs.WorldLaws.{NoneLost-trans, NoneLost-at, LostAt-later, LostAt-on, each_at}
 use Rattle.pfr_story.proofs.Sequence.{after-append}
 use Rattle.pfr_story.proofs.CallLaws.{AllMake-append, AllMake-more, cut_makes}
 use Rattle.pfr_story.proofs.Traces.{noted_append, noted_right}
 use Rattle.pfr_story.proofs.Made.{said, said_append, notes_after, Made, made_then, added_said}
 use Rattle.pfr_story.proofs.Facts.{IsOwn, IsLoss, IsNoLoss, brought_makes}
-use Rattle.pfr_story.proofs.Turns.{IsStore, migrated_makes, provisioned_makes}
+use Rattle.pfr_story.proofs.Turns.{step_of, Turn-known, IsStore, migrated_makes, provisioned_makes}
 
 -- ---- moves that note no loss
 abbrev pub Each : Device → Type 0
@@ -258,3 +258,19 @@ Turn-losses_noted accepts e old new t which = by_end (Turn-ends accepts e old ne
         noted = subst (λ (d : Option Device). IsNoted (added old new) (what.Lost d (counts_of (there (begun old) new l)))) is (is_noted (begun old) new l);
       }),
     )
+
+-- one without a device is noted exactly where the power is taken
+switched_off : (accepts : Acceptance) (e : Event) (old new : World) → Turn accepts e old new → IsSwitchedOff e old → IsNoted (added old new) (what.Lost None (counts_of (story_of new)))
+switched_off accepts event.Off old new t on = by_off (is_off (standing_of bank.Bmc old.notes.list)) refl t
+  where
+    by_off : (off : Bool) → is_off (standing_of bank.Bmc old.notes.list) ≡ off → Follows (where_off off ignored off_course) (begun old) new → IsNoted (added old new) (what.Lost None (counts_of (story_of new)))
+    by_off true e t = absurd (on e)
+    by_off false e (mid, says, rest) =
+        let l : EndsLost (begun old) new = record { device = None; counted = NoneLost-trans (begun old) mid new says.none_lost rest.none_lost; front = []; quiet = tt; is = rest.is ∙ says.is } in
+        subst (λ (at : Counts). IsNoted (added old new) (what.Lost None at)) (sym (ap (λ (s : Story). counts_of s) l.is)) (is_noted (begun old) new l)
+switched_off accepts event.Power old new t off = absurd off
+switched_off accepts (event.Provision root) old new t off = absurd off
+
+pub Turn-off : (accepts : Acceptance) (e : Event) (old new : World) → Turn accepts e old new → NotesOff e old new
+unfolding step_of
+Turn-off accepts e old new t = record { only = λ at n. (Turn-known accepts e old new t (what.Lost None at) n).1.1; all = switched_off accepts e old new t }

@@ -1,4 +1,4 @@
--- Each step keeps its promises about releases, locks, faults and losses.
+-- Each step keeps its promises about releases, locks and faults.
 use Rattle.std.proofs.Common.{◌≡◌, ◌∙◌, refl, sym, ap, subst, ℕ, arith, List, length, take, Some, None}
 use Rattle.pfr_flash.specs.Bytes.{AreBytes}
 use Rattle.pfr_flash.specs.FlashState.{upto}
@@ -15,7 +15,7 @@ use Rattle.pfr_story.specs.World.{World, story_of, state_at, AreDevices}
 use Rattle.pfr_story.specs.Plans.{mine, store}
 use Rattle.pfr_story.specs.Causes.{IsTrustedWith, IsAgainst, IsDue}
 use Rattle.pfr_story.specs.Turn.{Turn}
-use Rattle.pfr_story.specs.Promises.{count_at, AtCounts, ReleasesTrusted, IsFaultLock, FaultsHaveCauses, LocksHaveCauses, DistrustsWithCause, LossesHaveCauses}
+use Rattle.pfr_story.specs.Promises.{count_at, AtCounts, ReleasesTrusted, IsFaultLock, FaultsHaveCauses, LocksHaveCauses, DistrustsWithCause}
 use Rattle.pfr_story.proofs.Traces.{Precedes, upto_begins, images_before}
 use Rattle.pfr_story.proofs.Facts.{Setting, LockFact}
 use Rattle.pfr_story.proofs.Turns.{step_of, Turn-known}
@@ -47,14 +47,6 @@ module _ (accepts : Acceptance) (e : Event) (old new : World) (t : Turn accepts 
   Turn-faults = record {
     flash = λ which at n. (Turn-known accepts e old new t (what.Locked which why.FlashFault at) n).1.1;
     store = λ which at n. (Turn-known accepts e old new t (what.Locked which why.StoreFault at) n).1.1;
-  }
-
-  -- A loss of power is noted only where it was counted, or where the power was taken.
-  pub Turn-losses : LossesHaveCauses e old new
-  unfolding step_of
-  Turn-losses = record {
-    device = λ which at n. (Turn-known accepts e old new t (what.Lost (Some which) at) n).1.1;
-    switched = λ at n. (Turn-known accepts e old new t (what.Lost None at) n).1.1;
   }
 
   -- A bank's image is called untrusted only with the cause against it.

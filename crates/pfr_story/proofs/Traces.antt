@@ -95,9 +95,6 @@ upto_begins a b p =
 begins_moved : (old new : FlashState) → Moved old new → Begins (past_of old) (past_of new)
 begins_moved old new m = record { start = m.start; more = m.ops.more; ops = m.ops.is }
 
-pub Precedes-moved : (old new : World) → AllMoved old new → Precedes (story_of old) (story_of new)
-Precedes-moved old new m = record { bmc = begins_moved old.bmc new.bmc m.bmc; pch = begins_moved old.pch new.pch m.pch; nv = begins_moved old.nv new.nv m.nv }
-
 -- ---- what devices hold that hold bytes later
 abbrev pub AreImages : Story → Type 0
 AreImages story = (which : Device) → AreBytes (image_at which story)
@@ -109,6 +106,11 @@ pub images_before : (at : Story) (new : World) → Precedes at (story_of new) �
 images_before at new p h device.Bmc = bytes_before at.bmc new.bmc p.bmc h.bmc
 images_before at new p h device.Pch = bytes_before at.pch new.pch p.pch h.pch
 images_before at new p h device.Nv = bytes_before at.nv new.nv p.nv h.nv
+
+-- so each moment of a step is one of devices that hold bytes
+pub images_between : (last : World) → AreDevices last → (w : World) → AllMoved w last → AreImages (story_of w)
+images_between last h w m =
+    images_before (story_of w) last (record { bmc = begins_moved w.bmc last.bmc m.bmc; pch = begins_moved w.pch last.pch m.pch; nv = begins_moved w.nv last.nv m.nv }) h
 
 -- ---- what is known of each note
 pub noted_append : (xs ys : List Note) (that : What) → IsNoted (xs ++ ys) that → IsNoted xs that ⊎ IsNoted ys that

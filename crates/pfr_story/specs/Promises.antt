@@ -74,10 +74,10 @@ abbrev pub IsSwitchedOff : Event → World → Type 0
 IsSwitchedOff event.Off old = ¬ AreOff old
 IsSwitchedOff e old = ⊥
 
--- A loss of power is noted only of a device whose count of losses rose, and without a device only where the power was taken.
-pub record LossesHaveCauses (e : Event) (old new : World) : Type 0 where
-  pub device : (which : Device) (at : Counts) → IsNoted (added old new) (Lost (Some which) at) → (state_at which old).losses < (state_at which new).losses
-  pub switched : (at : Counts) → IsNoted (added old new) (Lost None at) → IsSwitchedOff e old
+-- Without a device a loss is noted exactly there.
+pub record NotesOff (e : Event) (old new : World) : Type 0 where
+  pub only : (at : Counts) → IsNoted (added old new) (Lost None at) → IsSwitchedOff e old
+  pub all : IsSwitchedOff e old → IsNoted (added old new) (Lost None (counts_of (story_of new)))
 
 -- it was noted that this device lost the power
 pub record HasLost (which : Device) (notes : List Note) : Type 0 where
