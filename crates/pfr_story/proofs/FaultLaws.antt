@@ -1,8 +1,5 @@
 -- A step that notes no fault and no loss is calm: a fault that a device answered is noted.
-use Rattle.std.proofs.Common.{◌≡◌, ◌∙◌, refl, sym, ap, subst, Bool, true, false, List, [], ◌∷◌, ◌++◌, length, drop, append_assoc, Some, ◌⊎◌, inl, inr}
-use Rattle.std.proofs.lemmas.List.{append-nil}
-use Rattle.std.proofs.Math.Seq.{drop-append_seam}
-use Rattle.pfr_flash.specs.Operation.{Operation}
+use Rattle.std.proofs.Common.{◌≡◌, refl, sym, subst, Bool, true, false, List, [], ◌∷◌, ◌++◌, Some, ◌⊎◌, inl, inr}
 use Rattle.pfr_flash.specs.declared.names.Bank.{Bank}
 use Rattle.pfr_flash.specs.declared.names.Bank.TheVariants as bank
 use Rattle.pfr_flash.specs.declared.names.Counts.{Counts}
@@ -18,16 +15,16 @@ use Rattle.pfr_report.specs.declared.note.LockWhy.TheVariants as why
 use Rattle.pfr_report.specs.declared.note.Note.{Note}
 use Rattle.pfr_report.specs.declared.note.What.{What}
 use Rattle.pfr_report.specs.declared.note.What.TheVariants as what
-use Rattle.pfr_story.specs.Story.{Story, Move, Says, Does, Asks, after, moved_by, noted, operated, counts_of}
+use Rattle.pfr_story.specs.Story.{Story, Move, Says, Does, Asks, after, noted, operated, counts_of}
 use Rattle.pfr_story.specs.World.{World, story_of, added}
 use Rattle.pfr_story.specs.Goes.{Ran}
-use Rattle.pfr_story.specs.Course.{Stretch, Faults, LosesPower, goes_on_if, Steps, lost, calm_of, Course, Follows, Calm}
+use Rattle.pfr_story.specs.Course.{Stretch, Steps, lost, calm_of, Course, Follows, Calm}
 use Rattle.pfr_story.specs.Standing.{standing_of, is_off}
 use Rattle.pfr_story.specs.Turn.{bank_stretch, where_off, ignored, off_course, provision_course, course, begun, Turn}
 use Rattle.pfr_story.specs.Promises.{IsFaultLock, IsUndisturbed, FaultsAreNoted}
 use Rattle.pfr_story.proofs.Made.{said, Made, made_then, made_on, Steps-made, added_said}
 use Rattle.pfr_story.proofs.Courses.{opening}
-use Rattle.pfr_story.proofs.Sequence.{after-append, Ran-append}
+use Rattle.pfr_story.proofs.Sequence.{Ran-append}
 
 -- ---- moves that tell of a fault or of a loss of power
 abbrev pub IsTrouble : (Counts → What) → Type 0
@@ -91,11 +88,15 @@ Steps-ends (s ∷ ss) old new tells (inl (mid, c, rest)) = elim (Steps-ends ss m
 ]
 Steps-ends (s ∷ ss) old new tells (inr (inl (mid, f, rest))) =
     let behind = made_on s.goes_on (Steps ss) mid new (λ r. Steps-made ss mid new r) rest in
-    inr (made_then old f.at new (record { trace = f.stopped.trace; is = f.stopped.is }) (made_then f.at mid new (record { trace = s.on_fault f.which; is = f.noted.is }) behind),
-    tells_right f.stopped.trace (s.on_fault f.which ++ behind.trace) (tells_left (s.on_fault f.which) behind.trace (tells.0 f.which)))
+    inr (
+      made_then old f.at new (record { trace = f.stopped.trace; is = f.stopped.is }) (made_then f.at mid new (record { trace = s.on_fault f.which; is = f.noted.is }) behind),
+      tells_right f.stopped.trace (s.on_fault f.which ++ behind.trace) (tells_left (s.on_fault f.which) behind.trace (tells.0 f.which)),
+    )
 Steps-ends (s ∷ ss) old new tells (inr (inr l)) =
-    inr (made_then old l.at new (record { trace = l.stopped.trace; is = l.stopped.is }) (record { trace = lost l.which; is = l.noted.is }),
-    tells_right l.stopped.trace (lost l.which) (inl (inr (l.which, refl))))
+    inr (
+      made_then old l.at new (record { trace = l.stopped.trace; is = l.stopped.is }) (record { trace = lost l.which; is = l.noted.is }),
+      tells_right l.stopped.trace (lost l.which) (inl (inr (l.which, refl))),
+    )
 
 -- what is told is noted
 told_noted : (old new : World) → IsTold old new → ¬ IsUndisturbed (added old new)

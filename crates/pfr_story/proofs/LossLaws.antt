@@ -1,5 +1,5 @@
 -- A loss of power ends a step, and is noted exactly where it was counted.
-use Rattle.std.proofs.Common.{◌≡◌, ◌↔◌, ◌∙◌, ◌<◌, refl, sym, ap, subst, arith, ℕ, Bool, true, false, List, [], ◌∷◌, ◌++◌, append_assoc, Option, Some, None, ◌⊎◌, inl, inr}
+use Rattle.std.proofs.Common.{◌≡◌, ◌↔◌, ◌∙◌, ◌<◌, refl, sym, ap, subst, arith, ℕ, Bool, true, false, List, [], ◌∷◌, ◌++◌, Option, Some, None, ◌⊎◌, inl, inr}
 use Rattle.pfr_flash.specs.FlashState.{FlashState}
 use Rattle.pfr_flash.specs.declared.names.Bank.{Bank}
 use Rattle.pfr_flash.specs.declared.names.Bank.TheVariants as bank
@@ -16,9 +16,9 @@ use Rattle.pfr_report.specs.declared.note.What.{What}
 use Rattle.pfr_report.specs.declared.note.What.TheVariants as what
 use Rattle.pfr_story.specs.Story.{Story, Move, Says, Does, Asks, after, noted, operated, counts_of}
 use Rattle.pfr_story.specs.World.{World, story_of, state_at, NoneLost, LostAt, added}
-use Rattle.pfr_story.specs.Goes.{Ran, Stopped}
+use Rattle.pfr_story.specs.Goes.{Ran}
 use Rattle.pfr_story.specs.Safety.{AllMake}
-use Rattle.pfr_story.specs.Course.{Stretch, Faults, goes_on_if, Steps, lost, Course, Follows}
+use Rattle.pfr_story.specs.Course.{Stretch, goes_on_if, Steps, Course, Follows}
 use Rattle.pfr_story.specs.Standing.{standing_of, standing_from, standing_after, is_off, Standing, Off}
 use Rattle.pfr_story.specs.Plans.{brought_up, migrated, provisioned}
 use Rattle.pfr_story.specs.Turn.{bank_stretch, fuse_stretch, provision_stretch, where_off, ignored, off_course, power_course, provision_course, begun, Turn}
@@ -27,7 +27,7 @@ use Rattle.pfr_story.proofs.WorldLaws.{NoneLost-trans, NoneLost-at, LostAt-later
 use Rattle.pfr_story.proofs.Sequence.{after-append}
 use Rattle.pfr_story.proofs.CallLaws.{AllMake-append, AllMake-more, cut_makes}
 use Rattle.pfr_story.proofs.Traces.{noted_append, noted_right}
-use Rattle.pfr_story.proofs.Made.{said, said_append, notes_after, Made, made_then, added_said}
+use Rattle.pfr_story.proofs.Made.{said, said_append, Made, made_then, added_said}
 use Rattle.pfr_story.proofs.Facts.{IsOwn, IsLoss, IsNoLoss, brought_makes}
 use Rattle.pfr_story.proofs.Turns.{step_of, Turn-known, IsStore, migrated_makes, provisioned_makes}
 
@@ -252,11 +252,11 @@ Turn-losses_noted accepts e old new t which = by_end (Turn-ends accepts e old ne
     by_end (inr l) = (
       (λ h. let fell = counted_fell which (begun old) new l.device (sym (lost_last (begun old) new l (Some which) h.at h.noted).0) l.counted in omega (arith, ap (λ (d : FlashState). d.losses) (begun_state which old), fell)),
       (λ fell.
-      let is = fell_counted which (begun old) new l.device l.counted (omega (arith, ap (λ (d : FlashState). d.losses) (begun_state which old), fell)) in
-      record {
-        at = counts_of (there (begun old) new l);
-        noted = subst (λ (d : Option Device). IsNoted (added old new) (what.Lost d (counts_of (there (begun old) new l)))) is (is_noted (begun old) new l);
-      }),
+          let is = fell_counted which (begun old) new l.device l.counted (omega (arith, ap (λ (d : FlashState). d.losses) (begun_state which old), fell)) in
+          record {
+            at = counts_of (there (begun old) new l);
+            noted = subst (λ (d : Option Device). IsNoted (added old new) (what.Lost d (counts_of (there (begun old) new l)))) is (is_noted (begun old) new l);
+          }),
     )
 
 -- one without a device is noted exactly where the power is taken

@@ -1,5 +1,5 @@
 -- Each step keeps its promises about releases, locks and faults.
-use Rattle.std.proofs.Common.{◌≡◌, ◌∙◌, refl, sym, ap, subst, ℕ, arith, List, length, take, Some, None}
+use Rattle.std.proofs.Common.{◌≡◌, refl, sym, subst, ℕ, List}
 use Rattle.pfr_flash.specs.Bytes.{AreBytes}
 use Rattle.pfr_flash.specs.FlashState.{upto}
 use Rattle.pfr_flash.specs.declared.names.Bank.{Bank}

@@ -1,11 +1,10 @@
 -- What leaves a bank one that can be recovered, at every cut, whatever it tore.
-use Rattle.std.proofs.Common.{◌≡◌, ◌∙◌, ℕ, refl, sym, subst, arith, List, [], ◌∷◌, inr}
+use Rattle.std.proofs.Common.{◌≡◌, ◌∙◌, ℕ, sym, subst, arith, List, [], ◌∷◌, inr}
 use Rattle.pfr_flash.specs.Layout.{IsValidLayout}
 use Rattle.pfr_flash.specs.declared.layout.Layout.{Layout}
 use Rattle.pfr_flash.specs.Operation.{Operation}
 use Rattle.pfr_flash.specs.declared.names.Bank.{Bank}
 use Rattle.pfr_flash.specs.declared.names.Bank.TheVariants as bank
-use Rattle.pfr_flash.specs.declared.names.Device.TheVariants as device
 use Rattle.pfr_flash.proofs.RangeLemmas.{IsTorn-within}
 use Rattle.pfr_engine.specs.Acceptance.{Acceptance}
 use Rattle.pfr_jobs.specs.Log.{current_at}
@@ -57,14 +56,14 @@ module _ (accepts : Acceptance) (b : Bank) (layout : Layout) (size : ℕ) (valid
   deed_safe (DoesSide side.Bank op) story within w = (
     (λ q. inr (deed_done (DoesSide side.Bank op) story within w).job),
     (λ done t q.
-    let same = IsTorn-within _ op done t in
-    inr (deed_done (DoesSide side.Bank done) story (record { low = omega (arith, within.low, same.0); high = omega (arith, within.high, same.0, same.1) }) w).job),
+        let same = IsTorn-within _ op done t in
+        inr (deed_done (DoesSide side.Bank done) story (record { low = omega (arith, within.low, same.0); high = omega (arith, within.high, same.0, same.1) }) w).job),
   )
   deed_safe (DoesSide side.Store op) story mark w = (
     (λ q. inr (deed_done (DoesSide side.Store op) story mark w).job),
     (λ done t q.
-    let same = IsTorn-within _ op done t in
-    inr (deed_done (DoesSide side.Store done) story (record { slot = mark.slot; group = mark.group; few = mark.few; small = mark.small; place = same.0 ∙ mark.place; one = same.1 ∙ mark.one }) w).job),
+        let same = IsTorn-within _ op done t in
+        inr (deed_done (DoesSide side.Store done) story (record { slot = mark.slot; group = mark.group; few = mark.few; small = mark.small; place = same.0 ∙ mark.place; one = same.1 ∙ mark.one }) w).job),
   )
 
   still_current : (deed : Deed) (story : Story) → IsPass deed story → AtWork story → current_at (store (moved_by (deed_move b deed) story)) b ≡ current_at (store story) b

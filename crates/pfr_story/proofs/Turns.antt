@@ -15,7 +15,7 @@ use Rattle.pfr_script.specs.declared.event.Event.TheVariants as event
 use Rattle.pfr_report.specs.Texts.{IsNoted}
 use Rattle.pfr_report.specs.declared.note.What.{What}
 use Rattle.pfr_report.specs.declared.note.What.TheVariants as what
-use Rattle.pfr_story.specs.Story.{Story, Says, device_of, called, after}
+use Rattle.pfr_story.specs.Story.{Story, Says, called, after}
 use Rattle.pfr_story.specs.World.{World, story_of, state_at, NoneLost, NoneRose, added}
 use Rattle.pfr_story.specs.Safety.{AllGood, AllSafe, AllMake}
 use Rattle.pfr_story.specs.Course.{Stretch, Course, Follows, Calm}
