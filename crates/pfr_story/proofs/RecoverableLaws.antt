@@ -1,5 +1,5 @@
 -- What leaves a bank one that can be recovered, at every cut, whatever it tore.
-use Rattle.std.proofs.Common.{◌≡◌, ◌∙◌, ℕ, sym, subst, arith, List, [], ◌∷◌, inr}
+use Rattle.std.proofs.Common.{◌≡◌, ◌∙◌, ℕ, sym, subst, arith, List, [], ◌∷◌, inr, Result, Ok, Err}
 use Rattle.pfr_flash.specs.Layout.{IsValidLayout}
 use Rattle.pfr_flash.specs.declared.layout.Layout.{Layout}
 use Rattle.pfr_flash.specs.Operation.{Operation}
@@ -10,14 +10,19 @@ use Rattle.pfr_engine.specs.Acceptance.{Acceptance}
 use Rattle.pfr_jobs.specs.Log.{current_at}
 use Rattle.pfr_strokes.specs.Deeds.{Deed, Asks as AsksSide, Does as DoesSide}
 use Rattle.pfr_strokes.specs.declared.side.Side.TheVariants as side
+use Rattle.pfr_recoverable.specs.Recoverable.{IsRecoverable}
 use Rattle.pfr_recoverable.proofs.CutLaw.{IsAtWork, work_kept, bank_after, store_after}
 use Rattle.pfr_recoverable.proofs.PassLaw.{IsPassDeed, AllPassDeeds, one_deed, same_current}
-use Rattle.pfr_story.specs.Story.{Story, moved_by, operated, device_of, called}
+use Rattle.pfr_story.specs.Story.{Story, Says, Does, Asks, moved_by, operated, device_of, called}
 use Rattle.pfr_story.specs.Deeds.{deed_move, deed_moves}
-use Rattle.pfr_story.specs.Safety.{IsSafe, AllSafe}
+use Rattle.pfr_story.specs.World.{World, story_of}
+use Rattle.pfr_story.specs.Goes.{Goes}
+use Rattle.pfr_story.specs.Safety.{IsSafe, AllSafe, Keeps}
+use Rattle.pfr_story.specs.declared.stop.Stop.{Stop}
 use Rattle.pfr_story.specs.Plans.{mine, store}
 use Rattle.pfr_story.specs.Recovery.{HoldsIn, LeavesTrue, KeepsRecoverable}
-use Rattle.pfr_story.proofs.CallLaws.{called_safe}
+use Rattle.pfr_story.proofs.CallLaws.{image_noted, called_safe}
+use Rattle.pfr_story.proofs.Traces.{Traced, Traced-keeps, Traced-whole, Traced-cut}
 use Rattle.pfr_story.proofs.Lift.{other_bank, image_deeds}
 
 -- What is true of a bank's bytes and the store's is left so by a call of the other bank's device.
@@ -28,6 +33,12 @@ other_left R bank.Pch op story h = h
 pub other_safe : (R : List ℕ → List ℕ → Type 0) (b : Bank) (ops : List Operation) (story : Story) → AllSafe (LeavesTrue R b) (called (device_of (other_bank b)) ops) story
 other_safe R b ops story =
     called_safe (LeavesTrue R b) (device_of (other_bank b)) (λ later. Unit {0}) (λ op here q. other_left R b op here) (λ here. tt) ops story (λ added part. tt)
+
+-- So it is kept by moves that leave it true.
+pub true_kept : (R : List ℕ → List ℕ → Type 0) (b : Bank) → Keeps (LeavesTrue R b) (HoldsIn R b)
+true_kept R b (Says w) story g h = subst (λ (image : List ℕ). R image (store story)) (sym (image_noted (device_of b) w story)) h
+true_kept R b (Does which op) story g h = g h
+true_kept R b (Asks which) story g h = h
 
 -- ---- a recovery job
 -- what a deed leaves of both devices
@@ -77,3 +88,18 @@ module _ (accepts : Acceptance) (b : Bank) (layout : Layout) (size : ℕ) (valid
     deed_safe deed story all.0 w,
     deeds_safe deeds (moved_by (deed_move b deed) story) (subst (λ (at : ℕ). AllPassDeeds layout at deeds) (sym (still_current deed story all.0 w)) all.1) (deed_done deed story all.0 w),
   )
+
+  abbrev CanBe : Story → Type 0
+  CanBe story = IsRecoverable b (mine b story) (store story) accepts
+
+  kept : (old new : World) → Traced (KeepsRecoverable accepts b) old new → CanBe (story_of old) → CanBe (story_of new)
+  kept old new traced can =
+      Traced-keeps (KeepsRecoverable accepts b) CanBe (true_kept (λ image nv. IsRecoverable b image nv accepts) b) old new traced can
+
+  -- So however a call ends that is to do the pass, the bank can be recovered.
+  pub recoverable_after : {T : Type 0} (deeds : List Deed) (old new : World) (r : Result T Stop) → AllPassDeeds layout (current_at (store (story_of old)) b) deeds → AtWork (story_of old)
+      → Goes (λ _. deed_moves b deeds) old new r → IsRecoverable b (mine b (story_of new)) (store (story_of new)) accepts
+  recoverable_after deeds old new (Ok x) all w ran =
+      kept old new (Traced-whole (KeepsRecoverable accepts b) (deed_moves b deeds) old new ran (deeds_safe deeds (story_of old) all w)) (inr w.job)
+  recoverable_after deeds old new (Err stop) all w stopped =
+      kept old new (Traced-cut (KeepsRecoverable accepts b) (deed_moves b deeds) stop.device stop.fail old new stopped (deeds_safe deeds (story_of old) all w)) (inr w.job)

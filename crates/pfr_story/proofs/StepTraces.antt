@@ -16,8 +16,8 @@ pub record Between (first last old new : World) : Type 0 where
   pub before : AllMoved first old
   pub behind : AllMoved new last
 
--- What has to be shown of a stretch that begins where P holds, and K, as of each story between the two worlds: Q holds where the
--- step goes on.
+-- What has to be shown of a stretch that begins where P holds, and where K does, which is true of each story between the two
+-- worlds: Q holds where the step goes on.
 pub record IsGoodStretch (G : Rule) (first last : World) (K P : Story → Type 0) (stretch : Stretch) (Q : Story → Type 0) : Type 0 where
   pub plan : Leads G (λ story. K story × P story) stretch.plan Q
   -- what is noted at a fault
