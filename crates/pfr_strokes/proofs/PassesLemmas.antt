@@ -89,7 +89,7 @@ Passes-first A B first next a b (fails.Store fail) h = Stopped-first side.Store 
 abbrev pub OnlyAt : Side → Pair → Pair → Type 0
 OnlyAt which old new = at_side (other_side which) new ≡ at_side (other_side which) old
 
-by_side : (P : Side → Type 0) (which other : Side) → P which → P (other_side which) → P other
+pub by_side : (P : Side → Type 0) (which other : Side) → P which → P (other_side which) → P other
 by_side P side.Bank side.Bank here there = here
 by_side P side.Bank side.Store here there = there
 by_side P side.Store side.Bank here there = there

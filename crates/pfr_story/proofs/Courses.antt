@@ -1,0 +1,83 @@
+-- One stretch after another.
+use Rattle.std.proofs.Common.{◌≡◌, ◌∙◌, ◌≤◌, sym, subst, arith, ℕ, Bool, true, false, List, [], ◌∷◌, inl, inr}
+use Rattle.pfr_flash.specs.FlashState.{Rose}
+use Rattle.pfr_flash.specs.declared.names.Device.{Device}
+use Rattle.pfr_story.specs.Story.{Story, after}
+use Rattle.pfr_story.specs.World.{World, story_of, state_at, AllMoved, NoneLost, NoneRose}
+use Rattle.pfr_story.specs.Goes.{Ran}
+use Rattle.pfr_story.specs.Course.{Stretch, Faults, CrossesOrFaults, Ends, goes_on_if, Steps, Halts, lost, calm_of, Course, Follows, Calm}
+use Rattle.pfr_story.proofs.WorldLaws.{AllMoved-trans, faults_moved, losses_moved, NoneLost-at, NoneFailed-at}
+use Rattle.pfr_story.proofs.Sequence.{Ran-refl, Ran-append}
+
+goes_on_true : (on : Bool) (steps : World → World → Type 0) (mid new : World) → on ≡ true → steps mid new → goes_on_if on steps mid new
+goes_on_true true steps mid new e p = p
+goes_on_true false steps mid new e p = absurd cc
+
+goes_on_false : (on : Bool) (steps : World → World → Type 0) (mid new : World) → on ≡ false → Ends mid new → goes_on_if on steps mid new
+goes_on_false true steps mid new e p = absurd cc
+goes_on_false false steps mid new e p = p
+
+-- the step went on after the first stretch
+pub Steps-next : (s : Stretch) (ss : List Stretch) (old mid new : World) → s.goes_on ≡ true
+    → CrossesOrFaults s old mid → Steps ss mid new → Steps (s ∷ ss) old new
+Steps-next s ss old mid new g (inl c) q = inl (mid, c, q)
+Steps-next s ss old mid new g (inr f) q = inr (inl (mid, f, goes_on_true s.goes_on (Steps ss) mid new g q))
+
+-- the step ended with a fault on the first stretch
+pub Steps-ended : (s : Stretch) (ss : List Stretch) (old new : World) → s.goes_on ≡ false → Faults s old new → Steps (s ∷ ss) old new
+Steps-ended s ss old new g f = inr (inl (new, f, goes_on_false s.goes_on (Steps ss) new new g (Ran-refl new)))
+
+pub Halts-next : (s : Stretch) (ss : List Stretch) (which : Device) (old mid new : World) → s.goes_on ≡ true
+    → CrossesOrFaults s old mid → Halts ss which mid new → Halts (s ∷ ss) which old new
+Halts-next s ss which old mid new g (inl c) q = inr (inl (mid, c, q))
+Halts-next s ss which old mid new g (inr f) q = inr (inr (mid, f, (g, q)))
+
+-- the loss of power is noted
+pub Halts-noted : (ss : List Stretch) (which : Device) (old mid new : World) → Halts ss which old mid → Ran (lost which) mid new → Steps ss old new
+Halts-noted [] which old mid new h r = absurd h
+Halts-noted (s ∷ ss) which old mid new (inl h) r = inr (inr (record { which = which; at = mid; stopped = h; noted = r }))
+Halts-noted (s ∷ ss) which old mid new (inr (inl c)) r = inl (c.0, c.1, Halts-noted ss which c.0 mid new c.2 r)
+Halts-noted (s ∷ ss) which old mid new (inr (inr f)) r =
+    inr (inl (f.0, f.1, goes_on_true s.goes_on (Steps ss) f.0 new f.2.0 (Halts-noted ss which f.0 mid new f.2.1 r)))
+
+-- ---- what the devices did
+moved_on : (on : Bool) (steps : World → World → Type 0) (mid new : World) → (steps mid new → AllMoved mid new) → goes_on_if on steps mid new → AllMoved mid new
+moved_on true steps mid new f r = f r
+moved_on false steps mid new f r = r.moved
+
+pub Steps-moved : (ss : List Stretch) (old new : World) → Steps ss old new → AllMoved old new
+Steps-moved [] old new p = p.moved
+Steps-moved (s ∷ ss) old new (inl (mid, c, rest)) = AllMoved-trans old mid new c.moved (Steps-moved ss mid new rest)
+Steps-moved (s ∷ ss) old new (inr (inl (mid, f, rest))) =
+    AllMoved-trans old f.at new f.stopped.moved (AllMoved-trans f.at mid new f.noted.moved (moved_on s.goes_on (Steps ss) mid new (λ r. Steps-moved ss mid new r) rest))
+Steps-moved (s ∷ ss) old new (inr (inr l)) = AllMoved-trans old l.at new l.stopped.moved l.noted.moved
+
+-- behind a fault
+pub moved_behind : (s : Stretch) (ss : List Stretch) (mid new : World) → goes_on_if s.goes_on (Steps ss) mid new → AllMoved mid new
+moved_behind s ss mid new rest = moved_on s.goes_on (Steps ss) mid new (λ r. Steps-moved ss mid new r) rest
+
+-- a count that rose between is one that rose
+pub fault_rose : (s : Stretch) (old mid new : World) (f : Faults s old mid) → AllMoved mid new → Rose (state_at f.which old).faults (state_at f.which new).faults
+fault_rose s old mid new f m =
+    let le : (state_at f.which f.at).faults ≤ (state_at f.which new).faults = faults_moved f.which f.at new (AllMoved-trans f.at mid new f.noted.moved m) in
+    subst (λ (n : ℕ). n ≤ (state_at f.which new).faults) f.stopped.cause.0.once le
+
+-- ---- a step in which no call failed
+pub Steps-calm : (ss : List Stretch) (old new : World) → Steps ss old new → NoneLost old new → NoneRose old new → Ran (calm_of ss (story_of old)) old new
+Steps-calm [] old new p none_lost none_rose = p
+Steps-calm (s ∷ ss) old new (inl (mid, c, rest)) none_lost none_rose =
+    let kept : NoneLost mid new = record { bmc = none_lost.bmc ∙ sym c.none_lost.bmc; pch = none_lost.pch ∙ sym c.none_lost.pch; nv = none_lost.nv ∙ sym c.none_lost.nv } in
+    let calm = Steps-calm ss mid new rest kept (λ which rose. none_rose which (subst (λ (n : ℕ). Rose n (state_at which new).faults) (NoneFailed-at which old mid c.none_failed) rose)) in
+    Ran-append (s.plan (story_of old)) (calm_of ss (after (s.plan (story_of old)) (story_of old))) old mid new c
+    (subst (λ (t : Story). Ran (calm_of ss t) mid new) c.is calm)
+Steps-calm (s ∷ ss) old new (inr (inl (mid, f, rest))) none_lost none_rose = absurd (none_rose f.which (fault_rose s old mid new f (moved_behind s ss mid new rest)))
+Steps-calm (s ∷ ss) old new (inr (inr l)) none_lost none_rose = absurd (omega (arith, l.stopped.cause.0.once, losses_moved l.which l.at new l.noted.moved, NoneLost-at l.which old new none_lost))
+
+-- what a course notes first, as a stretch
+abbrev pub opening : Course → Stretch
+opening c = record { plan = λ story. c.first; on_fault = lost; goes_on = false }
+
+-- A step in which no count of losses or faults rose is calm.
+pub Follows-calm : (c : Course) (old new : World) → Follows c old new → NoneLost old new → NoneRose old new → Calm c old new
+Follows-calm c old new (mid, first, rest) none_lost none_rose =
+    Steps-calm (opening c ∷ c.stretches) old new (inl (mid, first, rest)) none_lost none_rose

@@ -1,0 +1,15 @@
+pub mod WorldLaws
+pub mod Sequence
+pub mod Lift
+pub mod SafetyLaws
+pub mod CallLaws
+pub mod Courses
+pub mod Traces
+pub mod StepTraces
+pub mod Facts
+pub mod Turns
+pub mod NoteLaws
+pub mod Made
+pub mod FaultLaws
+pub mod LossLaws
+pub mod RecoverableLaws

@@ -1,0 +1,276 @@
+-- A loss of power ends a step, and is noted exactly where it was counted.
+use Rattle.std.proofs.Common.{◌≡◌, ◌↔◌, ◌∙◌, ◌<◌, refl, sym, ap, subst, arith, ℕ, Bool, true, false, List, [], ◌∷◌, ◌++◌, Option, Some, None, ◌⊎◌, inl, inr}
+use Rattle.pfr_flash.specs.FlashState.{FlashState}
+use Rattle.pfr_flash.specs.declared.names.Bank.{Bank}
+use Rattle.pfr_flash.specs.declared.names.Bank.TheVariants as bank
+use Rattle.pfr_flash.specs.declared.names.Counts.{Counts}
+use Rattle.pfr_flash.specs.declared.names.Device.{Device}
+use Rattle.pfr_flash.specs.declared.names.Device.TheVariants as device
+use Rattle.pfr_engine.specs.Acceptance.{Acceptance}
+use Rattle.pfr_fuses.specs.declared.root_slot.RootSlot.{RootSlot}
+use Rattle.pfr_script.specs.declared.event.Event.{Event}
+use Rattle.pfr_script.specs.declared.event.Event.TheVariants as event
+use Rattle.pfr_report.specs.Texts.{IsNoted}
+use Rattle.pfr_report.specs.declared.note.Note.{Note}
+use Rattle.pfr_report.specs.declared.note.What.{What}
+use Rattle.pfr_report.specs.declared.note.What.TheVariants as what
+use Rattle.pfr_story.specs.Story.{Story, Move, Says, Does, Asks, after, noted, operated, counts_of}
+use Rattle.pfr_story.specs.World.{World, story_of, state_at, NoneLost, LostAt, added}
+use Rattle.pfr_story.specs.Goes.{Ran}
+use Rattle.pfr_story.specs.Safety.{AllMake}
+use Rattle.pfr_story.specs.Course.{Stretch, goes_on_if, Steps, Course, Follows}
+use Rattle.pfr_story.specs.Standing.{standing_of, standing_from, standing_after, is_off, Standing, Off}
+use Rattle.pfr_story.specs.Plans.{brought_up, migrated, provisioned}
+use Rattle.pfr_story.specs.Turn.{bank_stretch, fuse_stretch, provision_stretch, where_off, ignored, off_course, power_course, provision_course, begun, Turn}
+use Rattle.pfr_story.specs.Promises.{HasLost, LossesAreNoted, IsLast, LostEnds, IsSwitchedOff, NotesOff}
+use Rattle.pfr_story.proofs.WorldLaws.{NoneLost-trans, NoneLost-at, LostAt-later, LostAt-on, each_at}
+use Rattle.pfr_story.proofs.Sequence.{after-append}
+use Rattle.pfr_story.proofs.CallLaws.{AllMake-append, AllMake-more, cut_makes}
+use Rattle.pfr_story.proofs.Traces.{noted_append, noted_right}
+use Rattle.pfr_story.proofs.Made.{said, said_append, Made, made_then, added_said}
+use Rattle.pfr_story.proofs.Facts.{IsOwn, IsLoss, IsNoLoss, brought_makes}
+use Rattle.pfr_story.proofs.Turns.{step_of, Turn-known, IsStore, migrated_makes, provisioned_makes}
+
+-- ---- moves that note no loss
+abbrev pub Each : Device → Type 0
+Each which = Unit {0}
+
+abbrev pub AllQuiet : List Move → Type 0
+AllQuiet moves = AllMake Each IsNoLoss moves
+
+no_loss : (that : What) → IsLoss that → (moves : List Move) (story : Story) → AllQuiet moves → ¬ IsNoted (said moves story) that
+no_loss that loss [] story q n = n
+no_loss that loss (Says w ∷ moves) story q (inl e) = q.0 (counts_of story) (subst IsLoss (sym e) loss)
+no_loss that loss (Says w ∷ moves) story q (inr n) = no_loss that loss moves (noted w story) q.1 n
+no_loss that loss (Does which op ∷ moves) story q n = no_loss that loss moves (operated which op story) q.1 n
+no_loss that loss (Asks which ∷ moves) story q n = no_loss that loss moves story q.1 n
+
+-- what a stretch does, and notes at a fault
+pub record IsQuietStretch (s : Stretch) : Type 0 where
+  pub plan : (story : Story) → AllQuiet (s.plan story)
+  pub noted : (which : Device) → AllQuiet (s.on_fault which)
+
+abbrev pub AreQuiet : List Stretch → Type 0
+AreQuiet [] = Unit {0}
+AreQuiet (s ∷ ss) = IsQuietStretch s × AreQuiet ss
+
+-- ---- a step without a loss, or with one at its end
+pub record GoesQuiet (old new : World) : Type 0 where
+  pub made : Made old new
+  pub quiet : AllQuiet made.trace
+  pub none : NoneLost old new
+
+-- one of a device, which was counted, or one without a device, as the power was taken
+abbrev pub IsCounted : Option Device → World → World → Type 0
+IsCounted (Some which) old new = LostAt which old new
+IsCounted None old new = NoneLost old new
+
+pub record EndsLost (old new : World) : Type 0 where
+  pub device : Option Device
+  pub counted : IsCounted device old new
+  pub front : List Move
+  pub quiet : AllQuiet front
+  pub is : story_of new ≡ noted (what.Lost device) (after front (story_of old))
+
+quiet_then : (a b c : World) → GoesQuiet a b → GoesQuiet b c → GoesQuiet a c
+quiet_then a b c p q = record { made = made_then a b c p.made q.made; quiet = AllMake-append Each IsNoLoss p.made.trace q.made.trace p.quiet q.quiet; none = NoneLost-trans a b c p.none q.none }
+
+counted_later : (device : Option Device) (a b c : World) → NoneLost a b → IsCounted device b c → IsCounted device a c
+counted_later (Some which) a b c n l = LostAt-later which a b c n l
+counted_later None a b c n l = NoneLost-trans a b c n l
+
+lost_then : (a b c : World) → GoesQuiet a b → EndsLost b c → EndsLost a c
+lost_then a b c p q = record {
+  device = q.device;
+  counted = counted_later q.device a b c p.none q.counted;
+  front = p.made.trace ++ q.front;
+  quiet = AllMake-append Each IsNoLoss p.made.trace q.front p.quiet q.quiet;
+  is = q.is ∙ ap (λ (s : Story). noted (what.Lost q.device) (after q.front s)) p.made.is ∙ sym (ap (λ (s : Story). noted (what.Lost q.device) s) (after-append p.made.trace q.front (story_of a)));
+}
+
+abbrev pub EndsSo : World → World → Type 0
+EndsSo old new = GoesQuiet old new ⊎ EndsLost old new
+
+ends_then : (a b c : World) → GoesQuiet a b → EndsSo b c → EndsSo a c
+ends_then a b c p (inl q) = inl (quiet_then a b c p q)
+ends_then a b c p (inr l) = inr (lost_then a b c p l)
+
+quiet_ran : (moves : List Move) (old new : World) → Ran moves old new → AllQuiet moves → GoesQuiet old new
+quiet_ran moves old new r q = record { made = record { trace = moves; is = r.is }; quiet = q; none = r.none_lost }
+
+ends_on : (on : Bool) (steps : World → World → Type 0) (mid new : World) → (steps mid new → EndsSo mid new) → goes_on_if on steps mid new → EndsSo mid new
+ends_on true steps mid new f r = f r
+ends_on false steps mid new f r = inl (quiet_ran [] mid new r tt)
+
+pub Steps-losses : (ss : List Stretch) (old new : World) → AreQuiet ss → Steps ss old new → EndsSo old new
+Steps-losses [] old new q p = inl (quiet_ran [] old new p tt)
+Steps-losses (s ∷ ss) old new q (inl (mid, c, rest)) = ends_then old mid new (quiet_ran (s.plan (story_of old)) old mid c (q.0.plan (story_of old))) (Steps-losses ss mid new q.1 rest)
+Steps-losses (s ∷ ss) old new q (inr (inl (mid, f, rest))) =
+    let cut = cut_makes Each IsNoLoss f.which (s.plan (story_of old)) f.stopped.trace (story_of old) (q.0.plan (story_of old)) f.stopped.cut in
+    let stopped : GoesQuiet old f.at = record { made = record { trace = f.stopped.trace; is = f.stopped.is }; quiet = cut.1; none = f.stopped.cause.1 } in
+    ends_then old mid new (quiet_then old f.at mid stopped (quiet_ran (s.on_fault f.which) f.at mid f.noted (q.0.noted f.which)))
+    (ends_on s.goes_on (Steps ss) mid new (λ r. Steps-losses ss mid new q.1 r) rest)
+Steps-losses (s ∷ ss) old new q (inr (inr l)) =
+    let cut = cut_makes Each IsNoLoss l.which (s.plan (story_of old)) l.stopped.trace (story_of old) (q.0.plan (story_of old)) l.stopped.cut in
+    inr (record {
+      device = Some l.which;
+      counted = LostAt-on l.which old l.at new l.stopped.cause.0 l.noted.none_lost;
+      front = l.stopped.trace;
+      quiet = cut.1;
+      is = l.noted.is ∙ ap (λ (s : Story). noted (what.Lost (Some l.which)) s) l.stopped.is;
+    })
+
+-- ---- by event
+bank_quiet : (accepts : Acceptance) (b : Bank) → IsQuietStretch (bank_stretch accepts b)
+bank_quiet accepts b = record {
+  plan = λ story. AllMake-more (IsOwn b) Each IsNoLoss (λ which own. tt) (brought_up accepts b story) (brought_makes accepts b story);
+  noted = λ which. ((λ at loss. loss), tt);
+}
+
+fuses_quiet : IsQuietStretch fuse_stretch
+fuses_quiet = record {
+  plan = λ story. AllMake-more IsStore Each IsNoLoss (λ which own. tt) (migrated story) (migrated_makes story);
+  noted = λ which. ((λ at loss. loss), ((λ at loss. loss), ((λ at loss. loss), ((λ at loss. loss), tt))));
+}
+
+provision_quiet : (root : RootSlot) → IsQuietStretch (provision_stretch root)
+provision_quiet root = record {
+  plan = λ story. AllMake-more IsStore Each IsNoLoss (λ which own. tt) (provisioned root story) (provisioned_makes root story);
+  noted = λ which. ((λ at loss. loss), ((λ at loss. loss), tt));
+}
+
+along : (c : Course) (old new : World) → AllQuiet c.first → AreQuiet c.stretches → Follows c old new → EndsSo old new
+along c old new first quiet (mid, says, rest) = ends_then old mid new (quiet_ran c.first old mid says first) (Steps-losses c.stretches mid new quiet rest)
+
+off_ends : (off : Bool) (old new : World) → Follows (where_off off ignored off_course) old new → EndsSo old new
+off_ends true old new t = along ignored old new ((λ at loss. loss), tt) tt t
+off_ends false old new (mid, says, rest) = inr (record { device = None; counted = NoneLost-trans old mid new says.none_lost rest.none_lost; front = []; quiet = tt; is = rest.is ∙ says.is })
+
+try_ends : (root : RootSlot) (off : Bool) (old new : World) → Follows (where_off off ignored (provision_course root)) old new → EndsSo old new
+try_ends root true old new t = along ignored old new ((λ at loss. loss), tt) tt t
+try_ends root false old new t = along (provision_course root) old new tt (provision_quiet root, tt) t
+
+-- Each step is without a loss, or ends with one.
+pub Turn-ends : (accepts : Acceptance) (e : Event) (old new : World) → Turn accepts e old new → EndsSo (begun old) new
+Turn-ends accepts event.Power old new t = along (power_course accepts) (begun old) new ((λ at loss. loss), tt) (fuses_quiet, (bank_quiet accepts bank.Bmc, (bank_quiet accepts bank.Pch, tt))) t
+Turn-ends accepts event.Off old new t = off_ends (is_off (standing_of bank.Bmc old.notes.list)) (begun old) new t
+Turn-ends accepts (event.Provision root) old new t = try_ends root (is_off (standing_of bank.Bmc old.notes.list)) (begun old) new t
+
+-- ---- what is noted of it
+same_loss : (one other : Option Device) (counts at : Counts) → what.Lost one counts ≡ what.Lost other at → (other ≡ one) × (at ≡ counts)
+same_loss one other counts at e = (cc, cc)
+
+module _ (old new : World) (l : EndsLost old new) where
+  abbrev there : Story
+  there = after l.front (story_of old)
+
+  abbrev note : Note
+  note = record { item = there.item; what = what.Lost l.device (counts_of there) }
+
+  abbrev made : Made old new
+  made = record { trace = l.front ++ Says (what.Lost l.device) ∷ []; is = l.is ∙ sym (after-append l.front (Says (what.Lost l.device) ∷ []) (story_of old)) }
+
+  added_last : added old new ≡ said l.front (story_of old) ++ note ∷ []
+  added_last = added_said old new made ∙ said_append l.front (Says (what.Lost l.device) ∷ []) (story_of old)
+
+  -- it is the only one
+  lost_last : (other : Option Device) (at : Counts) → IsNoted (added old new) (what.Lost other at) → (other ≡ l.device) × (at ≡ counts_of there)
+  lost_last other at n = elim (noted_append (said l.front (story_of old)) (note ∷ []) (what.Lost other at) (subst (λ (notes : List Note). IsNoted notes (what.Lost other at)) added_last n)) [
+    | inl m ↦ absurd (no_loss (what.Lost other at) tt l.front (story_of old) l.quiet m)
+    | inr m ↦ elim m [ inl e ↦ same_loss l.device other (counts_of there) at e | inr none ↦ absurd none ]
+  ]
+
+  is_noted : IsNoted (added old new) (what.Lost l.device (counts_of there))
+  is_noted = subst (λ (notes : List Note). IsNoted notes (what.Lost l.device (counts_of there))) (sym added_last) (noted_right (said l.front (story_of old)) (note ∷ []) (what.Lost l.device (counts_of there)) (inl refl))
+
+  notes_last : new.notes.list ≡ there.notes ++ record { item = new.item; what = what.Lost l.device (counts_of there) } ∷ []
+  notes_last =
+      let item : new.item ≡ there.item = ap (λ (s : Story). s.item) l.is in
+      ap (λ (s : Story). s.notes) l.is ∙ ap (λ (n : ℕ). there.notes ++ record { item = n; what = what.Lost l.device (counts_of there) } ∷ []) (sym item)
+
+standing_push : (which : Bank) (s : Standing) (notes : List Note) (one : Note) → standing_from which s (notes ++ one ∷ []) ≡ standing_after which one.what (standing_from which s notes)
+standing_push which s [] one = refl
+standing_push which s (first ∷ notes) one = standing_push which (standing_after which first.what s) notes one
+
+off_last : (which : Bank) (old new : World) (l : EndsLost old new) → standing_of which new.notes.list ≡ Off
+off_last which old new l =
+    ap (λ (notes : List Note). standing_of which notes) (notes_last old new l)
+    ∙ standing_push which Off (there old new l).notes (record { item = new.item; what = what.Lost l.device (counts_of (there old new l)) })
+
+last_of : (old new : World) (l : EndsLost old new) (other : Option Device) (at : Counts) → IsNoted (added old new) (what.Lost other at) → IsLast other at new
+last_of old new l other at n =
+    let k = lost_last old new l other at n in
+    record {
+      before = (there old new l).notes;
+      last = subst (λ (d : Option Device). new.notes.list ≡ (there old new l).notes ++ record { item = new.item; what = what.Lost d at } ∷ []) (sym k.0)
+          (subst (λ (c : Counts). new.notes.list ≡ (there old new l).notes ++ record { item = new.item; what = what.Lost l.device c } ∷ []) (sym k.1) (notes_last old new l));
+      counts = k.1 ∙ sym (ap (λ (s : Story). counts_of s) l.is);
+      bmc = off_last bank.Bmc old new l;
+      pch = off_last bank.Pch old new l;
+    }
+
+quiet_added : (old new : World) → GoesQuiet old new → (other : Option Device) (at : Counts) → ¬ IsNoted (added old new) (what.Lost other at)
+quiet_added old new q other at n =
+    no_loss (what.Lost other at) tt q.made.trace (story_of old) q.quiet (subst (λ (notes : List Note). IsNoted notes (what.Lost other at)) (added_said old new q.made) n)
+
+-- Lost ends the step.
+pub Turn-lost_ends : (accepts : Acceptance) (e : Event) (old new : World) → Turn accepts e old new → LostEnds old new
+Turn-lost_ends accepts e old new t other at n = by_end (Turn-ends accepts e old new t)
+  where
+    by_end : EndsSo (begun old) new → IsLast other at new
+    by_end (inl q) = absurd (quiet_added (begun old) new q other at n)
+    by_end (inr l) = last_of (begun old) new l other at n
+
+begun_state : (which : Device) (old : World) → state_at which (begun old) ≡ state_at which old
+begun_state device.Bmc old = refl
+begun_state device.Pch old = refl
+begun_state device.Nv old = refl
+
+counted_fell : (which : Device) (old new : World) (device : Option Device) → device ≡ Some which → IsCounted device old new → (state_at which old).losses < (state_at which new).losses
+counted_fell which old new (Some other) e l =
+    let same : other ≡ which = cc in
+    let here : LostAt which old new = subst (λ (d : Device). LostAt d old new) same l in
+    omega (arith, here.once)
+counted_fell which old new None e l = absurd cc
+
+fell_counted : (which : Device) (old new : World) (device : Option Device) → IsCounted device old new → (state_at which old).losses < (state_at which new).losses → device ≡ Some which
+fell_counted which old new (Some other) l fell = elim (each_at other which) [
+  | inl e ↦ ap (λ (d : Device). Some d) (sym e)
+  | inr apart ↦ absurd (omega (arith, l.others which apart, fell))
+]
+fell_counted which old new None l fell = absurd (omega (arith, NoneLost-at which old new l, fell))
+
+-- A loss is noted exactly of a device whose count of losses rose.
+pub Turn-losses_noted : (accepts : Acceptance) (e : Event) (old new : World) → Turn accepts e old new → LossesAreNoted old new
+Turn-losses_noted accepts e old new t which = by_end (Turn-ends accepts e old new t)
+  where
+    by_end : EndsSo (begun old) new → (HasLost which (added old new) ↔ ((state_at which old).losses < (state_at which new).losses))
+    by_end (inl q) = (
+      (λ h. absurd (quiet_added (begun old) new q (Some which) h.at h.noted)),
+      (λ fell. absurd (omega (arith, NoneLost-at which (begun old) new q.none, ap (λ (d : FlashState). d.losses) (begun_state which old), fell))),
+    )
+    by_end (inr l) = (
+      (λ h. let fell = counted_fell which (begun old) new l.device (sym (lost_last (begun old) new l (Some which) h.at h.noted).0) l.counted in omega (arith, ap (λ (d : FlashState). d.losses) (begun_state which old), fell)),
+      (λ fell.
+          let is = fell_counted which (begun old) new l.device l.counted (omega (arith, ap (λ (d : FlashState). d.losses) (begun_state which old), fell)) in
+          record {
+            at = counts_of (there (begun old) new l);
+            noted = subst (λ (d : Option Device). IsNoted (added old new) (what.Lost d (counts_of (there (begun old) new l)))) is (is_noted (begun old) new l);
+          }),
+    )
+
+-- one without a device is noted exactly where the power is taken
+switched_off : (accepts : Acceptance) (e : Event) (old new : World) → Turn accepts e old new → IsSwitchedOff e old → IsNoted (added old new) (what.Lost None (counts_of (story_of new)))
+switched_off accepts event.Off old new t on = by_off (is_off (standing_of bank.Bmc old.notes.list)) refl t
+  where
+    by_off : (off : Bool) → is_off (standing_of bank.Bmc old.notes.list) ≡ off → Follows (where_off off ignored off_course) (begun old) new → IsNoted (added old new) (what.Lost None (counts_of (story_of new)))
+    by_off true e t = absurd (on e)
+    by_off false e (mid, says, rest) =
+        let l : EndsLost (begun old) new = record { device = None; counted = NoneLost-trans (begun old) mid new says.none_lost rest.none_lost; front = []; quiet = tt; is = rest.is ∙ says.is } in
+        subst (λ (at : Counts). IsNoted (added old new) (what.Lost None at)) (sym (ap (λ (s : Story). counts_of s) l.is)) (is_noted (begun old) new l)
+switched_off accepts event.Power old new t off = absurd off
+switched_off accepts (event.Provision root) old new t off = absurd off
+
+pub Turn-off : (accepts : Acceptance) (e : Event) (old new : World) → Turn accepts e old new → NotesOff e old new
+unfolding step_of
+Turn-off accepts e old new t = record { only = λ at n. (Turn-known accepts e old new t (what.Lost None at) n).1.1; all = switched_off accepts e old new t }

@@ -1,0 +1,73 @@
+-- Of a step along stretches each move is good.
+use Rattle.std.proofs.Common.{◌≡◌, ◌<◌, refl, sym, subst, arith, Bool, true, false, List, [], ◌∷◌, inl, inr}
+use Rattle.pfr_flash.specs.FlashState.{Rose}
+use Rattle.pfr_flash.specs.declared.flash.FlashFail.TheVariants.{Fault, Lost as Loses}
+use Rattle.pfr_flash.specs.declared.names.Device.{Device}
+use Rattle.pfr_story.specs.Story.{Story, Move, after, IsCut}
+use Rattle.pfr_story.specs.World.{World, story_of, state_at, AllMoved}
+use Rattle.pfr_story.specs.Safety.{Rule, AllGood, Leads}
+use Rattle.pfr_story.specs.Course.{Stretch, goes_on_if, Steps, lost, Course, Follows}
+use Rattle.pfr_story.proofs.WorldLaws.{AllMoved-trans, faults_moved, losses_moved}
+use Rattle.pfr_story.proofs.Courses.{Steps-moved, moved_behind, fault_rose}
+use Rattle.pfr_story.proofs.Traces.{Traced, Traced-then, Traced-ran, Traced-whole, Traced-cut}
+
+-- The worlds of a part of a step lie between the two ends that are looked at.
+pub record Between (first last old new : World) : Type 0 where
+  pub before : AllMoved first old
+  pub behind : AllMoved new last
+
+-- What has to be shown of a stretch that begins where P holds, and where K does, which is true of each story between the two
+-- worlds: Q holds where the step goes on.
+pub record IsGoodStretch (G : Rule) (first last : World) (K P : Story → Type 0) (stretch : Stretch) (Q : Story → Type 0) : Type 0 where
+  pub plan : Leads G (λ story. K story × P story) stretch.plan Q
+  -- what is noted at a fault
+  pub noted : (which : Device) (story : Story) (trace : List Move) → K story × P story → IsCut which (stretch.plan story) story trace
+      → Rose (state_at which first).faults (state_at which last).faults → AllGood G (stretch.on_fault which) (after trace story)
+  pub on : (which : Device) (story : Story) (trace : List Move) → K story × P story → IsCut which (stretch.plan story) story trace
+      → stretch.goes_on ≡ true → Q (after (stretch.on_fault which) (after trace story))
+
+-- a loss of power is noted only where it was counted
+abbrev pub AllowsLosses : Rule → World → World → Type 0
+AllowsLosses G first last = (which : Device) (story : Story) → (state_at which first).losses < (state_at which last).losses → AllGood G (lost which) story
+
+-- Each move of a step along these stretches is good, from where P holds.
+abbrev pub AreGood : Rule → World → World → (Story → Type 0) → List Stretch → Type 0
+AreGood G first last P stretches = (old new : World) → Between first last old new → P (story_of old) → Steps stretches old new → Traced G old new
+
+module _ (G : Rule) (first last : World) (K : Story → Type 0) (known : (w : World) → AllMoved w last → K (story_of w)) (allows : AllowsLosses G first last) where
+  pub AreGood-none : (P : Story → Type 0) → AreGood G first last P []
+  AreGood-none P old new within p r = Traced-ran G [] old new r tt
+
+  traced_on : (on : Bool) (steps : World → World → Type 0) (mid new : World) → (on ≡ true → steps mid new → Traced G mid new) → goes_on_if on steps mid new → Traced G mid new
+  traced_on true steps mid new f r = f refl r
+  traced_on false steps mid new f r = Traced-ran G [] mid new r tt
+
+  pub AreGood-next : (P Q : Story → Type 0) (s : Stretch) (ss : List Stretch) → IsGoodStretch G first last K P s Q → AreGood G first last Q ss → AreGood G first last P (s ∷ ss)
+  AreGood-next P Q s ss good next old new within p (inl (mid, c, rest)) =
+      let here : K (story_of old) × P (story_of old) = (known old (AllMoved-trans old mid last c.moved (AllMoved-trans mid new last (Steps-moved ss mid new rest) within.behind)), p) in
+      Traced-then G old mid new (Traced-whole G (s.plan (story_of old)) old mid c (good.plan.safe (story_of old) here))
+      (next mid new (record { before = AllMoved-trans first old mid within.before c.moved; behind = within.behind }) (subst Q (sym c.is) (good.plan.ends (story_of old) here)) rest)
+  AreGood-next P Q s ss good next old new within p (inr (inl (mid, f, rest))) =
+      let behind : AllMoved mid last = AllMoved-trans mid new last (moved_behind s ss mid new rest) within.behind in
+      let whole : AllMoved old mid = AllMoved-trans old f.at mid f.stopped.moved f.noted.moved in
+      let here : K (story_of old) × P (story_of old) = (known old (AllMoved-trans old mid last whole behind), p) in
+      let rose : Rose (state_at f.which first).faults (state_at f.which last).faults = omega (arith, faults_moved f.which first old within.before, fault_rose s old mid last f behind) in
+      let notes = subst (λ (t : Story). AllGood G (s.on_fault f.which) t) (sym f.stopped.is) (good.noted f.which (story_of old) f.stopped.trace here f.stopped.cut rose) in
+      Traced-then G old f.at new (Traced-cut G (s.plan (story_of old)) f.which Fault old f.at f.stopped (good.plan.safe (story_of old) here))
+      (Traced-then G f.at mid new (Traced-ran G (s.on_fault f.which) f.at mid f.noted notes)
+      (traced_on s.goes_on (Steps ss) mid new (λ e r. next mid new (record { before = AllMoved-trans first old mid within.before whole; behind = within.behind })
+      (subst Q (sym f.noted.is) (subst (λ (t : Story). Q (after (s.on_fault f.which) t)) (sym f.stopped.is) (good.on f.which (story_of old) f.stopped.trace here f.stopped.cut e))) r) rest))
+  AreGood-next P Q s ss good next old new within p (inr (inr l)) =
+      let moved : AllMoved old new = AllMoved-trans old l.at new l.stopped.moved l.noted.moved in
+      let here : K (story_of old) × P (story_of old) = (known old (AllMoved-trans old new last moved within.behind), p) in
+      let fell : (state_at l.which first).losses < (state_at l.which last).losses =
+      omega (arith, losses_moved l.which first old within.before, l.stopped.cause.0.once, losses_moved l.which l.at last (AllMoved-trans l.at new last l.noted.moved within.behind)) in
+      Traced-then G old l.at new (Traced-cut G (s.plan (story_of old)) l.which Loses old l.at l.stopped (good.plan.safe (story_of old) here))
+      (Traced-ran G (lost l.which) l.at new l.noted (allows l.which (story_of l.at) fell))
+
+-- Each move of a step along a course is good, from where what it notes first is, and its stretches from there.
+pub Follows-good : (G : Rule) (first last : World) (P : Story → Type 0) (c : Course) (old new : World) → Between first last old new → Follows c old new
+    → AllGood G c.first (story_of old) → P (after c.first (story_of old)) → AreGood G first last P c.stretches → Traced G old new
+Follows-good G first last P c old new within (mid, says, rest) good p stretches =
+    Traced-then G old mid new (Traced-ran G c.first old mid says good)
+    (stretches mid new (record { before = AllMoved-trans first old mid within.before says.moved; behind = within.behind }) (subst P (sym says.is) p) rest)

@@ -1,0 +1,169 @@
+-- The world moved by good moves.
+use Rattle.std.proofs.Common.{◌≡◌, ◌∙◌, refl, sym, ap, subst, arith, ℕ, List, [], ◌∷◌, ◌++◌, length, take, drop, append_assoc, ◌⊎◌, inl, inr}
+use Rattle.std.proofs.lemmas.List.{append-nil, take_all, take-append-le}
+use Rattle.std.proofs.Math.Seq.{drop-append_seam}
+use Rattle.pfr_flash.specs.Bytes.{AreBytes}
+use Rattle.pfr_flash.specs.FlashState.{FlashState}
+use Rattle.pfr_flash.specs.Holding.{HoldsBytes}
+use Rattle.pfr_flash.specs.Moved.{Moved}
+use Rattle.pfr_flash.specs.Operation.{Operation, play, play_first}
+use Rattle.pfr_flash.specs.declared.flash.FlashFail.{FlashFail}
+use Rattle.pfr_flash.specs.declared.names.Counts.{Counts}
+use Rattle.pfr_flash.specs.declared.names.Device.{Device}
+use Rattle.pfr_flash.specs.declared.names.Device.TheVariants as device
+use Rattle.pfr_flash.proofs.HoldingLemmas.{upto_bytes}
+use Rattle.pfr_report.specs.Texts.{IsNoted}
+use Rattle.pfr_report.specs.declared.note.Note.{Note}
+use Rattle.pfr_report.specs.declared.note.What.{What}
+use Rattle.pfr_story.specs.Story.{Past, Story, Move, Says, Does, Asks, after, moved_by, noted, with_op, counts_of, image_at, image_of}
+use Rattle.pfr_story.specs.World.{World, past_of, story_of, AllMoved, AreDevices, added}
+use Rattle.pfr_story.specs.Goes.{Ran, Stopped}
+use Rattle.pfr_story.specs.Safety.{Rule, AllGood, AllSafe, Keeps}
+use Rattle.pfr_story.proofs.WorldLaws.{AllMoved-trans}
+use Rattle.pfr_story.proofs.Sequence.{after-append}
+use Rattle.pfr_story.proofs.CallLaws.{notes_operated}
+use Rattle.pfr_story.proofs.SafetyLaws.{AllGood-append, safe_whole, safe_cut, kept_by}
+
+pub record Traced (G : Rule) (old new : World) : Type 0 where
+  pub trace : List Move
+  pub is : story_of new ≡ after trace (story_of old)
+  pub good : AllGood G trace (story_of old)
+  pub moved : AllMoved old new
+
+module _ (G : Rule) where
+  pub Traced-then : (a b c : World) → Traced G a b → Traced G b c → Traced G a c
+  Traced-then a b c p q = record {
+    trace = p.trace ++ q.trace;
+    is = q.is ∙ ap (λ (s : Story). after q.trace s) p.is ∙ sym (after-append p.trace q.trace (story_of a));
+    good = AllGood-append G p.trace q.trace (story_of a) p.good (subst (λ (s : Story). AllGood G q.trace s) p.is q.good);
+    moved = AllMoved-trans a b c p.moved q.moved;
+  }
+
+  pub Traced-ran : (moves : List Move) (a b : World) → Ran moves a b → AllGood G moves (story_of a) → Traced G a b
+  Traced-ran moves a b p good = record { trace = moves; is = p.is; good = good; moved = p.moved }
+
+  -- a safe plan, done whole or cut short
+  pub Traced-whole : (moves : List Move) (a b : World) → Ran moves a b → AllSafe G moves (story_of a) → Traced G a b
+  Traced-whole moves a b p safe = Traced-ran moves a b p (safe_whole G moves (story_of a) safe)
+
+  pub Traced-cut : (moves : List Move) (which : Device) (fail : FlashFail) (a b : World) → Stopped moves which fail a b → AllSafe G moves (story_of a) → Traced G a b
+  Traced-cut moves which fail a b p safe = record { trace = p.trace; is = p.is; good = safe_cut G which moves p.trace (story_of a) safe p.cut; moved = p.moved }
+
+  pub Traced-keeps : (I : Story → Type 0) → Keeps G I → (a b : World) → Traced G a b → I (story_of a) → I (story_of b)
+  Traced-keeps I k a b p i = subst I (sym p.is) (kept_by G I k p.trace (story_of a) p.good i)
+
+-- ---- what was before stays
+-- the operations of a device so far are the first ones of it later
+pub record Begins (a b : Past) : Type 0 where
+  pub start : b.start ≡ a.start
+  pub more : List Operation
+  pub ops : b.ops ≡ a.ops ++ more
+
+pub record Precedes (a b : Story) : Type 0 where
+  pub bmc : Begins a.bmc b.bmc
+  pub pch : Begins a.pch b.pch
+  pub nv : Begins a.nv b.nv
+
+Begins-refl : (a : Past) → Begins a a
+Begins-refl a = record { start = refl; more = []; ops = sym (append-nil a.ops) }
+
+Begins-op : (a b : Past) (op : Operation) → Begins a b → Begins a (with_op b op)
+Begins-op a b op p = record {
+  start = p.start;
+  more = p.more ++ op ∷ [];
+  ops = ap (λ (ops : List Operation). ops ++ op ∷ []) p.ops ∙ append_assoc a.ops p.more (op ∷ []);
+}
+
+pub Precedes-refl : (a : Story) → Precedes a a
+Precedes-refl a = record { bmc = Begins-refl a.bmc; pch = Begins-refl a.pch; nv = Begins-refl a.nv }
+
+pub Precedes-move : (a b : Story) (move : Move) → Precedes a b → Precedes a (moved_by move b)
+Precedes-move a b (Says what) p = record { bmc = p.bmc; pch = p.pch; nv = p.nv }
+Precedes-move a b (Does device.Bmc op) p = record { bmc = Begins-op a.bmc b.bmc op p.bmc; pch = p.pch; nv = p.nv }
+Precedes-move a b (Does device.Pch op) p = record { bmc = p.bmc; pch = Begins-op a.pch b.pch op p.pch; nv = p.nv }
+Precedes-move a b (Does device.Nv op) p = record { bmc = p.bmc; pch = p.pch; nv = Begins-op a.nv b.nv op p.nv }
+Precedes-move a b (Asks which) p = p
+
+-- what a device held at a moment, by its count then
+pub upto_begins : (a b : Past) → Begins a b → play_first (length a.ops) b.start b.ops ≡ image_of a
+upto_begins a b p =
+    let front : take (length a.ops) b.ops ≡ a.ops =
+    ap (λ (ops : List Operation). take (length a.ops) ops) p.ops
+    ∙ take-append-le (length a.ops) a.ops p.more (omega arith) ∙ take_all (length a.ops) a.ops (omega arith) in
+    ap (λ (start : List ℕ). play start (take (length a.ops) b.ops)) p.start ∙ ap (λ (ops : List Operation). play a.start ops) front
+
+begins_moved : (old new : FlashState) → Moved old new → Begins (past_of old) (past_of new)
+begins_moved old new m = record { start = m.start; more = m.ops.more; ops = m.ops.is }
+
+-- ---- what devices hold that hold bytes later
+abbrev pub AreImages : Story → Type 0
+AreImages story = (which : Device) → AreBytes (image_at which story)
+
+bytes_before : (a : Past) (d : FlashState) → Begins a (past_of d) → HoldsBytes d → AreBytes (image_of a)
+bytes_before a d p h = subst AreBytes (upto_begins a (past_of d) p) (upto_bytes d (length a.ops) h)
+
+pub images_before : (at : Story) (new : World) → Precedes at (story_of new) → AreDevices new → AreImages at
+images_before at new p h device.Bmc = bytes_before at.bmc new.bmc p.bmc h.bmc
+images_before at new p h device.Pch = bytes_before at.pch new.pch p.pch h.pch
+images_before at new p h device.Nv = bytes_before at.nv new.nv p.nv h.nv
+
+-- so each moment of a step is one of devices that hold bytes
+pub images_between : (last : World) → AreDevices last → (w : World) → AllMoved w last → AreImages (story_of w)
+images_between last h w m =
+    images_before (story_of w) last (record { bmc = begins_moved w.bmc last.bmc m.bmc; pch = begins_moved w.pch last.pch m.pch; nv = begins_moved w.nv last.nv m.nv }) h
+
+-- ---- what is known of each note
+pub noted_append : (xs ys : List Note) (that : What) → IsNoted (xs ++ ys) that → IsNoted xs that ⊎ IsNoted ys that
+noted_append [] ys that n = inr n
+noted_append (x ∷ xs) ys that (inl e) = inl (inl e)
+noted_append (x ∷ xs) ys that (inr n) = elim (noted_append xs ys that n) [ inl m ↦ inl (inr m) | inr m ↦ inr m ]
+
+pub noted_right : (xs ys : List Note) (that : What) → IsNoted ys that → IsNoted (xs ++ ys) that
+noted_right [] ys that n = n
+noted_right (x ∷ xs) ys that n = inr (noted_right xs ys that n)
+
+-- a fact of each note that the rule lets through, where it is made
+abbrev pub Tells : Rule → (What → Story → Type 0) → Type 0
+Tells G F = (w : Counts → What) (story : Story) → G (Says w) story → F (w (counts_of story)) story
+
+-- the fact was true of a note at an earlier moment of this story
+abbrev pub KnownBefore : (What → Story → Type 0) → What → Story → Type 0
+KnownBefore F that story = (at : Story) × F that at × Precedes at story
+
+-- it is known of each note that was added to these
+pub record Known (F : What → Story → Type 0) (base : List Note) (story : Story) : Type 0 where
+  pub more : List Note
+  pub is : story.notes ≡ base ++ more
+  pub all : (that : What) → IsNoted more that → KnownBefore F that story
+
+module _ (G : Rule) (F : What → Story → Type 0) (tells : Tells G F) (base : List Note) where
+  known_later : (move : Move) (story : Story) (more : List Note) → ((that : What) → IsNoted more that → KnownBefore F that story) → (that : What) → IsNoted more that → KnownBefore F that (moved_by move story)
+  known_later move story more all that n = let k = all that n in (k.0, k.1, Precedes-move k.0 story move k.2)
+
+  known_says : (w : Counts → What) (story : Story) → G (Says w) story → Known F base story → Known F base (noted w story)
+  known_says w story g k =
+      let note : Note = record { item = story.item; what = w (counts_of story) } in
+      record {
+        more = k.more ++ note ∷ [];
+        is = ap (λ (notes : List Note). notes ++ note ∷ []) k.is ∙ append_assoc base k.more (note ∷ []);
+        all = λ that n. elim (noted_append k.more (note ∷ []) that n) [
+          | inl m ↦ known_later (Says w) story k.more k.all that m
+          | inr m ↦ elim m [
+            | inl e ↦ (story, subst (λ (x : What). F x story) e (tells w story g), Precedes-move story story (Says w) (Precedes-refl story))
+            | inr none ↦ absurd none
+          ]
+        ];
+      }
+
+  known_moves : Keeps G (Known F base)
+  known_moves (Says w) story g k = known_says w story g k
+  known_moves (Does which op) story g k = record { more = k.more; is = notes_operated which op story ∙ k.is; all = known_later (Does which op) story k.more k.all }
+  known_moves (Asks which) story g k = k
+
+-- Of each note that was added the fact was true where it was made.
+pub Traced-known : (G : Rule) (F : What → Story → Type 0) → Tells G F → (old new : World) → Traced G old new → (that : What) → IsNoted (added old new) that → KnownBefore F that (story_of new)
+Traced-known G F tells old new traced that n =
+    let none : Known F old.notes.list (story_of old) = record { more = []; is = sym (append-nil old.notes.list); all = λ that n. absurd n } in
+    let k = Traced-keeps G (Known F old.notes.list) (known_moves G F tells old.notes.list) old new traced none in
+    let e : added old new ≡ k.more = ap (λ (notes : List Note). drop (length old.notes.list) notes) k.is ∙ drop-append_seam old.notes.list k.more in
+    k.all that (subst (λ (notes : List Note). IsNoted notes that) e n)

@@ -1,0 +1,150 @@
+-- Each note of a step is true where it is made, by event.
+use Rattle.std.proofs.Common.{◌≡◌, refl, subst, ℕ, length, List, [], ◌∷◌, Bool, true, false, Result, Ok, Err}
+use Rattle.pfr_flash.specs.FlashState.{Rose}
+use Rattle.pfr_flash.specs.declared.names.Bank.{Bank}
+use Rattle.pfr_flash.specs.declared.names.Bank.TheVariants as bank
+use Rattle.pfr_flash.specs.declared.names.Device.{Device}
+use Rattle.pfr_flash.specs.declared.names.Device.TheVariants as device
+use Rattle.pfr_engine.specs.Acceptance.{Acceptance}
+use Rattle.pfr_fuses.specs.FusesOf.{fuses_of}
+use Rattle.pfr_fuses.specs.Provisioning.{judge_provision, provision_plan}
+use Rattle.pfr_fuses.specs.declared.fuse_fail.FuseFail.{FuseFail}
+use Rattle.pfr_fuses.specs.declared.root_slot.RootSlot.{RootSlot}
+use Rattle.pfr_script.specs.declared.event.Event.{Event}
+use Rattle.pfr_script.specs.declared.event.Event.TheVariants as event
+use Rattle.pfr_report.specs.Texts.{IsNoted}
+use Rattle.pfr_report.specs.declared.note.What.{What}
+use Rattle.pfr_report.specs.declared.note.What.TheVariants as what
+use Rattle.pfr_story.specs.Story.{Story, Says, called, after}
+use Rattle.pfr_story.specs.World.{World, story_of, state_at, NoneLost, NoneRose, added}
+use Rattle.pfr_story.specs.Safety.{AllGood, AllSafe, AllMake}
+use Rattle.pfr_story.specs.Course.{Stretch, Course, Follows, Calm}
+use Rattle.pfr_story.specs.Standing.{standing_of, is_off}
+use Rattle.pfr_story.specs.Plans.{store, migrated, provisioned, provisioned_in, migration_in}
+use Rattle.pfr_story.specs.Turn.{bank_stretch, fuse_stretch, provision_stretch, where_off, ignored, power_course, off_course, provision_course, course, begun, Turn}
+use Rattle.pfr_story.specs.Promises.{IsSwitchedOff}
+use Rattle.pfr_story.proofs.WorldLaws.{AllMoved-refl}
+use Rattle.pfr_story.proofs.SafetyLaws.{AllSafe-append}
+use Rattle.pfr_story.proofs.CallLaws.{AllMake-append, AllMake-called, cut_makes}
+use Rattle.pfr_story.proofs.Courses.{Follows-calm}
+use Rattle.pfr_story.proofs.Traces.{Traced, Traced-known, KnownBefore}
+use Rattle.pfr_story.proofs.StepTraces.{Between, AllowsLosses, IsGoodStretch, AreGood, AreGood-none, AreGood-next, Follows-good}
+use Rattle.pfr_story.proofs.Facts.{Setting, Fact, IsTrue, call_true, brought_true, IsOwn, IsNoLoss, brought_makes, lock_true}
+
+-- A step in which no count of losses or faults rose is calm.
+pub Turn-calm : (accepts : Acceptance) (e : Event) (old new : World) → Turn accepts e old new → NoneLost old new → NoneRose old new → Calm (course accepts e (story_of old)) (begun old) new
+Turn-calm accepts e old new t lost rose = Follows-calm (course accepts e (story_of old)) (begun old) new t (record { bmc = lost.bmc; pch = lost.pch; nv = lost.nv }) by_device
+  where
+    by_device : NoneRose (begun old) new
+    by_device device.Bmc = rose device.Bmc
+    by_device device.Pch = rose device.Pch
+    by_device device.Nv = rose device.Nv
+
+abbrev pub Any : Story → Type 0
+Any story = Unit {0}
+
+-- ---- the stretches
+abbrev pub IsStore : Device → Type 0
+IsStore which = which ≡ device.Nv
+
+pub migrated_makes : (story : Story) → AllMake IsStore IsNoLoss (migrated story)
+migrated_makes story = AllMake-called IsStore IsNoLoss device.Nv (migration_in (fuses_of (store story))) refl
+
+tried_makes : (root : RootSlot) (judged : Result ℕ FuseFail) (story : Story) → AllMake IsStore IsNoLoss (provisioned_in root judged story)
+tried_makes root (Ok number) story =
+    AllMake-append IsStore IsNoLoss (called device.Nv (provision_plan number root)) (Says (λ _. what.Provisioned) ∷ []) (AllMake-called IsStore IsNoLoss device.Nv (provision_plan number root) refl) ((λ at loss. loss), tt)
+tried_makes root (Err cause) story = ((λ at loss. loss), tt)
+
+pub provisioned_makes : (root : RootSlot) (story : Story) → AllMake IsStore IsNoLoss (provisioned root story)
+provisioned_makes root story = (refl, tried_makes root (judge_provision (store story) root (length story.bmc.start) (length story.pch.start)) story)
+
+module _ (s : Setting) where
+  abbrev pub IsTrueStretch : Stretch → Type 0
+  IsTrueStretch stretch = IsGoodStretch (IsTrue s) s.first s.last Any Any stretch Any
+
+  bank_true : (b : Bank) → IsTrueStretch (bank_stretch s.accepts b)
+  bank_true b = record {
+    plan = record { safe = λ story p. brought_true s b story; ends = λ story p. tt };
+    noted = λ which story trace p cut rose. ((refl, lock_true s b which (after trace story) (cut_makes (IsOwn b) IsNoLoss which _ trace story (brought_makes s.accepts b story) cut).0 rose), tt);
+    on = λ which story trace p cut e. tt;
+  }
+
+  store_rose : (which : Device) → IsStore which → Rose (state_at which s.first).faults (state_at which s.last).faults → Rose s.first.nv.faults s.last.nv.faults
+  store_rose which e rose = subst (λ (d : Device). Rose (state_at d s.first).faults (state_at d s.last).faults) e rose
+
+  fuse_true : IsTrueStretch fuse_stretch
+  fuse_true = record {
+    plan = record { safe = λ story p. call_true s device.Nv (migration_in (fuses_of (store story))) story; ends = λ story p. tt };
+    noted = λ which story trace p cut rose.
+        let nv = store_rose which (cut_makes IsStore IsNoLoss which _ trace story (migrated_makes story) cut).0 rose in
+        (refl, ((refl, nv), (refl, ((refl, nv), tt))));
+    on = λ which story trace p cut e. tt;
+  }
+
+  provisioned_true : (root : RootSlot) (judged : Result ℕ FuseFail) (story : Story) → AllSafe (IsTrue s) (provisioned_in root judged story) story
+  provisioned_true root (Ok number) story =
+      AllSafe-append (IsTrue s) (called device.Nv (provision_plan number root)) (Says (λ _. what.Provisioned) ∷ []) story (call_true s device.Nv (provision_plan number root) story) (tt, tt)
+  provisioned_true root (Err cause) story = (tt, tt)
+
+  provision_true : (root : RootSlot) → IsTrueStretch (provision_stretch root)
+  provision_true root = record {
+    plan = record { safe = λ story p. (tt, provisioned_true root _ story); ends = λ story p. tt };
+    noted = λ which story trace p cut rose.
+        let nv = store_rose which (cut_makes IsStore IsNoLoss which _ trace story (provisioned_makes root story) cut).0 rose in
+        ((refl, nv), ((refl, nv), tt));
+    on = λ which story trace p cut e. tt;
+  }
+
+  -- ---- a whole step
+  -- the power is switched off at `off` alone, where the banks aren't off
+  abbrev pub MaySwitch : Event → World → Type 0
+  MaySwitch e old = IsSwitchedOff e old → s.IsSwitched
+
+  module _ (e : Event) (old new : World) (within : Between s.first s.last (begun old) new) where
+    allows : AllowsLosses (IsTrue s) s.first s.last
+    allows which story fell = ((refl, fell), tt)
+
+    along : (c : Course) → Follows c (begun old) new → AllGood (IsTrue s) c.first (story_of (begun old)) → AreGood (IsTrue s) s.first s.last Any c.stretches → Traced (IsTrue s) (begun old) new
+    along c t first stretches = Follows-good (IsTrue s) s.first s.last Any c (begun old) new within t first tt stretches
+
+    none : AreGood (IsTrue s) s.first s.last Any []
+    none = AreGood-none (IsTrue s) s.first s.last Any (λ w moved. tt) allows Any
+
+    next : (stretch : Stretch) (stretches : List Stretch) → IsTrueStretch stretch → AreGood (IsTrue s) s.first s.last Any stretches → AreGood (IsTrue s) s.first s.last Any (stretch ∷ stretches)
+    next stretch stretches good rest = AreGood-next (IsTrue s) s.first s.last Any (λ w moved. tt) allows Any Any stretch stretches good rest
+
+    ignored_true : Follows ignored (begun old) new → Traced (IsTrue s) (begun old) new
+    ignored_true t = along ignored t (tt, tt) none
+
+    off_true : (off : Bool) → (off ≡ false → s.IsSwitched) → Follows (where_off off ignored off_course) (begun old) new → Traced (IsTrue s) (begun old) new
+    off_true true may t = ignored_true t
+    off_true false may t = along off_course t ((refl, may refl), tt) none
+
+    try_true : (root : RootSlot) (off : Bool) → Follows (where_off off ignored (provision_course root)) (begun old) new → Traced (IsTrue s) (begun old) new
+    try_true root true t = ignored_true t
+    try_true root false t = along (provision_course root) t tt (next (provision_stretch root) [] (provision_true root) none)
+
+  pub Turn-true : (e : Event) (old new : World) → Between s.first s.last (begun old) new → MaySwitch e old → Turn s.accepts e old new → Traced (IsTrue s) (begun old) new
+  Turn-true event.Power old new within may t =
+      let pch = bank_stretch s.accepts bank.Pch in
+      let bmc = bank_stretch s.accepts bank.Bmc in
+      along event.Power old new within (power_course s.accepts) t (tt, tt)
+      (next event.Power old new within fuse_stretch (bmc ∷ pch ∷ []) fuse_true
+      (next event.Power old new within bmc (pch ∷ []) (bank_true bank.Bmc) (next event.Power old new within pch [] (bank_true bank.Pch) (none event.Power old new within))))
+  Turn-true event.Off old new within may t =
+      off_true event.Off old new within (is_off (standing_of bank.Bmc old.notes.list)) (λ off. may (λ on. absurd (let k = off in cc))) t
+  Turn-true (event.Provision root) old new within may t = try_true (event.Provision root) old new within root (is_off (standing_of bank.Bmc old.notes.list)) t
+
+-- a step between its own two ends
+unfoldable pub step_of : Acceptance → Event → World → World → Setting
+step_of accepts e old new = record { accepts = accepts; first = old; last = new; IsSwitched = IsSwitchedOff e old }
+
+-- what is known of each note that a step added
+pub Turn-known : (accepts : Acceptance) (e : Event) (old new : World) → Turn accepts e old new → (that : What) → IsNoted (added old new) that
+    → KnownBefore (Fact (step_of accepts e old new)) that (story_of new)
+unfolding step_of
+Turn-known accepts e old new t that n =
+    let s : Setting = record { accepts = accepts; first = old; last = new; IsSwitched = IsSwitchedOff e old } in
+    let same = AllMoved-refl old in
+    let within : Between old new (begun old) new = record { before = record { bmc = same.bmc; pch = same.pch; nv = same.nv }; behind = AllMoved-refl new } in
+    Traced-known (IsTrue s) (Fact s) (λ w story g. g) (begun old) new (Turn-true s e old new within (λ off. off) t) that n

@@ -1,0 +1,13 @@
+pub mod Guards
+pub mod Story
+pub mod Deeds
+pub mod World
+pub mod Goes
+pub mod Safety
+pub mod Course
+pub mod Standing
+pub mod Plans
+pub mod Causes
+pub mod Turn
+pub mod Promises
+pub mod Recovery

@@ -1,0 +1,112 @@
+-- What a step does where no device call fails, from the contents as they are.
+use Rattle.std.specs.Prelude.{ℕ, List, [], length, Result, Ok, Err}
+use Rattle.pfr_flash.specs.Judging.{◌>>=◌, ◌>>◌, told_as}
+use Rattle.pfr_flash.specs.Layout.{judge_layout}
+use Rattle.pfr_flash.specs.Operation.{Operation}
+use Rattle.pfr_flash.specs.declared.names.Bank.{Bank}
+use Rattle.pfr_flash.specs.declared.names.Device.TheVariants as device
+use Rattle.pfr_engine.specs.Acceptance.{Acceptance}
+use Rattle.pfr_fuses.specs.FusesState.{FusesState}
+use Rattle.pfr_fuses.specs.FusesOf.{fuses_of}
+use Rattle.pfr_fuses.specs.Provisioning.{judge_provision, provision_plan}
+use Rattle.pfr_fuses.specs.RootSlot.{layout_of}
+use Rattle.pfr_fuses.specs.Changes.{migration}
+use Rattle.pfr_fuses.specs.declared.fuse_fail.FuseFail.{FuseFail}
+use Rattle.pfr_fuses.specs.declared.fuse_fail.FuseFail.TheVariants as fuse
+use Rattle.pfr_fuses.specs.declared.profile.Profile.{Profile}
+use Rattle.pfr_fuses.specs.declared.profile.Profile.TheVariants as profile
+use Rattle.pfr_fuses.specs.declared.root_slot.RootSlot.{RootSlot}
+use Rattle.pfr_manifest.specs.declared.manifest.Manifest.{Manifest}
+use Rattle.pfr_capsule.specs.CapsuleState.{CapsuleState}
+use Rattle.pfr_capsule.specs.declared.fail.CapsuleFail.{CapsuleFail}
+use Rattle.pfr_auth.specs.Areas.{judge_area}
+use Rattle.pfr_auth.specs.Judge.{judge_active}
+use Rattle.pfr_auth.specs.declared.areas.Area.TheVariants.{Recovery}
+use Rattle.pfr_auth.specs.declared.fail.ActiveFail.{ActiveFail}
+use Rattle.pfr_report.specs.declared.note.LockWhy.{LockWhy}
+use Rattle.pfr_report.specs.declared.note.LockWhy.TheVariants as lock
+use Rattle.pfr_report.specs.declared.note.ProvisionWhy.{ProvisionWhy}
+use Rattle.pfr_report.specs.declared.note.ProvisionWhy.TheVariants as refusal
+use Rattle.pfr_report.specs.declared.note.What.TheVariants.{Held, Released, Locked, Untrusted, Provisioned, ProvisionRefused}
+use Rattle.pfr_story.specs.Story.{Story, Plan, then, says, called, image_at, device_of}
+
+-- the bytes of a bank, and of the store
+abbrev pub mine : Bank → Story → List ℕ
+mine bank story = image_at (device_of bank) story
+
+abbrev pub store : Story → List ℕ
+store story = image_at device.Nv story
+
+-- a bank's device is only asked, or the store is
+abbrev pub asks : Bank → Plan
+asks bank story = called (device_of bank) []
+
+abbrev pub asks_store : Plan
+asks_store story = called device.Nv []
+
+-- ---- a bank is brought up
+
+abbrev pub lock_of : FuseFail → LockWhy
+lock_of fuse.SlotsSpent = lock.SlotsSpent
+lock_of cause = lock.Unprovisioned
+
+-- the fuses by which a bank of this size can be checked, or why it is locked
+abbrev pub ready_in : Bank → ℕ → Result FusesState FuseFail → Result FusesState LockWhy
+ready_in bank size read = told_as lock_of read >>= λ fuses. told_as (λ rule. lock.Layout rule) (judge_layout (layout_of fuses.provision bank) size) >> Ok fuses
+
+abbrev pub ready_of : Bank → Story → Result FusesState LockWhy
+ready_of bank story = ready_in bank (length (mine bank story)) (fuses_of (store story))
+
+abbrev pub judged_active : Acceptance → Bank → FusesState → Story → Result Manifest ActiveFail
+judged_active accepts bank fuses story = judge_active (mine bank story) bank fuses accepts
+
+abbrev pub judged_recovery : Acceptance → Bank → FusesState → Story → Result CapsuleState CapsuleFail
+judged_recovery accepts bank fuses story = judge_area Recovery bank (mine bank story) fuses accepts
+
+-- a bank whose active image isn't trusted for this cause is locked, also where its recovery image is good
+abbrev pub by_recovery : Bank → ActiveFail → Result CapsuleState CapsuleFail → Plan
+by_recovery bank why (Ok capsule) = says (Locked bank lock.NotRestored)
+by_recovery bank why (Err cause) = says (Locked bank (lock.NoGoodImage why cause))
+
+-- it is released where its active image is trusted, else its recovery area is looked at
+abbrev pub by_active : Acceptance → Bank → FusesState → Result Manifest ActiveFail → Plan
+by_active accepts bank fuses (Ok m) = says (Released bank m.svn)
+by_active accepts bank fuses (Err why) =
+    then (says (λ _. Untrusted bank why)) (then (asks bank) (λ story. by_recovery bank why (judged_recovery accepts bank fuses story) story))
+
+abbrev pub tail : Acceptance → Bank → FusesState → Plan
+tail accepts bank fuses = then (asks bank) (λ story. by_active accepts bank fuses (judged_active accepts bank fuses story) story)
+
+abbrev pub by_ready : Acceptance → Bank → Result FusesState LockWhy → Plan
+by_ready accepts bank (Ok fuses) = tail accepts bank fuses
+by_ready accepts bank (Err why) = says (Locked bank why)
+
+-- It is held, its fuses are read off the store, and it is checked.
+abbrev pub brought_up : Acceptance → Bank → Plan
+brought_up accepts bank = then (says (Held bank)) (then asks_store (λ story. by_ready accepts bank (ready_of bank story) story))
+
+-- ---- the fuses are migrated at power-on, where the store is provisioned and of profile 1
+abbrev pub migration_by : Profile → FusesState → List Operation
+migration_by profile.One fuses = migration fuses
+migration_by profile.Two fuses = []
+
+abbrev pub migration_in : Result FusesState FuseFail → List Operation
+migration_in (Ok fuses) = migration_by fuses.profile fuses
+migration_in (Err cause) = []
+
+abbrev pub migrated : Plan
+migrated story = called device.Nv (migration_in (fuses_of (store story)))
+
+-- ---- the platform is provisioned, or refuses to be
+abbrev pub refusal_of : FuseFail → ProvisionWhy
+refusal_of fuse.AlreadyProvisioned = refusal.AlreadyProvisioned
+refusal_of (fuse.LayoutBad bank rule) = refusal.LayoutBad bank rule
+refusal_of cause = refusal.SlotsSpent
+
+abbrev pub provisioned_in : RootSlot → Result ℕ FuseFail → Plan
+provisioned_in what (Ok number) = then (λ story. called device.Nv (provision_plan number what)) (says (λ _. Provisioned))
+provisioned_in what (Err cause) = says (λ _. ProvisionRefused (refusal_of cause))
+
+-- it is judged by the store, which is asked first
+abbrev pub provisioned : RootSlot → Plan
+provisioned what = then asks_store (λ story. provisioned_in what (judge_provision (store story) what (length story.bmc.start) (length story.pch.start)) story)

@@ -1,0 +1,101 @@
+-- What each step promises of its notes.
+use Rattle.std.specs.Prelude.{◌≡◌, ◌↔◌, ℕ, ◌<◌, List, [], ◌∷◌, ◌++◌, Option, Some, None, true}
+use Rattle.pfr_flash.specs.FlashState.{upto, Rose}
+use Rattle.pfr_flash.specs.declared.names.Bank.{Bank}
+use Rattle.pfr_flash.specs.declared.names.Bank.TheVariants as bank
+use Rattle.pfr_flash.specs.declared.names.Counts.{Counts}
+use Rattle.pfr_flash.specs.declared.names.Device.{Device}
+use Rattle.pfr_engine.specs.Acceptance.{Acceptance}
+use Rattle.pfr_auth.specs.declared.fail.ActiveFail.{ActiveFail}
+use Rattle.pfr_script.specs.declared.event.Event.{Event}
+use Rattle.pfr_script.specs.declared.event.Event.TheVariants as event
+use Rattle.pfr_report.specs.Texts.{IsNoted}
+use Rattle.pfr_report.specs.declared.note.LockWhy.{LockWhy}
+use Rattle.pfr_report.specs.declared.note.LockWhy.TheVariants as why
+use Rattle.pfr_report.specs.declared.note.Note.{Note}
+use Rattle.pfr_report.specs.declared.note.What.TheVariants.{Released, Locked, Lost, Untrusted}
+use Rattle.pfr_story.specs.Story.{counts_of, device_of}
+use Rattle.pfr_story.specs.World.{World, story_of, state_at, NoneFailed, added}
+use Rattle.pfr_story.specs.Standing.{standing_of, is_off, Off}
+use Rattle.pfr_story.specs.Causes.{IsTrustedWith, IsAgainst, IsDue}
+
+-- the count of a bank's operations
+abbrev pub count_at : Bank → Counts → ℕ
+count_at bank.Bmc counts = counts.bmc
+count_at bank.Pch counts = counts.pch
+
+-- something that is true of the bytes of a bank and of the store at these counts
+abbrev pub AtCounts : (List ℕ → List ℕ → Type 0) → Bank → Counts → World → Type 0
+AtCounts P which at w = P (upto (state_at (device_of which) w) (count_at which at)) (upto w.nv at.nv)
+
+-- Released is noted of a bank only where it was trusted at the counts of the note, with this security version number.
+abbrev pub ReleasesTrusted : Acceptance → World → World → Type 0
+ReleasesTrusted accepts old new = (which : Bank) (svn : ℕ) (at : Counts) → IsNoted (added old new) (Released which svn at)
+    → AtCounts (λ image nv. IsTrustedWith svn image nv which accepts) which at new
+
+-- a lock that is noted at a fault
+abbrev pub IsFaultLock : LockWhy → Type 0
+IsFaultLock why.FlashFault = Unit {0}
+IsFaultLock why.StoreFault = Unit {0}
+IsFaultLock cause = ⊥
+
+-- a bank is locked for a fault only where a count of faults rose: its own device's, or the store's
+pub record FaultsHaveCauses (old new : World) : Type 0 where
+  pub flash : (which : Bank) (at : Counts) → IsNoted (added old new) (Locked which why.FlashFault at)
+      → Rose (state_at (device_of which) old).faults (state_at (device_of which) new).faults
+  pub store : (which : Bank) (at : Counts) → IsNoted (added old new) (Locked which why.StoreFault at) → Rose old.nv.faults new.nv.faults
+
+-- Each other lock has its cause in the contents at its counts.
+abbrev pub LocksHaveCauses : Acceptance → World → World → Type 0
+LocksHaveCauses accepts old new = (which : Bank) (cause : LockWhy) (at : Counts) → IsNoted (added old new) (Locked which cause at) → ¬ IsFaultLock cause
+    → AtCounts (λ image nv. IsDue cause which image nv accepts) which at new
+
+-- An image is called untrusted only with the first cause against it, at a moment of the step; also where a call fails behind it.
+abbrev pub DistrustsWithCause : Acceptance → World → World → Type 0
+DistrustsWithCause accepts old new = (which : Bank) (cause : ActiveFail) → IsNoted (added old new) (Untrusted which cause)
+    → (at : Counts) × AtCounts (λ image nv. IsAgainst cause which image nv accepts) which at new
+
+-- no bank is locked for a fault, and no device's loss of power is noted
+pub record IsUndisturbed (notes : List Note) : Type 0 where
+  pub flash : (which : Bank) (at : Counts) → ¬ IsNoted notes (Locked which why.FlashFault at)
+  pub store : (which : Bank) (at : Counts) → ¬ IsNoted notes (Locked which why.StoreFault at)
+  pub on : (which : Device) (at : Counts) → ¬ IsNoted notes (Lost (Some which) at)
+
+-- No fault of a device is passed over: where none of these is noted, no call of a device answered one.
+abbrev pub FaultsAreNoted : World → World → Type 0
+FaultsAreNoted old new = IsUndisturbed (added old new) → NoneFailed old new
+
+-- the banks are off: both are, or neither
+abbrev pub AreOff : World → Type 0
+AreOff w = is_off (standing_of bank.Bmc w.notes.list) ≡ true
+
+-- the power is taken by an event: at `off`, where the banks aren't off
+abbrev pub IsSwitchedOff : Event → World → Type 0
+IsSwitchedOff event.Off old = ¬ AreOff old
+IsSwitchedOff e old = ⊥
+
+-- Without a device a loss is noted exactly there.
+pub record NotesOff (e : Event) (old new : World) : Type 0 where
+  pub only : (at : Counts) → IsNoted (added old new) (Lost None at) → IsSwitchedOff e old
+  pub all : IsSwitchedOff e old → IsNoted (added old new) (Lost None (counts_of (story_of new)))
+
+-- it was noted that this device lost the power
+pub record HasLost (which : Device) (notes : List Note) : Type 0 where
+  pub at : Counts
+  pub noted : IsNoted notes (Lost (Some which) at)
+
+-- It is noted exactly of a device whose count of losses rose.
+abbrev pub LossesAreNoted : World → World → Type 0
+LossesAreNoted old new = (which : Device) → (HasLost which (added old new) ↔ ((state_at which old).losses < (state_at which new).losses))
+
+-- it is the last note, with the counts at the end, and both banks are off
+pub record IsLast (device : Option Device) (at : Counts) (w : World) : Type 0 where
+  pub before : List Note
+  pub last : w.notes.list ≡ before ++ record { item = w.item; what = Lost device at } ∷ []
+  pub counts : at ≡ counts_of (story_of w)
+  pub bmc : standing_of bank.Bmc w.notes.list ≡ Off
+  pub pch : standing_of bank.Pch w.notes.list ≡ Off
+
+-- Lost ends the step.
+abbrev pub LostEnds : World → World → Type 0
+LostEnds old new = (device : Option Device) (at : Counts) → IsNoted (added old new) (Lost device at) → IsLast device at new
