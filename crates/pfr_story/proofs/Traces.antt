@@ -1,17 +1,18 @@
 -- The world moved by good moves.
 use Rattle.std.proofs.Common.{◌≡◌, ◌∙◌, refl, sym, ap, subst, arith, ℕ, List, [], ◌∷◌, ◌++◌, length, take, drop, append_assoc, ◌⊎◌, inl, inr}
 use Rattle.std.proofs.lemmas.List.{append-nil, take_all, take-append-le}
+use Rattle.std.proofs.lemmas.List.Elements.{All-take}
 use Rattle.std.proofs.Math.Seq.{drop-append_seam}
 use Rattle.pfr_flash.specs.Bytes.{AreBytes}
 use Rattle.pfr_flash.specs.FlashState.{FlashState}
-use Rattle.pfr_flash.specs.Holding.{HoldsBytes}
+use Rattle.pfr_flash.specs.Holding.{WritesBytes, HoldsBytes}
 use Rattle.pfr_flash.specs.Moved.{Moved}
 use Rattle.pfr_flash.specs.Operation.{Operation, play, play_first}
 use Rattle.pfr_flash.specs.declared.flash.FlashFail.{FlashFail}
 use Rattle.pfr_flash.specs.declared.names.Counts.{Counts}
 use Rattle.pfr_flash.specs.declared.names.Device.{Device}
 use Rattle.pfr_flash.specs.declared.names.Device.TheVariants as device
-use Rattle.pfr_flash.proofs.HoldingLemmas.{upto_bytes}
+use Rattle.pfr_flash.proofs.AreBytesLemmas.{AreBytes-play}
 use Rattle.pfr_report.specs.Texts.{IsNoted}
 use Rattle.pfr_report.specs.declared.note.Note.{Note}
 use Rattle.pfr_report.specs.declared.note.What.{What}
@@ -100,7 +101,7 @@ abbrev pub AreImages : Story → Type 0
 AreImages story = (which : Device) → AreBytes (image_at which story)
 
 bytes_before : (a : Past) (d : FlashState) → Begins a (past_of d) → HoldsBytes d → AreBytes (image_of a)
-bytes_before a d p h = subst AreBytes (upto_begins a (past_of d) p) (upto_bytes d (length a.ops) h)
+bytes_before a d p h = subst AreBytes (upto_begins a (past_of d) p) (AreBytes-play d.start (take (length a.ops) d.ops) h.start (All-take WritesBytes (length a.ops) d.ops h.ops))
 
 pub images_before : (at : Story) (new : World) → Precedes at (story_of new) → AreDevices new → AreImages at
 images_before at new p h device.Bmc = bytes_before at.bmc new.bmc p.bmc h.bmc
