@@ -1,15 +1,12 @@
 -- Both banks of a description: the rows of `make`, and what is stored.
 use Rattle.std.proofs.Common.{◌≡◌, ◌∙◌, ap, refl, ℕ, List, [], ◌∷◌, ◌++◌, Bool, Option, Some, Result, Ok, Err}
-use Rattle.pfr_flash.specs.Judging.{◌>>◌}
 use Rattle.pfr_flash.specs.declared.names.Bank.TheVariants.{Bmc, Pch}
 use Rattle.pfr_shelf.specs.Failures.{Failure}
 use Rattle.pfr_shelf.specs.Files.{Files}
 use Rattle.pfr_description.specs.Banks.{bank_of}
 use Rattle.pfr_description.specs.Described.{Description}
-use Rattle.pfr_description.specs.declared.fail.DescWhy.{DescWhy}
-use Rattle.pfr_made.specs.Made.{judge_bank}
 use Rattle.pfr.specs.Judging.{FileRow, Loads, told_by, verdict}
-use Rattle.pfr.specs.MakesInside.{AreMade, AreSources, stored_of_made}
+use Rattle.pfr.specs.MakesInside.{AreMade, AreSources, judged_both, stored_of_made}
 use Rattle.pfr.specs.Making.{bank_rows, described_in, description_fault_in, description_row, made_bank_row, make_rows, make_stores, made_files, rows_described}
 use Rattle.pfr.specs.Request.{MakeRequest}
 use Rattle.pfr.specs.declared.making.MadeFiles.{MadeFiles}
@@ -58,10 +55,6 @@ pub both_found : {S : Type 0} (tells : Bool) (files : S → Files) (faults : S �
     → Loads tells files faults failed old new (file_rows desc) (Ok sources) → Loads tells files faults failed new new (made_rows name desc) result
     → Loads tells files faults failed old new (both_rows name desc) result
 both_found tells files faults failed old new name desc sources result a b = loads_then tells files faults failed old new new (file_rows desc) (made_rows name desc) sources result (made_alike name desc) a b
-
--- both banks of the files, judged by what was loaded
-abbrev pub judged_both : Description → BothSources → Result (Unit {0}) DescWhy
-judged_both desc both = judge_bank desc Bmc both.bmc.image.items both.bmc.staged.items >> judge_bank desc Pch both.pch.image.items both.pch.staged.items
 
 pub made_says : (files : Files) (name : List ℕ) (desc : Description) (both : BothSources) → AreSources files desc both
     → verdict (made_rows name desc files) ≡ told_by role.Description (description_fault_in (judged_both desc both))

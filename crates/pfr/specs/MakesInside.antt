@@ -3,15 +3,17 @@ use Rattle.std.specs.Prelude.{◌≡◌, ◌≤◌, ℕ, List, [], ◌∷◌, �
 use Rattle.pfr_flash.specs.declared.names.Bank.{Bank}
 use Rattle.pfr_flash.specs.declared.names.Bank.TheVariants.{Bmc, Pch}
 use Rattle.pfr_flash.specs.FlashState.{Rose}
+use Rattle.pfr_flash.specs.Judging.{◌>>◌}
 use Rattle.pfr_shelf.specs.Failures.{Failure}
 use Rattle.pfr_shelf.specs.Files.{Files}
 use Rattle.pfr_description.specs.Described.{Description}
 use Rattle.pfr_description.specs.Whole.{judge_description}
 use Rattle.pfr_description.specs.declared.fail.DescFail.{DescFail}
 use Rattle.pfr_description.specs.declared.fail.DescFail.TheVariants as fails
+use Rattle.pfr_description.specs.declared.fail.DescWhy.{DescWhy}
 use Rattle.pfr_description.specs.Banks.{bank_of}
 use Rattle.pfr_made.specs.Capsules.{signed_capsule}
-use Rattle.pfr_made.specs.Made.{active_image, flash_of, rows_of}
+use Rattle.pfr_made.specs.Made.{active_image, flash_of, judge_bank, rows_of}
 use Rattle.pfr_tool.specs.declared.bank_image.Made.{Made}
 use Rattle.pfr_tool.specs.declared.certificate.MadeCert.{MadeCert}
 use Rattle.pfr.specs.Judging.{FileRow, Keeps, verdict}
@@ -56,6 +58,10 @@ pub record AreMade (desc : Description) (both : BothSources) (made : MadeFiles) 
   pub bmc : IsMade desc Bmc both.bmc.image.items both.bmc.staged.items made.bmc
   pub pch : IsMade desc Pch both.pch.image.items both.pch.staged.items made.pch
   pub engine : made.engine.items ≡ made.bmc.rows ++ made.pch.rows
+
+-- what making both banks finds against them, the BMC's first
+abbrev pub judged_both : Description → BothSources → Result (Unit {0}) DescWhy
+judged_both desc both = judge_bank desc Bmc both.bmc.image.items both.bmc.staged.items >> judge_bank desc Pch both.pch.image.items both.pch.staged.items
 
 -- What is loaded and made before anything is stored: these rows, from the shelf as it was to the shelf as it is.
 pub record Prepares {S T : Type 0} (tells : Bool) (files : S → Files) (faults : S → ℕ) (failed : S → Option Failure) (old new : S) (rows : Files → List FileRow) (result : Result T Status) : Type 0 where

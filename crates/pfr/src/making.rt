@@ -1,12 +1,9 @@
 // The commands `make`, `provision` and `cert`.
 ghost use Rattle.std.specs.Prelude.{◌≡◌, ◌≤◌, ◌∷◌, [], true, IfOk, IfErr, OnOk};
-ghost use Rattle.pfr_flash.specs.declared.names.Bank.TheVariants as bank;
-ghost use Rattle.pfr_flash.specs.Judging.{◌>>◌};
 ghost use Rattle.pfr_made.specs.Judge.{Judged};
-ghost use Rattle.pfr_made.specs.Made.{judge_bank};
 ghost use Rattle.pfr.specs.Faults.{GoesFaultless, IsFaultless};
 ghost use Rattle.pfr.specs.Makes.{MakesFor, shelf_alone};
-ghost use Rattle.pfr.specs.MakesInside.{AreMade, Prepares, Stores, stored_of_cert, stored_of_made, stored_of_store};
+ghost use Rattle.pfr.specs.MakesInside.{AreMade, Prepares, judged_both, Stores, stored_of_cert, stored_of_made, stored_of_store};
 ghost use Rattle.pfr.specs.Making.{cert_names, cert_rows, cert_stores, make_names, make_rows, make_stores, provision_names, provision_rows, provision_stores};
 
 use crate::making_words::{CertRequest, MakeRequest, ProvisionRequest};
@@ -34,8 +31,7 @@ fn make_both(
     sources: &BothSources,
 ) -> Result<MadeFiles, DescFail>
     ensures made { IfOk result (AreMade desc.now sources.now) }
-    ensures judged { Judged result (judge_bank desc.now bank.Bmc sources.now.bmc.image.items sources.now.bmc.staged.items
-        >> judge_bank desc.now bank.Pch sources.now.pch.image.items sources.now.pch.staged.items) }
+    ensures judged { Judged result (judged_both desc.now sources.now) }
 {
     let bmc = make_bank(
         alloc,

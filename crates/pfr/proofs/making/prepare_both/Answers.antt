@@ -2,11 +2,11 @@ use Rattle.std.proofs.Common.{◌≡◌, ap, subst, sym, true, Ok, Err}
 use Rattle.std.proofs.lemmas.Result.{err_from_is_err_and}
 use Rattle.pfr_description.specs.Described.{Description}
 use Rattle.pfr_shelf.specs.Files.{Files}
-use Rattle.pfr.specs.MakesInside.{AreSources, refusal_of}
+use Rattle.pfr.specs.MakesInside.{AreSources, judged_both, refusal_of}
 use Rattle.pfr.specs.Making.{described_in, make_rows, rows_described}
 use Rattle.pfr.specs.Request.{MakeRequest}
 use Rattle.pfr.specs.declared.making.MadeFiles.{MadeFiles}
-use Rattle.pfr.proofs.BothLemmas.{both_alike, both_found, both_refused, both_rows, judged_both, made_rows, made_says, rows_first, rows_read, stored_both}
+use Rattle.pfr.proofs.BothLemmas.{both_alike, both_found, both_refused, both_rows, made_rows, made_says, rows_first, rows_read, stored_both}
 use Rattle.pfr.proofs.PrepareLemmas.{described_as, judged_rows, prepares_first, prepares_on, refused_rows}
 use Rattle.pfr.proofs.making.prepare_both.Goals as goal
 
