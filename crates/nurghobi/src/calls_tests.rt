@@ -87,6 +87,15 @@ const CERTS: &[Call] = &[
     (4, 1, 0, "", "", 2),
 ];
 
+// The words of each command, its calls, and what it stores.
+const COMMANDS: &[(&[&str], &[Call], &[&str])] = &[
+    (RUN, RUNS, &[]),
+    (CHECK, CHECKS, &[]),
+    (MAKE, MAKES, MADE),
+    (PROVISION, PROVISIONS, STORE),
+    (CERT, CERTS, CERTIFICATE),
+];
+
 // A blank platform, and what the small one is made of.
 fn all_files(alloc: Global, image: &[u8]) -> Result<MemShelf, Fail> {
     let mut shelf = blank_shelf(alloc, "power\n")?;
@@ -196,26 +205,9 @@ fn want_calls(
 }
 
 #[test]
-fn failing_calls_of_run(rt: HostRuntime) -> Result<(), Fail> {
-    want_calls(&rt, rt.alloc(), RUN, RUNS, &[])
-}
-
-#[test]
-fn failing_calls_of_check(rt: HostRuntime) -> Result<(), Fail> {
-    want_calls(&rt, rt.alloc(), CHECK, CHECKS, &[])
-}
-
-#[test]
-fn failing_calls_of_make(rt: HostRuntime) -> Result<(), Fail> {
-    want_calls(&rt, rt.alloc(), MAKE, MAKES, MADE)
-}
-
-#[test]
-fn failing_calls_of_provision(rt: HostRuntime) -> Result<(), Fail> {
-    want_calls(&rt, rt.alloc(), PROVISION, PROVISIONS, STORE)
-}
-
-#[test]
-fn failing_calls_of_cert(rt: HostRuntime) -> Result<(), Fail> {
-    want_calls(&rt, rt.alloc(), CERT, CERTS, CERTIFICATE)
+fn failing_calls(rt: HostRuntime) -> Result<(), Fail> {
+    for (words, calls, names) in COMMANDS {
+        want_calls(&rt, rt.alloc(), words, calls, names)?;
+    }
+    Ok(())
 }
