@@ -2,8 +2,8 @@
 ghost use Rattle.std.specs.Prelude.{◌<◌};
 
 use crate::fixtures::{RUN, blank_shelf, word_list};
-use crate::small::{small_image, small_text};
 use pfr::pfr;
+use pfr_sample::{small_image, small_text};
 use pfr_shelf::{MemShelf, MemSink, Shelf};
 use std::alloc::Global;
 use std::process::Abort;

@@ -1,11 +1,6 @@
-// What the tests run on: words, files in memory, and a device.
-ghost use Rattle.std.specs.Prelude.{◌≡◌, IfOk};
-ghost use Rattle.pfr_flash.specs.FlashState.{size_of};
-
-use pfr_flash::{Flash, MemFlash};
+// What the tests run on: words, and files in memory.
 use pfr_shelf::MemShelf;
 use std::alloc::{AllocError, Global};
-use std::process::Abort;
 use std::test::Fail;
 
 pub const RUN: &[&str] = &["run", "bmc", "pch", "nv", "engine", "script"];
@@ -29,20 +24,4 @@ pub fn blank_shelf(alloc: Global, script: &str) -> Result<MemShelf, Fail> {
     shelf.put("engine", b"")?;
     shelf.put("script", script.as_bytes())?;
     Ok(shelf)
-}
-
-// A bank of the small platform's size with these bytes, that has power and room for so many operations.
-pub fn bank_with(
-    rt: &impl Abort,
-    alloc: Global,
-    bytes: Vec<u8>,
-    room: u32,
-) -> Result<MemFlash, Fail>
-    ensures { IfOk result (λ flash. size_of flash.device ≡ 1048576) }
-{
-    assert_eq!(rt; bytes.len(), 1_048_576);
-    let mut flash = MemFlash::new(alloc, bytes, room)?;
-    flash.power_up();
-    assert_eq!(rt; flash.size(), 1_048_576);
-    Ok(flash)
 }

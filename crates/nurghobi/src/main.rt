@@ -4,13 +4,9 @@
 #[cfg(test)]
 mod calls_tests;
 #[cfg(test)]
-mod capsule_tests;
-#[cfg(test)]
 mod fixtures;
 #[cfg(test)]
 mod operations_tests;
-#[cfg(test)]
-mod small;
 
 use pfr::{Status, pfr};
 use pfr_shelf::{FileShelf, OutSink};

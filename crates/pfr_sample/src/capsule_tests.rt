@@ -2,7 +2,6 @@
 ghost use Rattle.std.specs.Prelude.{◌≡◌, ◌<◌, IfOk};
 ghost use Rattle.pfr_flash.specs.FlashState.{size_of};
 
-use crate::fixtures::bank_with;
 use crate::small::{small_image, small_platform};
 use pfr_capsule::{Capsule, Pages};
 use pfr_engine::ListEngine;
@@ -66,6 +65,17 @@ fn make_small(alloc: Global) -> Result<Small, Fail> {
         rows: made.rows.into_vec(),
         store: make_store(alloc, &desc)?.into_vec(),
     })
+}
+
+// A bank of the small platform's size with these bytes, that has power and room for so many operations.
+fn bank_with(rt: &impl Abort, alloc: Global, bytes: Vec<u8>, room: u32) -> Result<MemFlash, Fail>
+    ensures { IfOk result (λ flash. size_of flash.device ≡ 1048576) }
+{
+    assert_eq!(rt; bytes.len(), 1_048_576);
+    let mut flash = MemFlash::new(alloc, bytes, room)?;
+    flash.power_up();
+    assert_eq!(rt; flash.size(), 1_048_576);
+    Ok(flash)
 }
 
 // Wants that the capsule in the recovery area of this bank is good, and its pages where they are.

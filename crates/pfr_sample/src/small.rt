@@ -66,19 +66,19 @@ address = 46
 commands = "0000010001000000000000000000000000000000000000000000000000000000"
 "#;
 
-// The description of the small platform, with a staged file for each bank.
+/// The text of the small platform's description, with a staged file for each bank.
 pub fn small_text(alloc: Global) -> Result<String, Fail> {
     let pch = BMC.replace(alloc, "bmc", "pch")?;
     Ok(format!(in alloc; "{}{}{}", TOP, BMC, pch)?)
 }
 
-// The small platform.
+/// The small platform, as it is described.
 pub fn small_platform(alloc: Global) -> Result<Description, Fail> {
     let text = small_text(alloc)?;
     Ok(read_description(alloc, text.as_bytes())?)
 }
 
-// The image of either bank of the small platform.
+/// The firmware of either bank of the small platform: 1 MiB, of which the bytes from 0x10000 up to 0x22000 aren't 0xFF.
 pub fn small_image(alloc: Global) -> Result<Vec<u8>, Fail>
     ensures { IfOk result (λ image. vec_len image ≡ 0x100000) }
 {
