@@ -1,5 +1,6 @@
-pub mod PlatformState
-pub mod WorksInside
-pub mod Checks
+pub mod Worlds
+pub mod Inside
+pub mod Ready
+pub mod Provisions
 pub mod Verdicts
 pub mod VerdictsInside

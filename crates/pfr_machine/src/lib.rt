@@ -1,16 +1,18 @@
 //! The platform: its devices, and what it does with them at each event.
 #![tactic(auto)]
 
+mod board;
+mod bringing;
+mod desk;
+mod inner;
 mod judging;
-mod lines;
 mod platform;
+mod preparing;
 mod provisioning;
-mod reading;
+mod seat;
 mod turning;
 mod verdicts;
-mod waking;
-mod works;
 
-pub use pfr_calm::Line;
+pub use pfr_story::Line;
 pub use platform::{Parts, Platform};
 pub use verdicts::verdict;

@@ -2,30 +2,37 @@
 ghost use Rattle.std.specs.Prelude.{◌≡◌, ◌+◌, ◌<◌, ◌≤◌, [], OnOk, OnErr};
 ghost use Rattle.pfr_flash.specs.FlashState.{size_of};
 ghost use Rattle.pfr_flash.specs.Layout.{IsBankSize};
-ghost use Rattle.pfr_flash.specs.declared.names.Bank.{Bank};
-ghost use Rattle.pfr_report.specs.Texts.{AllText};
-ghost use Rattle.pfr_calm.specs.Standing.{standing_of, standing_by};
 ghost use Rattle.pfr_fuses.specs.Growth.{NeverGoesBack, KeepsProvision};
-ghost use Rattle.pfr_calm.specs.World.{AllMoved, AreDevices, IsDark, state_at};
-ghost use Rattle.pfr_calm.specs.Turn.{Turn, next_item};
-ghost use Rattle.pfr_calm.specs.Promises.{ReleasesTrusted, LocksHaveCauses, BringsUpCalm, ProvisionsSo, FaultsAreNoted, FaultsHaveCauses, LossesAreNoted, LostEnds, LostIsDark, NotesOff, StaysQuiet, CallsNone, HasPower, DistrustsWithCause, NotesBelong, AreOff, IsPower, IsKnownSlot};
-ghost use Rattle.pfr_calm.specs.Run.{armed, takes_arm, with_arm};
+ghost use Rattle.pfr_recoverable.specs.Recoverable.{HasGoodRecovery};
+ghost use Rattle.pfr_report.specs.Texts.{AllText};
+ghost use Rattle.pfr_story.specs.Bringing.{BringsUpCalm, PowerReleases};
+ghost use Rattle.pfr_story.specs.Course.{Calm};
+ghost use Rattle.pfr_story.specs.Guards.{first_guards};
+ghost use Rattle.pfr_story.specs.Promises.{ReleasesTrusted, LocksHaveCauses, RestoresGood, ProvisionsSo, FaultsAreNoted, FaultsHaveCauses, LossesAreNoted, LostEnds, LostIsDark, NotesOff, StaysQuiet, CallsNone, HasPower, DistrustsWithCause, NotesBelong};
+ghost use Rattle.pfr_story.specs.Recovery.{StaysRecoverable};
+ghost use Rattle.pfr_story.specs.Run.{armed, takes_arm, with_arm};
+ghost use Rattle.pfr_story.specs.Standing.{standing_of, standing_by};
+ghost use Rattle.pfr_story.specs.Turn.{Turn, begun, course};
+ghost use Rattle.pfr_story.specs.World.{AllMoved, AreDevices, NoneLost, NoneRose, state_at, story_of};
 
-use crate::lines::{Lines, OFF};
-use crate::works::Works;
-use pfr_calm::Line;
+use crate::board::Board;
+use crate::inner::Inner;
+use crate::seat::Seat;
+use pfr_bank::Off;
 use pfr_chain::Engine;
 use pfr_flash::{Bank, Device, Flash, NoMemory, Rigged, Tear};
 use pfr_report::Notes;
 use pfr_script::{Arm, ArmWhat, Event};
+use pfr_story::{Guards, Line};
 use std::alloc::Global;
 use std::marker::Model;
 
 /// The banks' devices and the store, the engine that they are judged by, and the notes of what was done.
 #[derive(Drop)]
 pub struct Platform<F: Flash, E: Engine + Drop> {
-    works: Works<F, E>,
-    lines: Lines,
+    // always there between two calls
+    inner: Option<Inner<F>>,
+    engine: E,
 }
 
 /// What a platform leaves.
@@ -39,18 +46,18 @@ pub struct Parts<F: Flash, E: Engine + Drop> {
 }
 
 impl<F: Flash, E: Engine + Drop> Model for Platform<F, E> {
-    ghost use Rattle.pfr_machine.specs.PlatformState.{PlatformState};
-    ghost use Rattle.pfr_machine.specs.WorksInside.{IsPlatform};
+    ghost use Rattle.pfr_machine.specs.Worlds.{PlatformState};
+    ghost use Rattle.pfr_machine.specs.Inside.{IsThere, world_in};
 
     ghost Value = { PlatformState E };
 
-    ghost view = { λ p. p.works };
+    ghost view = { λ p. record { world = world_in p.inner; engine = p.engine } };
 
-    ghost invariant = { λ p. IsPlatform p.lines p.works.world };
+    ghost invariant = { λ p. IsThere p.inner };
 }
 
 impl<F: Flash, E: Engine + Drop> Platform<F, E> {
-    ghost use Rattle.pfr_machine.specs.PlatformState.{SameButRoom, StoreGrows};
+    ghost use Rattle.pfr_machine.specs.Worlds.{SameButRoom};
 
     /// A platform whose banks are off, with no notes. Banks have whole blocks of 64 KiB, the store 32 KiB. This
     /// takes no memory.
@@ -59,19 +66,25 @@ impl<F: Flash, E: Engine + Drop> Platform<F, E> {
         requires pch_size { IsBankSize (size_of (F.device pch)) }
         requires nv_size { size_of (F.device nv) ≡ 32768 }
         ensures { result ≡ record {
-          world = record { bmc = F.device bmc; pch = F.device pch; nv = F.device nv; item = 0; notes = record { list = []; spare = 0 } };
+          world = record { bmc = F.device bmc; pch = F.device pch; nv = F.device nv; item = 0; notes = record { list = []; spare = 0 }; guards = first_guards };
           engine = engine;
         } }
     {
-        let works = Works {
-            bmc,
-            pch,
+        let board = Board {
             nv,
-            engine,
             notes: Notes::new(alloc),
             item: 0,
+            guards: Guards::new(),
         };
-        Platform { works, lines: OFF }
+        let inner = Inner {
+            bmc: Seat::Off(Off::new(bmc, Bank::Bmc)),
+            pch: Seat::Off(Off::new(pch, Bank::Pch)),
+            board,
+        };
+        Platform {
+            inner: Some(inner),
+            engine,
+        }
     }
 
     /// Does one event. After want of memory nothing was done.
@@ -79,16 +92,26 @@ impl<F: Flash, E: Engine + Drop> Platform<F, E> {
         requires items { self.old.world.item < 67108863 }
         // What is done is what the contents call for, unless a call of a device fails.
         ensures turn { OnOk result (Turn (E.accepts self.old.engine) event.now self.old.world self.new.world) }
+        ensures calm { OnOk result (NoneLost self.old.world self.new.world → NoneRose self.old.world self.new.world →
+            Calm (course (E.accepts self.old.engine) event.now (story_of self.old.world)) (begun self.old.world) self.new.world) }
         ensures engine { self.new.engine ≡ self.old.engine }
         ensures err { OnErr result (SameButRoom self.old self.new) }
 
-        // A bank is released only where it is trusted, and each lock has its cause.
+        // A bank is released only where it is trusted, and each lock and each restore has its cause.
         ensures released { OnOk result (ReleasesTrusted (E.accepts self.old.engine) self.old.world self.new.world) }
         ensures locks { OnOk result (LocksHaveCauses (E.accepts self.old.engine) self.old.world self.new.world) }
         ensures distrusts { OnOk result (DistrustsWithCause (E.accepts self.old.engine) self.old.world self.new.world) }
+        ensures restores { OnOk result (RestoresGood (E.accepts self.old.engine) self.old.world self.new.world) }
         ensures brings_up { OnOk result (BringsUpCalm event.now (E.accepts self.old.engine) self.old.world self.new.world) }
         ensures provisions { OnOk result (ProvisionsSo event.now self.old.world self.new.world) }
         ensures belongs { OnOk result (NotesBelong event.now self.old.world self.new.world) }
+
+        // A bank with a good capsule in its recovery area has one after each note and at the end, whatever was cut or torn; and a
+        // power-on in which no call fails releases it.
+        ensures recoverable { let can = λ bank image nv. HasGoodRecovery bank image nv (E.accepts self.old.engine) in
+            OnOk result (StaysRecoverable can self.old.world self.new.world) }
+        ensures powers { let can = λ bank image nv. HasGoodRecovery bank image nv (E.accepts self.old.engine) in
+            OnOk result (PowerReleases can event.now self.old.world self.new.world) }
 
         // A fault is noted only where it was counted, and a loss of power exactly where it was.
         ensures faults { OnOk result (FaultsHaveCauses self.old.world self.new.world) }
@@ -101,14 +124,14 @@ impl<F: Flash, E: Engine + Drop> Platform<F, E> {
         ensures quiet { OnOk result (StaysQuiet event.now self.old.world self.new.world) }
         ensures untouched { OnOk result (CallsNone event.now self.old.world self.new.world) }
         ensures on { OnOk result (HasPower self.new.world) }
-        ensures moved { OnOk result (AllMoved (next_item self.old.world) self.new.world) }
+        ensures moved { OnOk result (AllMoved (begun self.old.world) self.new.world) }
 
         // Floors and cancellations never go back, and a provision stays, whatever was cut or torn.
         ensures grows { OnOk result (NeverGoesBack self.old.world.nv self.new.world.nv) }
         ensures provision { OnOk result (KeepsProvision self.old.world.nv self.new.world.nv) }
 
         // No note's cause is a failed device, so each has a text.
-        ensures texts { AllText self.old.world.notes.list → AllText self.new.world.notes.list }
+        ensures texts { AllText self.new.world.notes.list }
 
         // All that the devices hold at the end are bytes.
         ensures bytes { AreDevices self.new.world }
@@ -118,11 +141,14 @@ impl<F: Flash, E: Engine + Drop> Platform<F, E> {
         done
     }
 
-    // All that the devices hold are bytes. This does nothing.
+    // What holds of every platform. This does nothing.
     fn known(&self)
-        ensures { AreDevices self.now.world }
+        ensures bytes { AreDevices self.now.world }
+        ensures texts { AllText self.now.world.notes.list }
+        ensures sizes { HasSizes self.now.world }
+        ensures on { HasPower self.now.world }
     {
-        self.works.known();
+        let _ = &self.inner;
     }
 
     // Does one event.
@@ -130,34 +156,46 @@ impl<F: Flash, E: Engine + Drop> Platform<F, E> {
         requires items { self.old.world.item < 67108863 }
         ensures turn { OnOk result (Turn (E.accepts self.old.engine) event.now self.old.world self.new.world) }
         ensures engine { self.new.engine ≡ self.old.engine }
-        ensures texts { AllText self.old.world.notes.list → AllText self.new.world.notes.list }
-        ensures grows { OnOk result (StoreGrows self.old.world.nv self.new.world.nv) }
-        ensures size { OnOk result (size_of self.old.world.nv ≡ 32768) }
         ensures spelled { OnOk result (¬ AreOff self.old.world → IsKnownSlot event.now) }
         ensures untouched { OnOk result (CallsNone event.now self.old.world self.new.world) }
-        ensures on { OnOk result (HasPower self.new.world) }
         ensures dark { OnOk result ((AreOff self.old.world → IsPower event.now) → AreOff self.new.world → IsDark self.new.world) }
         ensures err { OnErr result (SameButRoom self.old self.new) }
     {
-        self.works.begin()?;
-        self.lines = self.works.turn(event, self.lines);
-        Ok(())
+        match self.inner.take() {
+            Some(mut inner) => {
+                let begun = inner.begin();
+                match begun {
+                    Ok(()) => {
+                        self.inner = Some(inner.turn(event, &self.engine));
+                        Ok(())
+                    }
+                    Err(why) => {
+                        self.inner = Some(inner);
+                        Err(why)
+                    }
+                }
+            }
+            None => unreachable!(),
+        }
     }
 
     /// The notes so far, oldest first.
     pub fn notes(&self) -> &Notes
         ensures { result.now ≡ self.now.world.notes }
     {
-        &self.works.notes
+        match &self.inner {
+            Some(inner) => &inner.board.notes,
+            None => unreachable!(),
+        }
     }
 
     /// How the bank stands, by the last of its notes.
     pub fn line(&self, bank: Bank) -> Line
         ensures { standing_by result ≡ standing_of bank self.now.world.notes.list }
     {
-        match bank {
-            Bank::Bmc => self.lines.bmc,
-            Bank::Pch => self.lines.pch,
+        match &self.inner {
+            Some(inner) => inner.line(bank),
+            None => unreachable!(),
         }
     }
 
@@ -169,21 +207,16 @@ impl<F: Flash, E: Engine + Drop> Platform<F, E> {
         ensures notes { result.notes ≡ self.world.notes }
         ensures engine { result.engine ≡ self.engine }
     {
-        let Platform { works, .. } = self;
-        let Works {
-            bmc,
-            pch,
-            nv,
-            engine,
-            notes,
-            ..
-        } = works;
-        Parts {
-            bmc,
-            pch,
-            nv,
-            notes,
-            engine,
+        let Platform { inner, engine } = self;
+        match inner {
+            Some(Inner { bmc, pch, board }) => Parts {
+                bmc: bmc.into_flash(),
+                pch: pch.into_flash(),
+                nv: board.nv,
+                notes: board.notes,
+                engine,
+            },
+            None => unreachable!(),
         }
     }
 }

@@ -1,26 +1,26 @@
 // How the platform is provisioned.
-ghost use Rattle.std.specs.Prelude.{◌≡◌, ◌≢◌, ◌≤◌, IfOk, IfErr};
+ghost use Rattle.std.specs.Prelude.{◌≡◌, ◌≢◌, ◌≤◌, true, IfOk, IfErr};
 ghost use Rattle.pfr_flash.specs.FlashState.{now, size_of};
 ghost use Rattle.pfr_flash.specs.Plan.{Follows as FollowsPlan};
+ghost use Rattle.pfr_flash.specs.declared.names.Bank.TheVariants.{Bmc};
 ghost use Rattle.pfr_flash.specs.declared.names.Device.TheVariants.{Nv};
 ghost use Rattle.pfr_fuses.specs.Provisioning.{judge_provision};
 ghost use Rattle.pfr_fuses.specs.RootSlot.{IsSlot};
-ghost use Rattle.pfr_report.specs.Texts.{AllText, HasText};
-ghost use Rattle.pfr_calm.specs.World.{IsOn, IsDark};
-ghost use Rattle.pfr_calm.specs.Goes.{Goes};
-ghost use Rattle.pfr_calm.specs.Plans.{provisioned, refusal_of};
-ghost use Rattle.pfr_calm.specs.Turn.{provision_course, Follows};
-ghost use Rattle.pfr_machine.specs.PlatformState.{AddsNotes, with_state, StoreGrows};
-ghost use Rattle.pfr_machine.specs.WorksInside.{AreLines};
-ghost use Rattle.pfr_machine.specs.Checks.{StaysOn, SameStandings, provision_ops, provision_note};
+ghost use Rattle.pfr_story.specs.Course.{Follows};
+ghost use Rattle.pfr_story.specs.Goes.{Goes};
+ghost use Rattle.pfr_story.specs.Plans.{provisioned};
+ghost use Rattle.pfr_story.specs.Standing.{standing_of, Off};
+ghost use Rattle.pfr_story.specs.Turn.{provision_course};
+ghost use Rattle.pfr_story.specs.World.{IsDark};
+ghost use Rattle.pfr_machine.specs.Inside.{IsWhole};
+ghost use Rattle.pfr_machine.specs.Provisions.{provision_ops, provision_note};
+ghost use Rattle.pfr_machine.specs.Ready.{LeavesWhole, StaysSeated};
 
-use crate::lines::{LOCKED, Lines};
-use crate::works::Works;
-use pfr_calm::{Line, Stop};
-use pfr_chain::Engine;
+use crate::inner::Inner;
 use pfr_flash::{Bank, Device, Flash, FlashFail};
 use pfr_fuses::{FuseFail, RootSlot, provision};
 use pfr_report::{LockWhy, ProvisionWhy, What};
+use pfr_story::Stop;
 
 // Provisions a store, and gives what is to be noted.
 fn provision_as_noted<F: Flash>(
@@ -33,7 +33,6 @@ fn provision_as_noted<F: Flash>(
     ensures follows { FollowsPlan (provision_ops what.now (judge_provision (now (F.device nv.old)) what.now bmc_size pch_size))
         (F.device nv.old) (F.device nv.new) result }
     ensures noted { IfOk result (λ note. note ≡ provision_note (judge_provision (now (F.device nv.old)) what.now bmc_size pch_size)) }
-    ensures grows { StoreGrows (F.device nv.old) (F.device nv.new) }
     ensures spelled { IsSlot what.now }
 {
     let why = match provision(nv, what, bmc_size, pch_size) {
@@ -46,34 +45,26 @@ fn provision_as_noted<F: Flash>(
     Ok(What::ProvisionRefused { why })
 }
 
-impl<F: Flash, E: Engine + Drop> Works<F, E> {
+impl<F: Flash> Inner<F> {
     // Provisions the store, and gives what is to be noted.
     fn provision_store(&mut self, what: &RootSlot) -> Result<What, FlashFail>
-        ensures same { self.new ≡ record self.old { world = with_state Nv self.new.world.nv self.old.world } }
-        ensures notes { self.new.world.notes ≡ self.old.world.notes }
-        ensures follows { FollowsPlan (provision_ops what.now (judge_provision (now self.old.world.nv) what.now (size_of self.old.world.bmc) (size_of self.old.world.pch)))
-            self.old.world.nv self.new.world.nv result }
-        ensures noted { IfOk result (λ note. note ≡ provision_note (judge_provision (now self.old.world.nv) what.now (size_of self.old.world.bmc) (size_of self.old.world.pch))) }
-        ensures grows { StoreGrows self.old.world.nv self.new.world.nv }
+        ensures same { self.new ≡ with_state Nv self.new.nv self.old }
+        ensures follows { FollowsPlan (provision_ops what.now (judge_provision (now self.old.nv) what.now (size_of self.old.bmc) (size_of self.old.pch)))
+            self.old.nv self.new.nv result }
+        ensures noted { IfOk result (λ note. note ≡ provision_note (judge_provision (now self.old.nv) what.now (size_of self.old.bmc) (size_of self.old.pch))) }
         ensures spelled { IsSlot what.now }
     {
         let (bmc, pch) = (self.bmc.size(), self.pch.size());
-        provision_as_noted(&mut self.nv, what, bmc, pch)
+        provision_as_noted(&mut self.board.nv, what, bmc, pch)
     }
 
     // Provisions the platform, or notes why it can't be.
     fn try_provision(&mut self, what: &RootSlot) -> Result<(), Stop>
-        requires room { 1 ≤ self.old.world.notes.spare }
-        requires on { IsOn self.old.world }
-        ensures goes { Goes (provisioned what.now) self.old.world self.new.world result }
+        requires room { 1 ≤ self.old.notes.spare }
+        requires on { self.old.nv.powered ≡ true }
+        ensures goes { Goes (provisioned what.now) self.old self.new result }
         ensures called { IfErr result (λ stop. stop.device ≡ Nv) }
-        ensures stands { SameStandings self.old.world.notes.list self.new.world.notes.list }
-        ensures engine { self.new.engine ≡ self.old.engine }
-        ensures notes { AddsNotes 1 self.old.world.notes self.new.world.notes }
-        ensures held { IfErr result (λ stop. self.new.world.notes ≡ self.old.world.notes) }
-        ensures texts { AllText self.old.world.notes.list → AllText self.new.world.notes.list }
-        ensures on { StaysOn self.new.world result }
-        ensures grows { StoreGrows self.old.world.nv self.new.world.nv }
+        ensures stays { StaysSeated 1 self.old self.new result }
         ensures spelled { IsSlot what.now }
     {
         match self.provision_store(what) {
@@ -89,28 +80,22 @@ impl<F: Flash, E: Engine + Drop> Works<F, E> {
     }
 
     /// Provisions the platform, whose banks aren't off.
-    pub fn provision(&mut self, what: &RootSlot, lines: Lines) -> Lines
-        requires room { 64 ≤ self.old.world.notes.spare }
-        requires lines { AreLines lines self.old.world }
-        requires some { lines.bmc ≢ Line.Off }
-        ensures follows { Follows (provision_course what.now) self.old.world self.new.world }
-        ensures lines { AreLines result self.new.world }
-        ensures dark { result.bmc ≡ Line.Off → IsDark self.new.world }
-        ensures engine { self.new.engine ≡ self.old.engine }
-        ensures notes { AddsNotes 64 self.old.world.notes self.new.world.notes }
-        ensures texts { AllText self.old.world.notes.list → AllText self.new.world.notes.list }
-        ensures grows { StoreGrows self.old.world.nv self.new.world.nv }
+    pub fn provision(mut self, what: &RootSlot) -> Inner<F>
+        requires room { 64 ≤ self.notes.spare }
+        requires whole { IsWhole self }
+        requires some { standing_of Bmc self.notes.list ≢ Off }
+        ensures follows { Follows (provision_course what.now) self result }
+        ensures leaves { LeavesWhole self result }
+        ensures dark { standing_of Bmc result.notes.list ≡ Off → IsDark result }
         ensures spelled { IsSlot what.now }
     {
         match self.try_provision(what) {
-            Ok(()) => lines,
+            Ok(()) => self,
             Err(stop) => match stop.fail {
                 FlashFail::Lost => self.lose(Some(stop.device)),
-                FlashFail::Fault => {
-                    self.lock(Bank::Bmc, LockWhy::StoreFault);
-                    self.lock(Bank::Pch, LockWhy::StoreFault);
-                    LOCKED
-                }
+                FlashFail::Fault => self
+                    .lock(Bank::Bmc, LockWhy::StoreFault)
+                    .lock(Bank::Pch, LockWhy::StoreFault),
             },
         }
     }

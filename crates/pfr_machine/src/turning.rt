@@ -1,116 +1,120 @@
 // What is done at each event.
-ghost use Rattle.std.specs.Prelude.{◌≡◌, ◌≢◌, ◌+◌, ◌*◌, ◌<◌, ◌≤◌, length, None, OnOk, OnErr};
-ghost use Rattle.pfr_flash.specs.declared.names.Bank.TheVariants.{Bmc};
-ghost use Rattle.pfr_flash.specs.FlashState.{size_of};
-ghost use Rattle.pfr_report.specs.Texts.{AllText};
-ghost use Rattle.pfr_calm.specs.Promises.{IsPower, IsKnownSlot};
-ghost use Rattle.pfr_calm.specs.World.{story_of, IsDark, SameDevices};
-ghost use Rattle.pfr_calm.specs.Standing.{standing_of, is_off};
-ghost use Rattle.pfr_calm.specs.Turn.{course, ignored, off_course, provision_course, where_off, next_item, Follows};
-ghost use Rattle.pfr_machine.specs.PlatformState.{AddsNotes, SameButRoom, SameStore, StoreGrows};
+ghost use Rattle.std.specs.Prelude.{◌≡◌, ◌≢◌, ◌+◌, ◌*◌, ◌<◌, ◌≤◌, [], ◌∷◌, length, true, None, OnOk, OnErr};
+ghost use Rattle.pfr_flash.specs.declared.names.Bank.TheVariants.{Bmc, Pch};
 ghost use Rattle.pfr_fuses.specs.RootSlot.{IsSlot};
-ghost use Rattle.pfr_machine.specs.Checks.{IsTaken};
-ghost use Rattle.pfr_machine.specs.WorksInside.{AreLines};
+ghost use Rattle.pfr_story.specs.Course.{Follows, Steps};
+ghost use Rattle.pfr_story.specs.Goes.{Ran};
+ghost use Rattle.pfr_story.specs.Promises.{IsKnownSlot, IsPower};
+ghost use Rattle.pfr_story.specs.Standing.{standing_of, is_off, Off};
+ghost use Rattle.pfr_story.specs.Story.{Says};
+ghost use Rattle.pfr_story.specs.Turn.{bank_stretch, fuse_stretch, unreadable, ignored, off_course, power_course, provision_course, where_off, course};
+ghost use Rattle.pfr_story.specs.World.{IsDark, SameDevices, story_of};
+ghost use Rattle.pfr_machine.specs.Inside.{IsWhole};
+ghost use Rattle.pfr_machine.specs.Ready.{LeavesWhole};
 
-use crate::lines::Lines;
-use crate::works::Works;
-use pfr_calm::Line;
+use crate::bringing::Dark;
+use crate::inner::Inner;
 use pfr_chain::Engine;
-use pfr_flash::{Flash, NoMemory};
+use pfr_flash::{Bank, Flash, FlashFail};
 use pfr_fuses::RootSlot;
-use pfr_report::What;
+use pfr_report::{LockWhy, What};
 use pfr_script::Event;
+use pfr_story::Line;
 
-impl<F: Flash, E: Engine + Drop> Works<F, E> {
-    /// Begins the next item, with memory for its notes. After want of memory nothing was done.
-    pub fn begin(&mut self) -> Result<(), NoMemory>
-        requires few { length self.old.world.notes.list ≤ 64 * self.old.world.item }
-        requires items { self.old.world.item < 67108863 }
-        ensures list { self.new.world.notes.list ≡ self.old.world.notes.list }
-        ensures spare { OnOk result (64 ≤ self.new.world.notes.spare) }
-        ensures size { size_of self.old.world.nv ≡ 32768 }
-        ensures begun { OnOk result (self.new ≡ record self.old { world = record (next_item self.old.world) { notes = self.new.world.notes } }) }
-        ensures err { OnErr result (SameButRoom self.old self.new) }
-        ensures nothing { SameStore self.old.world.nv self.new.world.nv }
+impl<F: Flash> Inner<F> {
+    // Brings up the BMC's bank, and then the PCH's.
+    fn bring_up_both<E: Engine>(self, engine: &E) -> Result<Inner<F>, Dark<F>>
+        requires room { 10 ≤ self.notes.spare }
+        ensures { BringsBoth (bank_stretch (E.accepts engine.now) Bmc ∷ bank_stretch (E.accepts engine.now) Pch ∷ []) 10 self result }
     {
-        self.notes.reserve(64)?;
-        self.item += 1;
-        Ok(())
+        self.bring_up(Bank::Bmc, engine)?
+            .bring_up(Bank::Pch, engine)
     }
 
-    // Notes that the event is ignored, since the banks are off.
-    fn ignore(&mut self, lines: Lines) -> Lines
-        requires room { 64 ≤ self.old.world.notes.spare }
-        requires lines { AreLines lines self.old.world }
-        ensures follows { Follows ignored self.old.world self.new.world }
-        ensures untouched { SameDevices self.old.world self.new.world }
-        ensures lines { AreLines result self.new.world }
-        ensures engine { self.new.engine ≡ self.old.engine }
-        ensures notes { AddsNotes 64 self.old.world.notes self.new.world.notes }
-        ensures texts { AllText self.old.world.notes.list → AllText self.new.world.notes.list }
-        ensures nothing { SameStore self.old.world.nv self.new.world.nv }
+    // Locks both banks, whose fuses can't be read or migrated.
+    fn lock_unread(self) -> Inner<F>
+        requires room { 4 ≤ self.notes.spare }
+        ensures ran { Ran unreadable self result }
+        ensures leaves { LeavesWhole self result }
+        ensures some { standing_of Bmc result.notes.list ≢ Off }
     {
-        self.note(What::Ignored);
-        lines
+        self.hold(Bank::Bmc)
+            .lock(LockWhy::StoreFault)
+            .hold(Bank::Pch)
+            .lock(LockWhy::StoreFault)
     }
 
-    // The power goes off, unless it is off already.
-    fn off(&mut self, lines: Lines) -> Lines
-        requires room { 64 ≤ self.old.world.notes.spare }
-        requires lines { AreLines lines self.old.world }
-        ensures follows { Follows (where_off (is_off (standing_of Bmc self.old.world.notes.list)) ignored off_course) self.old.world self.new.world }
-        ensures lines { AreLines result self.new.world }
-        ensures dark { lines.bmc ≢ Line.Off → IsDark self.new.world }
-        ensures untouched { lines.bmc ≡ Line.Off → SameDevices self.old.world self.new.world }
-        ensures engine { self.new.engine ≡ self.old.engine }
-        ensures notes { AddsNotes 64 self.old.world.notes self.new.world.notes }
-        ensures texts { AllText self.old.world.notes.list → AllText self.new.world.notes.list }
-        ensures nothing { SameStore self.old.world.nv self.new.world.nv }
+    // Reads and migrates the fuses, and brings up both banks.
+    fn wake<E: Engine>(mut self, engine: &E) -> Inner<F>
+        requires room { 11 ≤ self.notes.spare }
+        requires on { self.nv.powered ≡ true }
+        ensures steps { Steps (fuse_stretch ∷ bank_stretch (E.accepts engine.now) Bmc ∷ bank_stretch (E.accepts engine.now) Pch ∷ []) self result }
+        ensures leaves { LeavesWhole self result }
+        ensures dark { standing_of Bmc result.notes.list ≡ Off → IsDark result }
     {
-        match lines.bmc {
-            Line::Off => self.ignore(lines),
-            _ => self.lose(None),
+        match self.prepare() {
+            Ok(()) => match self.bring_up_both(engine) {
+                Ok(inner) => inner,
+                Err(dark) => dark.inner,
+            },
+            Err(stop) => match stop.fail {
+                FlashFail::Fault => self.lock_unread(),
+                FlashFail::Lost => self.lose(Some(stop.device)),
+            },
         }
     }
 
-    // Provisions the platform, unless the power is off.
-    fn provision_unless_off(&mut self, what: &RootSlot, lines: Lines) -> Lines
-        requires room { 64 ≤ self.old.world.notes.spare }
-        requires lines { AreLines lines self.old.world }
-        ensures follows { Follows (where_off (is_off (standing_of Bmc self.old.world.notes.list)) ignored (provision_course what.now)) self.old.world self.new.world }
-        ensures lines { AreLines result self.new.world }
-        ensures dark { lines.bmc ≢ Line.Off → result.bmc ≡ Line.Off → IsDark self.new.world }
-        ensures untouched { lines.bmc ≡ Line.Off → SameDevices self.old.world self.new.world }
-        ensures engine { self.new.engine ≡ self.old.engine }
-        ensures notes { AddsNotes 64 self.old.world.notes self.new.world.notes }
-        ensures texts { AllText self.old.world.notes.list → AllText self.new.world.notes.list }
-        ensures grows { StoreGrows self.old.world.nv self.new.world.nv }
-        ensures spelled { ¬ (lines.bmc ≡ Line.Off) → IsSlot what.now }
+    // The power comes on.
+    fn power<E: Engine>(mut self, engine: &E) -> Inner<F>
+        requires room { 64 ≤ self.notes.spare }
+        ensures follows { Follows (power_course (E.accepts engine.now)) self result }
+        ensures leaves { LeavesWhole self result }
+        ensures dark { standing_of Bmc result.notes.list ≡ Off → IsDark result }
     {
-        match lines.bmc {
-            Line::Off => self.ignore(lines),
-            _ => self.provision(what, lines),
+        self.power_store();
+        self.note(What::Power);
+        self.wake(engine)
+    }
+
+    // Notes that the event is ignored, since the banks are off.
+    fn ignore(&mut self)
+        requires room { 64 ≤ self.old.notes.spare }
+        requires whole { IsWhole self.old }
+        ensures follows { Follows ignored self.old self.new }
+        ensures leaves { LeavesWhole self.old self.new }
+        ensures untouched { SameDevices self.old self.new }
+    {
+        self.note(What::Ignored);
+    }
+
+    // Whether the banks are off.
+    fn is_off(&self) -> bool
+        ensures { result ≡ is_off (standing_of Bmc self.now.notes.list) }
+    {
+        match self.bmc.line() {
+            Line::Off => true,
+            _ => false,
         }
     }
 
     /// Does an event, as the banks stand.
-    pub fn turn(&mut self, event: &Event, lines: Lines) -> Lines
-        requires room { 64 ≤ self.old.world.notes.spare }
-        requires lines { AreLines lines self.old.world }
-        ensures follows { Follows (course (E.accepts self.old.engine) event.now (story_of self.old.world)) self.old.world self.new.world }
-        ensures lines { AreLines result self.new.world }
-        ensures dark { IsTaken event.now lines → result.bmc ≡ Line.Off → IsDark self.new.world }
-        ensures untouched { lines.bmc ≡ Line.Off → ¬ IsPower event.now → SameDevices self.old.world self.new.world }
-        ensures engine { self.new.engine ≡ self.old.engine }
-        ensures notes { AddsNotes 64 self.old.world.notes self.new.world.notes }
-        ensures texts { AllText self.old.world.notes.list → AllText self.new.world.notes.list }
-        ensures grows { StoreGrows self.old.world.nv self.new.world.nv }
-        ensures spelled { ¬ (lines.bmc ≡ Line.Off) → IsKnownSlot event.now }
+    pub fn turn<E: Engine>(mut self, event: &Event, engine: &E) -> Inner<F>
+        requires room { 64 ≤ self.notes.spare }
+        requires whole { IsWhole self }
+        ensures follows { Follows (course (E.accepts engine.now) event.now (story_of self)) self result }
+        ensures leaves { LeavesWhole self result }
+        ensures dark { IsTaken event.now self → standing_of Bmc result.notes.list ≡ Off → IsDark result }
+        ensures untouched { standing_of Bmc self.notes.list ≡ Off → ¬ IsPower event.now → SameDevices self result }
+        ensures spelled { standing_of Bmc self.notes.list ≢ Off → IsKnownSlot event.now }
     {
         match event {
-            Event::Power => self.power(),
-            Event::Off => self.off(lines),
-            Event::Provision(what) => self.provision_unless_off(what, lines),
+            Event::Power => self.power(engine),
+            Event::Off | Event::Provision(_) if self.is_off() => {
+                self.ignore();
+                self
+            }
+            Event::Off => self.lose(None),
+            Event::Provision(what) => self.provision(what),
         }
     }
 }

@@ -13,7 +13,7 @@ use Rattle.pfr_report.specs.declared.note.LockWhy.TheVariants.{Unprovisioned, Sl
 use Rattle.pfr_report.specs.declared.note.ProvisionWhy.{ProvisionWhy}
 use Rattle.pfr_report.specs.declared.note.ProvisionWhy.TheVariants as provision
 use Rattle.pfr_report.specs.declared.note.What.{What}
-use Rattle.pfr_report.specs.declared.note.What.TheVariants.{Power, Held, Released, Locked, Lost, Untrusted, Provisioned, ProvisionRefused, Ignored}
+use Rattle.pfr_report.specs.declared.note.What.TheVariants.{Power, Held, Released, Locked, Lost, Untrusted, Restored, Provisioned, ProvisionRefused, Ignored}
 use Rattle.pfr_report.specs.declared.note.Note.{Note}
 
 abbrev pub bank_word : Bank → List ℕ
@@ -56,6 +56,7 @@ what_text (Released bank svn counts) = bank_word bank ++ (codes " released svn "
 what_text (Locked bank why counts) = bank_word bank ++ (codes " locked " ++ lock_word why)
 what_text (Lost device counts) = codes "lost" ++ lost_word device
 what_text (Untrusted bank why) = bank_word bank ++ (codes " untrusted " ++ active_text why)
+what_text (Restored bank level) = bank_word bank ++ (codes " restored level " ++ decimal level)
 what_text Provisioned = codes "provisioned"
 what_text (ProvisionRefused why) = codes "provision refused " ++ provision_word why
 what_text Ignored = codes "ignored"

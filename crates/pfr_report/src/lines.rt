@@ -128,6 +128,14 @@ pub fn write_note<K: Sink>(note: &Note, out: &mut K) -> Result<(), SinkFail>
             write_pieces(out, &[item, b" lost", lost_word(device), b"\n"])
         }
         What::Untrusted { bank, why } => write_untrusted(note.item, bank, why, out),
+        What::Restored { bank, level } => {
+            let mut buffer = Buffer::new();
+            let level = buffer.format(level).as_bytes();
+            write_pieces(
+                out,
+                &[item, b" ", bank_word(bank), b" restored level ", level, b"\n"],
+            )
+        }
         What::Provisioned => write_pieces(out, &[item, b" provisioned\n"]),
         What::ProvisionRefused { why } => write_pieces(
             out,

@@ -67,6 +67,11 @@ pub enum What {
         bank: Bank,
         why: ActiveFail,
     },
+    /// The bank's active image was restored from the capsule in the recovery area, at this level of recovery, 1 to 3.
+    Restored {
+        bank: Bank,
+        level: u8,
+    },
     /// The platform was provisioned.
     Provisioned,
     /// The platform was not provisioned, and no slot was written.

@@ -35,6 +35,10 @@ pub record IsNotTrusted (which : Bank) (image nv : List ℕ) (accepts : Acceptan
   pub layout : IsValidLayout (layout_of fuses.provision which) (length image)
   pub distrusted : ¬ IsTrusted image nv which accepts
 
+-- its active image isn't trusted, and a good capsule stands in its recovery area: it is to be restored
+abbrev pub IsRestorable : Bank → List ℕ → List ℕ → Acceptance → Type 0
+IsRestorable which image nv accepts = IsNotTrusted which image nv accepts × HasGoodRecovery which image nv accepts
+
 -- the check of the active image, by a valid layout, names this cause
 pub record IsAgainst (cause : ActiveFail) (which : Bank) (image nv : List ℕ) (accepts : Acceptance) : Type 0 where
   pub fuses : FusesState
@@ -53,7 +57,7 @@ abbrev pub IsDue : LockWhy → Bank → List ℕ → List ℕ → Acceptance →
 IsDue why.Unprovisioned which image nv accepts = IsUnset nv × HasBlank nv
 IsDue why.SlotsSpent which image nv accepts = IsUnset nv × ¬ HasBlank nv
 IsDue (why.Layout rule) which image nv accepts = IsMisplaced rule which image nv
-IsDue why.NotRestored which image nv accepts = IsNotTrusted which image nv accepts × HasGoodRecovery which image nv accepts
+IsDue why.NotRestored which image nv accepts = ⊥
 IsDue (why.NoGoodImage active recovery) which image nv accepts = IsAgainst active which image nv accepts × HasBadRecovery recovery which image nv accepts
 IsDue why.FlashFault which image nv accepts = ⊥
 IsDue why.StoreFault which image nv accepts = ⊥

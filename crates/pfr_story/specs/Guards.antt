@@ -4,17 +4,16 @@ use Rattle.pfr_flash.specs.declared.names.Bank.{Bank}
 use Rattle.pfr_flash.specs.declared.names.Bank.TheVariants as bank
 use Rattle.pfr_report.specs.declared.note.What.{What}
 use Rattle.pfr_report.specs.declared.note.What.TheVariants.{Held, Released, Locked, Lost, Power}
-use Rattle.pfr_watch.specs.declared.watch.Watch.{Watch}
 use Rattle.pfr_watch.specs.Watching.{begun}
+use Rattle.pfr_story.specs.declared.guards.Guard.{Guard}
+use Rattle.pfr_story.specs.declared.guards.Guards.{Guards}
 
--- the watch over its boot, and whether its writes are enabled
-pub record Guard : Type 0 where
-  pub watch : Watch
-  pub latch : Bool
+abbrev pub first_guard : Bank → Guard
+first_guard which = record { watch = begun which 0; latch = false }
 
-pub record Guards : Type 0 where
-  pub bmc : Guard
-  pub pch : Guard
+-- before anything was noted
+abbrev pub first_guards : Guards
+first_guards = record { bmc = first_guard bank.Bmc; pch = first_guard bank.Pch }
 
 abbrev pub same_bank : Bank → Bank → Bool
 same_bank bank.Bmc bank.Bmc = true

@@ -5,6 +5,7 @@ use Rattle.pfr_flash.specs.Layout.{judge_layout}
 use Rattle.pfr_flash.specs.Operation.{Operation}
 use Rattle.pfr_flash.specs.declared.names.Bank.{Bank}
 use Rattle.pfr_flash.specs.declared.names.Device.TheVariants as device
+use Rattle.pfr_flash.specs.declared.layout.Layout.{Layout}
 use Rattle.pfr_engine.specs.Acceptance.{Acceptance}
 use Rattle.pfr_fuses.specs.FusesState.{FusesState}
 use Rattle.pfr_fuses.specs.FusesOf.{fuses_of}
@@ -23,11 +24,14 @@ use Rattle.pfr_auth.specs.Areas.{judge_area}
 use Rattle.pfr_auth.specs.Judge.{judge_active}
 use Rattle.pfr_auth.specs.declared.areas.Area.TheVariants.{Recovery}
 use Rattle.pfr_auth.specs.declared.fail.ActiveFail.{ActiveFail}
+use Rattle.pfr_jobs.specs.declared.job.JobKind.TheVariants.{ActiveFromRecovery}
+use Rattle.pfr_strokes.specs.Strokes.{strokes_of}
+use Rattle.pfr_rebuilt.specs.ActiveCopying.{active_page, active_pages}
 use Rattle.pfr_report.specs.declared.note.LockWhy.{LockWhy}
 use Rattle.pfr_report.specs.declared.note.LockWhy.TheVariants as lock
 use Rattle.pfr_report.specs.declared.note.ProvisionWhy.{ProvisionWhy}
 use Rattle.pfr_report.specs.declared.note.ProvisionWhy.TheVariants as refusal
-use Rattle.pfr_report.specs.declared.note.What.TheVariants.{Held, Released, Locked, Untrusted, Provisioned, ProvisionRefused}
+use Rattle.pfr_report.specs.declared.note.What.TheVariants.{Held, Released, Locked, Untrusted, Restored, Provisioned, ProvisionRefused}
 use Rattle.pfr_story.specs.Story.{Story, Plan, then, says, called, image_at, device_of}
 
 -- the bytes of a bank, and of the store
@@ -63,16 +67,37 @@ judged_active accepts bank fuses story = judge_active (mine bank story) bank fus
 abbrev pub judged_recovery : Acceptance → Bank → FusesState → Story → Result CapsuleState CapsuleFail
 judged_recovery accepts bank fuses story = judge_area Recovery bank (mine bank story) fuses accepts
 
--- a bank whose active image isn't trusted for this cause is locked, also where its recovery image is good
-abbrev pub by_recovery : Bank → ActiveFail → Result CapsuleState CapsuleFail → Plan
-by_recovery bank why (Ok capsule) = says (Locked bank lock.NotRestored)
-by_recovery bank why (Err cause) = says (Locked bank (lock.NoGoodImage why cause))
+-- what restores the active image from a capsule, at a level of recovery
+abbrev pub restore_ops : ℕ → List ℕ → CapsuleState → Layout → List Operation
+restore_ops level image capsule layout = strokes_of (active_page image capsule layout) (active_pages (ActiveFromRecovery level) image capsule layout)
+
+abbrev pub copied : Bank → ℕ → FusesState → CapsuleState → Plan
+copied bank level fuses capsule story = called (device_of bank) (restore_ops level (mine bank story) capsule (layout_of fuses.provision bank))
+
+abbrev pub restored : Bank → ℕ → FusesState → CapsuleState → Plan
+restored bank level fuses capsule = then (copied bank level fuses capsule) (says (λ _. Restored bank level))
+
+-- the second check, behind a restore: what was restored is released, since it is trusted always
+abbrev pub by_second : Bank → Result Manifest ActiveFail → Plan
+by_second bank (Ok m) = says (Released bank m.svn)
+by_second bank (Err why) = λ story. []
+
+abbrev pub checked_again : Acceptance → Bank → FusesState → Plan
+checked_again accepts bank fuses = then (asks bank) (λ story. by_second bank (judged_active accepts bank fuses story) story)
+
+-- a bank whose active image isn't trusted for this cause is restored from a good capsule at level 1, or locked where there is none
+abbrev pub by_recovery : Acceptance → Bank → FusesState → ActiveFail → Result CapsuleState CapsuleFail → Plan
+by_recovery accepts bank fuses why (Ok capsule) = then (restored bank 1 fuses capsule) (checked_again accepts bank fuses)
+by_recovery accepts bank fuses why (Err cause) = says (Locked bank (lock.NoGoodImage why cause))
+
+abbrev pub recovered : Acceptance → Bank → FusesState → ActiveFail → Plan
+recovered accepts bank fuses why = then (asks bank) (λ story. by_recovery accepts bank fuses why (judged_recovery accepts bank fuses story) story)
 
 -- it is released where its active image is trusted, else its recovery area is looked at
 abbrev pub by_active : Acceptance → Bank → FusesState → Result Manifest ActiveFail → Plan
 by_active accepts bank fuses (Ok m) = says (Released bank m.svn)
 by_active accepts bank fuses (Err why) =
-    then (says (λ _. Untrusted bank why)) (then (asks bank) (λ story. by_recovery bank why (judged_recovery accepts bank fuses story) story))
+    then (says (λ _. Untrusted bank why)) (recovered accepts bank fuses why)
 
 abbrev pub tail : Acceptance → Bank → FusesState → Plan
 tail accepts bank fuses = then (asks bank) (λ story. by_active accepts bank fuses (judged_active accepts bank fuses story) story)
@@ -85,7 +110,7 @@ by_ready accepts bank (Err why) = says (Locked bank why)
 abbrev pub brought_up : Acceptance → Bank → Plan
 brought_up accepts bank = then (says (Held bank)) (then asks_store (λ story. by_ready accepts bank (ready_of bank story) story))
 
--- ---- the fuses are migrated at power-on, where the store is provisioned and of profile 1
+-- ---- the fuses are read and migrated at power-on, where the store is provisioned and of profile 1
 abbrev pub migration_by : Profile → FusesState → List Operation
 migration_by profile.One fuses = migration fuses
 migration_by profile.Two fuses = []
@@ -95,7 +120,7 @@ migration_in (Ok fuses) = migration_by fuses.profile fuses
 migration_in (Err cause) = []
 
 abbrev pub migrated : Plan
-migrated story = called device.Nv (migration_in (fuses_of (store story)))
+migrated = then asks_store (λ story. called device.Nv (migration_in (fuses_of (store story))))
 
 -- ---- the platform is provisioned, or refuses to be
 abbrev pub refusal_of : FuseFail → ProvisionWhy

@@ -1,11 +1,16 @@
 -- What each step promises of its notes.
-use Rattle.std.specs.Prelude.{◌≡◌, ◌↔◌, ℕ, ◌<◌, List, [], ◌∷◌, ◌++◌, Option, Some, None, true}
-use Rattle.pfr_flash.specs.FlashState.{upto, Rose}
+use Rattle.std.specs.Prelude.{◌≡◌, ◌↔◌, ℕ, ◌+◌, ◌<◌, List, [], ◌∷◌, ◌++◌, Option, Some, None, Result, Ok, Err, true}
+use Rattle.pfr_flash.specs.FlashState.{now, upto, Rose, size_of}
 use Rattle.pfr_flash.specs.declared.names.Bank.{Bank}
 use Rattle.pfr_flash.specs.declared.names.Bank.TheVariants as bank
 use Rattle.pfr_flash.specs.declared.names.Counts.{Counts}
 use Rattle.pfr_flash.specs.declared.names.Device.{Device}
 use Rattle.pfr_engine.specs.Acceptance.{Acceptance}
+use Rattle.pfr_fuses.specs.RootSlot.{IsSlot, provision_in}
+use Rattle.pfr_fuses.specs.Slots.{IsProvisionedBy, slot_at}
+use Rattle.pfr_fuses.specs.Provisioning.{judge_provision}
+use Rattle.pfr_fuses.specs.declared.fuse_fail.FuseFail.{FuseFail}
+use Rattle.pfr_fuses.specs.declared.root_slot.RootSlot.{RootSlot}
 use Rattle.pfr_auth.specs.declared.fail.ActiveFail.{ActiveFail}
 use Rattle.pfr_script.specs.declared.event.Event.{Event}
 use Rattle.pfr_script.specs.declared.event.Event.TheVariants as event
@@ -13,11 +18,14 @@ use Rattle.pfr_report.specs.Texts.{IsNoted}
 use Rattle.pfr_report.specs.declared.note.LockWhy.{LockWhy}
 use Rattle.pfr_report.specs.declared.note.LockWhy.TheVariants as why
 use Rattle.pfr_report.specs.declared.note.Note.{Note}
-use Rattle.pfr_report.specs.declared.note.What.TheVariants.{Released, Locked, Lost, Untrusted}
+use Rattle.pfr_report.specs.declared.note.What.TheVariants.{Released, Locked, Lost, Untrusted, Restored, Provisioned, ProvisionRefused, Ignored}
+use Rattle.pfr_report.specs.declared.note.ProvisionWhy.{ProvisionWhy}
+use Rattle.pfr_report.specs.declared.note.What.{What}
 use Rattle.pfr_story.specs.Story.{counts_of, device_of}
-use Rattle.pfr_story.specs.World.{World, story_of, state_at, NoneFailed, added}
+use Rattle.pfr_story.specs.World.{World, story_of, counts_in, state_at, NoneFailed, IsOn, IsDark, SameDevices, added}
 use Rattle.pfr_story.specs.Standing.{standing_of, is_off, Off}
-use Rattle.pfr_story.specs.Causes.{IsTrustedWith, IsAgainst, IsDue}
+use Rattle.pfr_story.specs.Plans.{refusal_of}
+use Rattle.pfr_story.specs.Causes.{IsTrustedWith, IsRestorable, IsAgainst, IsDue}
 
 -- the count of a bank's operations
 abbrev pub count_at : Bank → Counts → ℕ
@@ -55,11 +63,22 @@ abbrev pub DistrustsWithCause : Acceptance → World → World → Type 0
 DistrustsWithCause accepts old new = (which : Bank) (cause : ActiveFail) → IsNoted (added old new) (Untrusted which cause)
     → (at : Counts) × AtCounts (λ image nv. IsAgainst cause which image nv accepts) which at new
 
--- no bank is locked for a fault, and no device's loss of power is noted
+-- A bank is restored only at level 1, and where its image isn't trusted and a good capsule stands in its recovery area, at a
+-- moment of the step.
+abbrev pub RestoresGood : Acceptance → World → World → Type 0
+RestoresGood accepts old new = (which : Bank) (level : ℕ) → IsNoted (added old new) (Restored which level)
+    → (level ≡ 1) × ((at : Counts) × AtCounts (λ image nv. IsRestorable which image nv accepts) which at new)
+
+-- no bank is locked for a fault
 pub record IsUndisturbed (notes : List Note) : Type 0 where
   pub flash : (which : Bank) (at : Counts) → ¬ IsNoted notes (Locked which why.FlashFault at)
   pub store : (which : Bank) (at : Counts) → ¬ IsNoted notes (Locked which why.StoreFault at)
-  pub on : (which : Device) (at : Counts) → ¬ IsNoted notes (Lost (Some which) at)
+
+-- this bank isn't locked for a fault, and no loss of power is noted
+pub record IsUntroubled (which : Bank) (notes : List Note) : Type 0 where
+  pub flash : (at : Counts) → ¬ IsNoted notes (Locked which why.FlashFault at)
+  pub store : (at : Counts) → ¬ IsNoted notes (Locked which why.StoreFault at)
+  pub on : (device : Option Device) (at : Counts) → ¬ IsNoted notes (Lost device at)
 
 -- No fault of a device is passed over: where none of these is noted, no call of a device answered one.
 abbrev pub FaultsAreNoted : World → World → Type 0
@@ -77,7 +96,7 @@ IsSwitchedOff e old = ⊥
 -- Without a device a loss is noted exactly there.
 pub record NotesOff (e : Event) (old new : World) : Type 0 where
   pub only : (at : Counts) → IsNoted (added old new) (Lost None at) → IsSwitchedOff e old
-  pub all : IsSwitchedOff e old → IsNoted (added old new) (Lost None (counts_of (story_of new)))
+  pub all : IsSwitchedOff e old → IsNoted (added old new) (Lost None (counts_in new))
 
 -- it was noted that this device lost the power
 pub record HasLost (which : Device) (notes : List Note) : Type 0 where
@@ -92,10 +111,78 @@ LossesAreNoted old new = (which : Device) → (HasLost which (added old new) ↔
 pub record IsLast (device : Option Device) (at : Counts) (w : World) : Type 0 where
   pub before : List Note
   pub last : w.notes.list ≡ before ++ record { item = w.item; what = Lost device at } ∷ []
-  pub counts : at ≡ counts_of (story_of w)
+  pub counts : at ≡ counts_in w
   pub bmc : standing_of bank.Bmc w.notes.list ≡ Off
   pub pch : standing_of bank.Pch w.notes.list ≡ Off
 
 -- Lost ends the step.
 abbrev pub LostEnds : World → World → Type 0
 LostEnds old new = (device : Option Device) (at : Counts) → IsNoted (added old new) (Lost device at) → IsLast device at new
+
+-- No device has power once a loss of power is noted.
+abbrev pub LostIsDark : World → World → Type 0
+LostIsDark old new = (device : Option Device) (at : Counts) → IsNoted (added old new) (Lost device at) → IsDark new
+
+-- ---- banks that are off
+
+abbrev pub IsPower : Event → Type 0
+IsPower event.Power = Unit {0}
+IsPower e = ⊥
+
+-- where both banks are off, an event that isn't a power-on does no operation, and is noted to be ignored
+pub record IsIgnored (old new : World) : Type 0 where
+  pub counts : counts_in new ≡ counts_in old
+  pub notes : added old new ≡ record { item = old.item + 1; what = Ignored } ∷ []
+
+abbrev pub StaysQuiet : Event → World → World → Type 0
+StaysQuiet e old new = AreOff old → ¬ IsPower e → IsIgnored old new
+
+-- and no device is called
+abbrev pub CallsNone : Event → World → World → Type 0
+CallsNone e old new = AreOff old → ¬ IsPower e → SameDevices old new
+
+-- The devices have power where the banks aren't off.
+abbrev pub HasPower : World → Type 0
+HasPower w = ¬ AreOff w → IsOn w
+
+-- ---- what is noted at which event
+
+abbrev pub IsProvision : Event → Type 0
+IsProvision (event.Provision what) = Unit {0}
+IsProvision e = ⊥
+
+-- what a script provisions is a slot
+abbrev pub IsKnownSlot : Event → Type 0
+IsKnownSlot (event.Provision what) = IsSlot what
+IsKnownSlot e = Unit {0}
+
+-- An event is noted to be ignored only where the banks are off, and isn't a power-on; what a provision comes to is noted only at
+-- a provision of banks that aren't off.
+abbrev pub BelongsTo : Event → World → What → Type 0
+BelongsTo e old Ignored = AreOff old × ¬ IsPower e
+BelongsTo e old Provisioned = ¬ AreOff old × IsProvision e
+BelongsTo e old (ProvisionRefused why) = ¬ AreOff old × IsProvision e
+BelongsTo e old what = Unit {0}
+
+abbrev pub NotesBelong : Event → World → World → Type 0
+NotesBelong e old new = (that : What) → IsNoted (added old new) that → BelongsTo e old that
+
+-- ---- provisions
+
+abbrev pub sizes_judged : RootSlot → World → Result ℕ FuseFail
+sizes_judged what w = judge_provision (now w.nv) what (size_of w.bmc) (size_of w.pch)
+
+-- what `provision` notes where no call of a device failed, of banks that aren't off
+pub record TriesProvision (what : RootSlot) (old new : World) : Type 0 where
+  -- It is noted as done exactly where a slot is found for it, and then the store is provisioned so.
+  pub done : IsNoted (added old new) Provisioned → (number : ℕ) × (sizes_judged what old ≡ Ok number)
+      × IsProvisionedBy (now new.nv) number × (provision_in (slot_at (now new.nv) number) ≡ what)
+  pub all : (number : ℕ) → sizes_judged what old ≡ Ok number → IsUntroubled bank.Bmc (added old new) → IsNoted (added old new) Provisioned
+  -- It is refused exactly by the first cause.
+  pub only : (why : ProvisionWhy) → IsNoted (added old new) (ProvisionRefused why)
+      → (cause : FuseFail) × (sizes_judged what old ≡ Err cause) × (why ≡ refusal_of cause)
+  pub refused : (cause : FuseFail) → sizes_judged what old ≡ Err cause → IsUntroubled bank.Bmc (added old new) → IsNoted (added old new) (ProvisionRefused (refusal_of cause))
+
+abbrev pub ProvisionsSo : Event → World → World → Type 0
+ProvisionsSo (event.Provision what) old new = ¬ AreOff old → TriesProvision what old new
+ProvisionsSo e old new = Unit {0}

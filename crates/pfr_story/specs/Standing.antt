@@ -5,6 +5,8 @@ use Rattle.pfr_report.specs.declared.note.Note.{Note}
 use Rattle.pfr_report.specs.declared.note.What.{What}
 use Rattle.pfr_report.specs.declared.note.What.TheVariants as what
 use Rattle.pfr_story.specs.Guards.{same_bank}
+use Rattle.pfr_story.specs.declared.line.Line.{Line}
+use Rattle.pfr_story.specs.declared.line.Line.TheVariants as line
 
 pub data Standing : Type 0 where
   Off : Standing
@@ -31,3 +33,9 @@ standing_of which notes = standing_from which Off notes
 abbrev pub is_off : Standing → Bool
 is_off Off = true
 is_off _ = false
+
+-- what the platform says of a bank between two events
+abbrev pub standing_by : Line → Standing
+standing_by line.Off = Off
+standing_by line.Locked = Locked
+standing_by line.Running = Running

@@ -5,12 +5,13 @@ use Rattle.pfr_flash.specs.Holding.{HoldsBytes}
 use Rattle.pfr_flash.specs.Moved.{Moved}
 use Rattle.pfr_flash.specs.declared.flash.FlashFail.{FlashFail}
 use Rattle.pfr_flash.specs.declared.flash.FlashFail.TheVariants.{Fault, Lost}
+use Rattle.pfr_flash.specs.declared.names.Counts.{Counts}
 use Rattle.pfr_flash.specs.declared.names.Device.{Device}
 use Rattle.pfr_flash.specs.declared.names.Device.TheVariants as device
 use Rattle.pfr_report.specs.NotesState.{NotesState}
 use Rattle.pfr_report.specs.declared.note.Note.{Note}
-use Rattle.pfr_story.specs.Guards.{Guards}
-use Rattle.pfr_story.specs.Story.{Past, Story}
+use Rattle.pfr_story.specs.declared.guards.Guards.{Guards}
+use Rattle.pfr_story.specs.Story.{Past, Story, counts_of}
 
 pub record World : Type 0 where
   pub bmc : FlashState
@@ -30,6 +31,10 @@ past_of d = record { start = d.start; ops = d.ops }
 
 abbrev pub story_of : World → Story
 story_of w = record { bmc = past_of w.bmc; pch = past_of w.pch; nv = past_of w.nv; item = w.item; notes = w.notes.list; guards = w.guards }
+
+-- how many operations each device has done
+abbrev pub counts_in : World → Counts
+counts_in w = counts_of (story_of w)
 
 abbrev pub state_at : Device → World → FlashState
 state_at device.Bmc w = w.bmc

@@ -1,0 +1,63 @@
+-- What is true of a platform between two events, and while a bank is in work.
+use Rattle.std.specs.Prelude.{◌≡◌, ◌≢◌, ◌*◌, ◌≤◌, length, true, Option, Some, None}
+use Rattle.pfr_flash.specs.FlashState.{FlashState, size_of}
+use Rattle.pfr_flash.specs.Layout.{IsBankSize}
+use Rattle.pfr_flash.specs.declared.names.Bank.{Bank}
+use Rattle.pfr_flash.specs.declared.names.Bank.TheVariants.{Bmc, Pch}
+use Rattle.pfr_report.specs.Texts.{AllText}
+use Rattle.pfr_story.specs.Standing as standing
+use Rattle.pfr_story.specs.Standing.{standing_of, standing_by, Held}
+use Rattle.pfr_story.specs.Story.{device_of}
+use Rattle.pfr_story.specs.World.{World, state_at}
+use Rattle.pfr_story.specs.declared.line.Line.{Line}
+use Rattle.pfr_story.specs.declared.line.Line.TheVariants.{Off}
+use Rattle.pfr_machine.specs.Worlds.{other_of}
+
+-- The seat of a bank, which is this one's and stands so: its device has a bank's size, the notes say the same of the bank, and
+-- its device has power, unless the bank is off.
+pub record IsSeat (which owner : Bank) (how : Line) (w : World) : Type 0 where
+  pub owner : owner ≡ which
+  pub size : IsBankSize (size_of (state_at (device_of which) w))
+  pub stands : standing_of which w.notes.list ≡ standing_by how
+  pub on : how ≢ Off → (state_at (device_of which) w).powered ≡ true
+
+-- what is true of the store and of the notes
+pub record IsBoard (w : World) : Type 0 where
+  pub size : size_of w.nv ≡ 32768
+  pub texts : AllText w.notes.list
+
+-- No bank is in work. The store has power, unless both banks are off.
+pub record AreSeated (bmc_owner pch_owner : Bank) (bmc pch : Line) (w : World) : Type 0 where
+  pub bmc : IsSeat Bmc bmc_owner bmc w
+  pub pch : IsSeat Pch pch_owner pch w
+  pub board : IsBoard w
+  pub beside_bmc : bmc ≢ Off → w.nv.powered ≡ true
+  pub beside_pch : pch ≢ Off → w.nv.powered ≡ true
+
+-- This bank is in work, and its device is held for this one.
+pub record IsDesk (which owner other_owner : Bank) (other : Line) (w : World) : Type 0 where
+  pub owner : owner ≡ which
+  pub size : IsBankSize (size_of (state_at (device_of which) w))
+  pub stands : standing_of which w.notes.list ≡ Held
+  pub other : IsSeat (other_of which) other_owner other w
+  pub board : IsBoard w
+
+-- Between two events both banks are off or neither is, and an item added 64 notes at most.
+pub record IsWhole (w : World) : Type 0 where
+  pub together : standing_of Bmc w.notes.list ≡ standing.Off → standing_of Pch w.notes.list ≡ standing.Off
+  pub apart : standing_of Pch w.notes.list ≡ standing.Off → standing_of Bmc w.notes.list ≡ standing.Off
+  pub few : length w.notes.list ≤ 64 * w.item
+
+-- ---- the platform as a whole
+
+-- a device that is no device
+abbrev pub no_device : FlashState
+no_device = record { start = []; ops = [] }
+
+abbrev pub world_in : Option World → World
+world_in (Some w) = w
+world_in None = no_world
+
+abbrev pub IsThere : Option World → Type 0
+IsThere (Some w) = IsWhole w
+IsThere None = ⊥

@@ -1,0 +1,105 @@
+-- The platform as contracts see it: between two events, and while a bank is in work.
+use Rattle.std.specs.Prelude.{◌≡◌, ◌≢◌, ℕ, ◌+◌, ◌-◌, ◌≤◌, Bool, true, List, [], ◌∷◌, ◌++◌, length, Option, Some, None, Result, Ok, Err}
+use Rattle.pfr_flash.specs.FlashState.{FlashState, size_of}
+use Rattle.pfr_flash.specs.Layout.{IsBankSize}
+use Rattle.pfr_flash.specs.declared.flash.FlashFail.TheVariants.{Fault}
+use Rattle.pfr_flash.specs.declared.names.Bank.{Bank}
+use Rattle.pfr_flash.specs.declared.names.Bank.TheVariants as bank
+use Rattle.pfr_flash.specs.declared.names.Device.{Device}
+use Rattle.pfr_flash.specs.declared.names.Device.TheVariants as device
+use Rattle.pfr_bank.specs.Seats.{JudgedState}
+use Rattle.pfr_report.specs.NotesState.{NotesState}
+use Rattle.pfr_report.specs.declared.note.What.{What}
+use Rattle.pfr_story.specs.Guards.{guards_after, first_guards}
+use Rattle.pfr_story.specs.Story.{device_of}
+use Rattle.pfr_story.specs.World.{World, state_at, story_of}
+use Rattle.pfr_story.specs.Goes.{Ran, Stopped}
+use Rattle.pfr_story.specs.Story.{Plan}
+use Rattle.pfr_story.specs.declared.line.Line.{Line}
+use Rattle.pfr_story.specs.declared.line.Line.TheVariants as line
+use Rattle.pfr_story.specs.declared.stop.Stop.{Stop}
+use Rattle.pfr_machine.specs.declared.board.Board.{Board}
+use Rattle.pfr_machine.specs.declared.seat.Seat.{Seat}
+use Rattle.pfr_machine.specs.declared.seat.Seat.TheVariants as seat
+
+-- ---- a seat
+abbrev pub flash_in : {F : Type 0} → Seat F → F
+flash_in (seat.Off off) = off.flash
+flash_in (seat.Locked locked) = locked.flash
+flash_in (seat.Running running) = running.flash
+
+abbrev pub bank_in : {F : Type 0} → Seat F → Bank
+bank_in (seat.Off off) = off.bank
+bank_in (seat.Locked locked) = locked.bank
+bank_in (seat.Running running) = running.bank
+
+abbrev pub line_in : {F : Type 0} → Seat F → Line
+line_in (seat.Off off) = line.Off
+line_in (seat.Locked locked) = line.Locked
+line_in (seat.Running running) = line.Running
+
+-- ---- the world
+-- of two banks' devices and a board, whose store's device is this
+abbrev pub world_with : {F : Type 0} → FlashState → FlashState → FlashState → Board F → World
+world_with bmc pch nv board = record { bmc = bmc; pch = pch; nv = nv; item = board.item; notes = board.notes; guards = board.guards }
+
+-- the same by the bank in work and the other one
+abbrev pub desk_world : {F : Type 0} → Bank → FlashState → FlashState → FlashState → Board F → World
+desk_world bank.Bmc mine other nv board = world_with mine other nv board
+desk_world bank.Pch mine other nv board = world_with other mine nv board
+
+-- another state of this device
+abbrev pub with_state : Device → FlashState → World → World
+with_state device.Bmc d w = record w { bmc = d }
+with_state device.Pch d w = record w { pch = d }
+with_state device.Nv d w = record w { nv = d }
+
+-- something was noted
+abbrev pub with_note : What → World → World
+with_note what w = record w {
+  notes = record { list = w.notes.list ++ record { item = w.item; what = what } ∷ []; spare = w.notes.spare - 1 };
+  guards = guards_after what w.guards;
+}
+
+abbrev pub other_of : Bank → Bank
+other_of bank.Bmc = bank.Pch
+other_of bank.Pch = bank.Bmc
+
+-- A bank is in work: the bank, and how the other one stands.
+pub record DeskState : Type 0 where
+  pub bank : Bank
+  pub other : Line
+  pub world : World
+
+pub record PlatformState (E : Type 0) : Type 0 where
+  pub world : World
+  pub engine : E
+
+-- ---- what stays
+
+-- at most so many notes were added, for which there was memory
+pub record AddsNotes (most : ℕ) (old new : NotesState) : Type 0 where
+  pub spare : old.spare ≤ new.spare + most
+  pub few : length new.list ≤ length old.list + most
+
+-- the devices that work on a bank calls have power
+pub record IsAwake (which : Bank) (w : World) : Type 0 where
+  pub mine : (state_at (device_of which) w).powered ≡ true
+  pub nv : w.nv.powered ≡ true
+
+-- they do still, unless one lost it
+abbrev pub StaysAwake : {T : Type 0} → Bank → World → Result T Stop → Type 0
+StaysAwake which w (Ok x) = IsAwake which w
+StaysAwake which w (Err stop) = stop.fail ≡ Fault → IsAwake which w
+
+-- Work on a bank that stays held.
+pub record Stays {T : Type 0} (most : ℕ) (old new : DeskState) (answer : Result T Stop) : Type 0 where
+  pub bank : new.bank ≡ old.bank
+  pub other : new.other ≡ old.other
+  pub notes : AddsNotes most old.world.notes new.world.notes
+  pub awake : StaysAwake old.bank new.world answer
+
+-- nothing changed but the memory that is reserved for notes
+pub record SameButRoom {E : Type 0} (old new : PlatformState E) : Type 0 where
+  pub list : new.world.notes.list ≡ old.world.notes.list
+  pub rest : new ≡ record old { world = record old.world { notes = new.world.notes } }

@@ -1,0 +1,31 @@
+// What both banks share: the store, the notes, and what is counted.
+ghost use Rattle.std.specs.Prelude.{◌≡◌, ◌-◌, ◌≤◌, [], ◌∷◌, ◌++◌};
+ghost use Rattle.pfr_story.specs.Guards.{guards_after};
+
+use pfr_flash::Flash;
+use pfr_report::{Note, Notes, What};
+use pfr_story::Guards;
+
+/// The store, the notes so far, the number of the item that is being done, and what guards the banks.
+#[derive(Drop)]
+pub struct Board<F: Flash> {
+    pub nv: F,
+    pub notes: Notes,
+    pub item: u32,
+    pub guards: Guards,
+}
+
+impl<F: Flash> Board<F> {
+    /// Appends a note of the item that is being done, which moves the guards.
+    pub fn push(&mut self, what: What)
+        requires room { 1 ≤ self.old.notes.spare }
+        ensures noted { self.new ≡ record self.old {
+          notes = record { list = self.old.notes.list ++ record { item = self.old.item; what = what } ∷ []; spare = self.old.notes.spare - 1 };
+          guards = guards_after what self.old.guards;
+        } }
+    {
+        let item = self.item;
+        self.guards.note(&what);
+        self.notes.push(Note { item, what });
+    }
+}

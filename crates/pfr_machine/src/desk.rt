@@ -1,0 +1,309 @@
+// A bank in work.
+ghost use Rattle.std.specs.Prelude.{◌≡◌, ◌≢◌, ◌≤◌, [], ◌∷◌, Ok, Err, IfOk, IfErr};
+ghost use Rattle.pfr_flash.specs.Answer.{IsFound};
+ghost use Rattle.pfr_flash.specs.FlashState.{now, size_of};
+ghost use Rattle.pfr_flash.specs.Layout.{IsValidLayout};
+ghost use Rattle.pfr_auth.specs.Answer.{active_failure};
+ghost use Rattle.pfr_capsule.specs.Answer.{capsule_failure};
+ghost use Rattle.pfr_copy.specs.Applying.{CanApply};
+ghost use Rattle.pfr_fuses.specs.FusesOf.{fuses_of};
+ghost use Rattle.pfr_fuses.specs.RootSlot.{layout_of};
+ghost use Rattle.pfr_report.specs.declared.note.What.TheVariants.{Locked, Lost, Untrusted};
+ghost use Rattle.pfr_story.specs.Goes.{Goes, Ran};
+ghost use Rattle.pfr_story.specs.Plans.{asks, asks_store, judged_recovery, restored};
+ghost use Rattle.pfr_story.specs.Standing as standing;
+ghost use Rattle.pfr_story.specs.Standing.{standing_of, standing_by};
+ghost use Rattle.pfr_story.specs.Story.{Says, device_of};
+ghost use Rattle.pfr_story.specs.World.{IsDark, counts_in, state_at, story_of};
+ghost use Rattle.pfr_machine.specs.Worlds.{AddsNotes, IsAwake, Stays, other_of};
+ghost use Rattle.pfr_machine.specs.Ready.{Checks, IsText, LeavesSeated};
+
+use crate::board::Board;
+use crate::inner::Inner;
+use crate::judging::read_fuses;
+use crate::seat::Seat;
+use pfr_auth::{ActiveFail, Area, capsule_at};
+use pfr_bank::{Held, Unchecked};
+use pfr_capsule::{Capsule, CapsuleFail};
+use pfr_chain::Engine;
+use pfr_copy::apply;
+use pfr_flash::{Bank, Counts, Device, Flash, FlashFail};
+use pfr_fuses::{FuseFail, Fuses};
+use pfr_jobs::JobKind;
+use pfr_report::{LockWhy, What};
+use pfr_story::Stop;
+use std::marker::Model;
+
+/// A bank in work, which is held, the other one as it stands, and what they share.
+#[derive(Drop)]
+pub struct Desk<F: Flash> {
+    pub bank: Bank,
+    pub held: Held<F>,
+    pub other: Seat<F>,
+    pub board: Board<F>,
+}
+
+/// Work on a bank that a call of a device cut short.
+#[derive(Drop)]
+pub struct Halt<F: Flash> {
+    pub stop: Stop,
+    pub desk: Desk<F>,
+}
+
+/// What a check of the active image comes to.
+#[derive(Drop)]
+pub enum Found<F: Flash> {
+    /// It is trusted, and the bank was released.
+    Released(Inner<F>),
+    /// It isn't, for this cause, and the bank is in work still.
+    Distrusted(Desk<F>, ActiveFail),
+}
+
+impl<F: Flash> Model for Desk<F> {
+    ghost use Rattle.pfr_machine.specs.Inside.{IsDesk};
+    ghost use Rattle.pfr_machine.specs.Worlds.{DeskState, bank_in, desk_world, flash_in, line_in};
+
+    ghost Value = { DeskState };
+
+    ghost view = { λ d. record {
+      bank = d.bank;
+      other = line_in d.other;
+      world = desk_world d.bank (F.device d.held.flash) (F.device (flash_in d.other)) (F.device d.board.nv) d.board;
+    } };
+
+    ghost invariant = { λ d. IsDesk d.bank d.held.bank (bank_in d.other) (line_in d.other)
+        (desk_world d.bank (F.device d.held.flash) (F.device (flash_in d.other)) (F.device d.board.nv) d.board) };
+}
+
+// The device of a bank.
+pub fn device_of(bank: Bank) -> Device
+    ensures { result ≡ device_of bank }
+{
+    match bank {
+        Bank::Bmc => Device::Bmc,
+        Bank::Pch => Device::Pch,
+    }
+}
+
+impl<F: Flash> Desk<F> {
+    /// How many operations each device has done.
+    pub fn counts(&self) -> Counts
+        ensures { result ≡ counts_in self.now.world }
+    {
+        let (mine, other) = (self.held.op_count(), self.other.op_count());
+        let nv = self.board.nv.op_count();
+        match self.bank {
+            Bank::Bmc => Counts {
+                bmc: mine,
+                pch: other,
+                nv,
+            },
+            Bank::Pch => Counts {
+                bmc: other,
+                pch: mine,
+                nv,
+            },
+        }
+    }
+
+    /// What the store provisions the platform with, or why it doesn't.
+    pub fn load(&mut self) -> Result<Result<Fuses, FuseFail>, Stop>
+        requires on { IsAwake self.old.bank self.old.world }
+        ensures goes { Goes asks_store self.old.world self.new.world result }
+        ensures found { IfOk result (λ found. found ≡ fuses_of (now self.new.world.nv)) }
+        ensures stays { Stays 0 self.old self.new result }
+    {
+        match read_fuses(&mut self.board.nv) {
+            Ok(found) => Ok(found),
+            Err(fail) => Err(Stop {
+                device: Device::Nv,
+                fail,
+            }),
+        }
+    }
+
+    /// The capsule in the recovery area, or the first cause against it.
+    pub fn judge_recovery<E: Engine>(
+        &mut self,
+        fuses: &Fuses,
+        engine: &E,
+    ) -> Result<Result<Capsule, CapsuleFail>, Stop>
+        requires on { IsAwake self.old.bank self.old.world }
+        requires valid { IsValidLayout (layout_of fuses.now.provision self.old.bank) (size_of (state_at (device_of self.old.bank) self.old.world)) }
+        ensures goes { Goes (asks self.old.bank) self.old.world self.new.world result }
+        ensures is { IfOk result (λ found. found ≡ judged_recovery (E.accepts engine.now) self.old.bank fuses.now (story_of self.old.world)) }
+        ensures cause { IfOk result (λ found. IfErr found (IsFound capsule_failure)) }
+        ensures can { let layout = layout_of fuses.now.provision self.old.bank in
+            IfOk result (λ found. IfOk found (CanApply (now (state_at (device_of self.old.bank) self.new.world)) layout)) }
+        ensures stays { Stays 0 self.old self.new result }
+    {
+        let layout = fuses.provision().layout(self.bank);
+        match capsule_at(self.held.flash(), Area::Recovery, self.bank, layout, fuses, engine) {
+            Ok(capsule) => Ok(Ok(capsule)),
+            Err(why) => match why.failure() {
+                Some(fail) => Err(Stop {
+                    device: device_of(self.bank),
+                    fail,
+                }),
+                None => Ok(Err(why)),
+            },
+        }
+    }
+
+    // Applies the capsule in the recovery area to the active image.
+    fn copy(&mut self, fuses: &Fuses, capsule: &Capsule, level: u8) -> Result<(), Stop>
+        requires on { IsAwake self.old.bank self.old.world }
+        requires can { CanApply (now (state_at (device_of self.old.bank) self.old.world)) (layout_of fuses.now.provision self.old.bank) capsule.now }
+        ensures goes { Goes (copied self.old.bank level fuses.now capsule.now) self.old.world self.new.world result }
+        ensures stays { Stays 0 self.old self.new result }
+    {
+        let layout = fuses.provision().layout(self.bank);
+        match apply(&mut self.held, capsule, layout, JobKind::ActiveFromRecovery { level }) {
+            Ok(()) => Ok(()),
+            Err(fail) => Err(Stop {
+                device: device_of(self.bank),
+                fail,
+            }),
+        }
+    }
+
+    // Notes something by which no bank stands otherwise.
+    fn note(&mut self, what: What)
+        requires room { 1 ≤ self.old.world.notes.spare }
+        requires text { HasText what }
+        requires still { (which : Bank) (s : Standing) → standing_after which what s ≡ s }
+        ensures noted { self.new ≡ record self.old { world = with_note what self.old.world } }
+    {
+        self.board.push(what);
+    }
+
+    /// Restores the active image from the capsule in the recovery area, at a level of recovery.
+    pub fn restore(&mut self, fuses: &Fuses, capsule: &Capsule, level: u8) -> Result<(), Stop>
+        requires room { 1 ≤ self.old.world.notes.spare }
+        requires on { IsAwake self.old.bank self.old.world }
+        requires can { CanApply (now (state_at (device_of self.old.bank) self.old.world)) (layout_of fuses.now.provision self.old.bank) capsule.now }
+        ensures goes { Goes (restored self.old.bank level fuses.now capsule.now) self.old.world self.new.world result }
+        ensures stays { Stays 1 self.old self.new result }
+    {
+        self.copy(fuses, capsule, level)?;
+        self.note(What::Restored {
+            bank: self.bank,
+            level,
+        });
+        Ok(())
+    }
+
+    /// Notes that the active image isn't trusted.
+    pub fn distrust(&mut self, why: ActiveFail)
+        requires room { 1 ≤ self.old.world.notes.spare }
+        requires cause { IsFound active_failure why }
+        ensures noted { self.new ≡ record self.old { world = with_note (Untrusted self.old.bank why) self.old.world } }
+    {
+        let bank = self.bank;
+        self.note(What::Untrusted { bank, why });
+    }
+
+    /// Checks the active image, and releases the bank where it is trusted.
+    pub fn check<E: Engine>(self, fuses: &Fuses, engine: &E) -> Result<Found<F>, Halt<F>>
+        requires room { 1 ≤ self.world.notes.spare }
+        requires on { IsAwake self.bank self.world }
+        requires valid { IsValidLayout (layout_of fuses.now.provision self.bank) (size_of (state_at (device_of self.bank) self.world)) }
+        ensures checks { Checks (E.accepts engine.now) fuses.now self result }
+    {
+        let counts = self.counts();
+        let Desk {
+            bank,
+            held,
+            other,
+            board,
+        } = self;
+        let layout = fuses.provision().layout(bank);
+        match held.check(layout, fuses, engine) {
+            Ok(checked) => Ok(Found::Released(release(bank, checked, other, board, counts))),
+            Err(Unchecked { held, why }) => {
+                let desk = Desk {
+                    bank,
+                    held,
+                    other,
+                    board,
+                };
+                match why.failure() {
+                    Some(fail) => Err(Halt {
+                        stop: Stop {
+                            device: device_of(bank),
+                            fail,
+                        },
+                        desk,
+                    }),
+                    None => Ok(Found::Distrusted(desk, why)),
+                }
+            }
+        }
+    }
+
+    /// Locks the bank.
+    pub fn lock(self, why: LockWhy) -> Inner<F>
+        requires room { 1 ≤ self.world.notes.spare }
+        requires text { IsText why }
+        requires on { IsAwake self.bank self.world }
+        ensures ran { Ran (Says (Locked self.bank why) ∷ []) self.world result }
+        ensures leaves { LeavesSeated 1 self result }
+    {
+        let counts = self.counts();
+        let Desk {
+            bank,
+            held,
+            other,
+            mut board,
+        } = self;
+        board.push(What::Locked { bank, why, counts });
+        let mine = Seat::Locked(held.lock());
+        match bank {
+            Bank::Bmc => Inner {
+                bmc: mine,
+                pch: other,
+                board,
+            },
+            Bank::Pch => Inner {
+                bmc: other,
+                pch: mine,
+                board,
+            },
+        }
+    }
+
+    /// Notes that a device lost the power, and takes it from every device.
+    pub fn lose(self, device: Device) -> Inner<F>
+        requires room { 1 ≤ self.world.notes.spare }
+        ensures ran { Ran (Says (Lost (Some device)) ∷ []) self.world result }
+        ensures dark { IsDark result }
+        ensures notes { AddsNotes 1 self.world.notes result.notes }
+    {
+        let counts = self.counts();
+        let Desk {
+            bank,
+            held,
+            other,
+            mut board,
+        } = self;
+        board.push(What::Lost {
+            device: Some(device),
+            counts,
+        });
+        board.nv.power_down();
+        let mine = Seat::Off(held.lost());
+        let other = Seat::Off(other.lose());
+        match bank {
+            Bank::Bmc => Inner {
+                bmc: mine,
+                pch: other,
+                board,
+            },
+            Bank::Pch => Inner {
+                bmc: other,
+                pch: mine,
+                board,
+            },
+        }
+    }
+}

@@ -1,0 +1,156 @@
+// A platform none of whose banks is in work.
+ghost use Rattle.std.specs.Prelude.{◌≡◌, ◌≢◌, ◌↔◌, ◌≤◌, [], ◌∷◌, IsTrue, true};
+ghost use Rattle.pfr_flash.specs.declared.names.Bank.{Bank};
+ghost use Rattle.pfr_flash.specs.declared.names.Bank.TheVariants.{Bmc};
+ghost use Rattle.pfr_flash.specs.declared.names.Device.TheVariants.{Nv};
+ghost use Rattle.pfr_report.specs.Texts.{HasText};
+ghost use Rattle.pfr_report.specs.declared.note.What.TheVariants.{Held, Locked, Lost};
+ghost use Rattle.pfr_story.specs.Goes.{Ran};
+ghost use Rattle.pfr_story.specs.Standing as standing;
+ghost use Rattle.pfr_story.specs.Standing.{Standing, standing_of, standing_after, standing_by};
+ghost use Rattle.pfr_story.specs.Story.{Says};
+ghost use Rattle.pfr_story.specs.World.{IsDark, counts_in};
+ghost use Rattle.pfr_machine.specs.Worlds.{AddsNotes, IsAwake, other_of, with_note, with_state};
+ghost use Rattle.pfr_machine.specs.Ready.{IsText};
+
+use crate::board::Board;
+use crate::desk::Desk;
+use crate::seat::Seat;
+use pfr_flash::{Bank, Counts, Device, Flash};
+use pfr_report::{LockWhy, What};
+use pfr_story::Line;
+use std::marker::Model;
+
+/// Both banks, none of which is in work, and what they share.
+#[derive(Drop)]
+pub struct Inner<F: Flash> {
+    pub bmc: Seat<F>,
+    pub pch: Seat<F>,
+    pub board: Board<F>,
+}
+
+impl<F: Flash> Model for Inner<F> {
+    ghost use Rattle.pfr_machine.specs.Inside.{AreSeated};
+    ghost use Rattle.pfr_machine.specs.Worlds.{bank_in, flash_in, line_in, world_with};
+    ghost use Rattle.pfr_story.specs.World.{World};
+
+    ghost Value = { World };
+
+    ghost view = { λ p. world_with (F.device (flash_in p.bmc)) (F.device (flash_in p.pch)) (F.device p.board.nv) p.board };
+
+    ghost invariant = { λ p. AreSeated (bank_in p.bmc) (bank_in p.pch) (line_in p.bmc) (line_in p.pch)
+        (world_with (F.device (flash_in p.bmc)) (F.device (flash_in p.pch)) (F.device p.board.nv) p.board) };
+}
+
+impl<F: Flash> Inner<F> {
+    /// How many operations each device has done.
+    pub fn counts(&self) -> Counts
+        ensures { result ≡ counts_in self.now }
+    {
+        Counts {
+            bmc: self.bmc.op_count(),
+            pch: self.pch.op_count(),
+            nv: self.board.nv.op_count(),
+        }
+    }
+
+    /// How the bank stands.
+    pub fn line(&self, bank: Bank) -> Line
+        ensures { standing_by result ≡ standing_of bank self.now.notes.list }
+    {
+        match bank {
+            Bank::Bmc => self.bmc.line(),
+            Bank::Pch => self.pch.line(),
+        }
+    }
+
+    /// Notes something by which no bank stands otherwise.
+    pub fn note(&mut self, what: What)
+        requires room { 1 ≤ self.old.notes.spare }
+        requires text { HasText what }
+        requires still { (which : Bank) (s : Standing) → standing_after which what s ≡ s }
+        ensures noted { self.new ≡ with_note what self.old }
+    {
+        self.board.push(what);
+    }
+
+    /// Gives the store power.
+    pub fn power_store(&mut self)
+        ensures up { self.new ≡ with_state Nv (record self.old.nv { powered = true }) self.old }
+    {
+        self.board.nv.power_up();
+    }
+
+    /// Holds the bank, which is in work from here on. Its device and the store get power.
+    pub fn hold(self, bank: Bank) -> Desk<F>
+        requires room { 1 ≤ self.notes.spare }
+        ensures bank { result.bank ≡ bank }
+        ensures other { standing_by result.other ≡ standing_of (other_of bank) self.notes.list }
+        ensures ran { Ran (Says (Held bank) ∷ []) self result.world }
+        ensures notes { AddsNotes 1 self.notes result.world.notes }
+        ensures awake { IsAwake bank result.world }
+    {
+        let counts = self.counts();
+        let Inner { bmc, pch, mut board } = self;
+        board.nv.power_up();
+        board.push(What::Held { bank, counts });
+        match bank {
+            Bank::Bmc => Desk {
+                bank,
+                held: bmc.hold(),
+                other: pch,
+                board,
+            },
+            Bank::Pch => Desk {
+                bank,
+                held: pch.hold(),
+                other: bmc,
+                board,
+            },
+        }
+    }
+
+    /// Locks the bank.
+    pub fn lock(self, bank: Bank, why: LockWhy) -> Inner<F>
+        requires room { 1 ≤ self.notes.spare }
+        requires text { IsText why }
+        requires on { self.nv.powered ≡ true }
+        ensures ran { Ran (Says (Locked bank why) ∷ []) self result }
+        ensures notes { AddsNotes 1 self.notes result.notes }
+        ensures on { result.nv.powered ≡ true }
+    {
+        let counts = self.counts();
+        let Inner { bmc, pch, mut board } = self;
+        board.push(What::Locked { bank, why, counts });
+        match bank {
+            Bank::Bmc => Inner {
+                bmc: Seat::Locked(bmc.hold().lock()),
+                pch,
+                board,
+            },
+            Bank::Pch => Inner {
+                bmc,
+                pch: Seat::Locked(pch.hold().lock()),
+                board,
+            },
+        }
+    }
+
+    /// Notes that the power went, with the device that lost it if one did, and takes it from every device.
+    pub fn lose(self, device: Option<Device>) -> Inner<F>
+        requires room { 1 ≤ self.notes.spare }
+        ensures ran { Ran (Says (Lost device) ∷ []) self result }
+        ensures dark { IsDark result }
+        ensures notes { AddsNotes 1 self.notes result.notes }
+    {
+        let counts = self.counts();
+        let Inner { bmc, pch, mut board } = self;
+        board.push(What::Lost { device, counts });
+        board.nv.power_down();
+        Inner {
+            bmc: Seat::Off(bmc.lose()),
+            pch: Seat::Off(pch.lose()),
+            board,
+        }
+    }
+}

@@ -1,0 +1,88 @@
+// A bank that isn't in work.
+ghost use Rattle.std.specs.Prelude.{◌≡◌, ◌≢◌, true, false};
+ghost use Rattle.pfr_flash.specs.FlashState.{op_count_of, size_of};
+ghost use Rattle.pfr_machine.specs.Worlds.{flash_in, bank_in, line_in};
+ghost use Rattle.pfr_story.specs.declared.line.Line.TheVariants as line;
+
+use pfr_bank::{Held, Locked, Off, Running};
+use pfr_flash::{Flash, Rigged, Tear};
+use pfr_story::Line;
+
+/// A bank that isn't in work, in one of the states that it may stand in between two events.
+#[derive(Drop)]
+pub enum Seat<F: Flash> {
+    Off(Off<F>),
+    Locked(Locked<F>),
+    Running(Running<F>),
+}
+
+impl<F: Flash> Seat<F> {
+    /// How the bank stands.
+    pub fn line(&self) -> Line
+        ensures { result ≡ line_in self.now }
+    {
+        match self {
+            Seat::Off(_) => Line::Off,
+            Seat::Locked(_) => Line::Locked,
+            Seat::Running(_) => Line::Running,
+        }
+    }
+
+    /// How many erases and programs the bank's device has done.
+    pub fn op_count(&self) -> u32
+        ensures { result ≡ op_count_of (F.device (flash_in self.now)) }
+    {
+        match self {
+            Seat::Off(off) => off.op_count(),
+            Seat::Locked(locked) => locked.op_count(),
+            Seat::Running(running) => running.op_count(),
+        }
+    }
+
+    /// The size of the bank's device.
+    pub fn size(&self) -> u32
+        ensures { result ≡ size_of (F.device (flash_in self.now)) }
+    {
+        match self {
+            Seat::Off(off) => off.size(),
+            Seat::Locked(locked) => locked.size(),
+            Seat::Running(running) => running.size(),
+        }
+    }
+
+    /// Holds the bank. Its device is powered up where the bank was off.
+    pub fn hold(self) -> Held<F>
+        ensures off { line_in self ≡ line.Off → F.device result.flash ≡ record (F.device (flash_in self)) { powered = true } }
+        ensures on { line_in self ≢ line.Off → result.flash ≡ flash_in self }
+        ensures bank { result.bank ≡ bank_in self }
+    {
+        match self {
+            Seat::Off(off) => off.hold(),
+            Seat::Locked(locked) => locked.hold(),
+            Seat::Running(running) => running.hold(),
+        }
+    }
+
+    /// Takes the power from the bank's device.
+    pub fn lose(self) -> Off<F>
+        ensures flash { F.device result.flash ≡ record (F.device (flash_in self)) { powered = false } }
+        ensures bank { result.bank ≡ bank_in self }
+    {
+        match self {
+            Seat::Off(off) => off.hold().lost(),
+            Seat::Locked(locked) => locked.lost(),
+            Seat::Running(running) => running.lost(),
+        }
+    }
+
+    /// Gives the device up as it stands.
+    pub fn into_flash(self) -> F
+        ensures { result ≡ flash_in self }
+    {
+        match self {
+            Seat::Off(off) => off.into_flash(),
+            Seat::Locked(locked) => locked.into_flash(),
+            Seat::Running(running) => running.into_flash(),
+        }
+    }
+}

@@ -1,0 +1,65 @@
+-- What a power-on promises of each bank, where no call fails while the bank is in work.
+use Rattle.std.specs.Prelude.{◌≡◌, ℕ, ◌+◌, ◌*◌, ◌/◌, ◌≤◌, List, Option}
+use Rattle.pfr_flash.specs.FlashState.{size_of}
+use Rattle.pfr_flash.specs.declared.names.Bank.{Bank}
+use Rattle.pfr_flash.specs.declared.names.Bank.TheVariants as bank
+use Rattle.pfr_flash.specs.declared.names.Counts.{Counts}
+use Rattle.pfr_flash.specs.declared.names.Device.{Device}
+use Rattle.pfr_engine.specs.Acceptance.{Acceptance}
+use Rattle.pfr_auth.specs.Trusted.{IsTrusted}
+use Rattle.pfr_auth.specs.declared.fail.ActiveFail.{ActiveFail}
+use Rattle.pfr_script.specs.declared.event.Event.{Event}
+use Rattle.pfr_script.specs.declared.event.Event.TheVariants as event
+use Rattle.pfr_report.specs.Texts.{IsNoted}
+use Rattle.pfr_report.specs.declared.note.LockWhy.{LockWhy}
+use Rattle.pfr_report.specs.declared.note.LockWhy.TheVariants as why
+use Rattle.pfr_report.specs.declared.note.Note.{Note}
+use Rattle.pfr_report.specs.declared.note.What.TheVariants.{Held, Released, Locked, Lost, Untrusted, Restored}
+use Rattle.pfr_story.specs.Story.{device_of}
+use Rattle.pfr_story.specs.World.{World, state_at, added}
+use Rattle.pfr_story.specs.Causes.{IsAgainst, IsDue, IsRestorable}
+use Rattle.pfr_story.specs.Promises.{count_at, AtCounts}
+
+-- the work on the bank was over: on the BMC's it was where the PCH is held behind it
+abbrev pub IsOver : Bank → List Note → Type 0
+IsOver bank.Bmc notes = (at : Counts) × IsNoted notes (Held bank.Pch at)
+IsOver bank.Pch notes = ⊥
+
+-- No call of a device failed while this bank was in work: it isn't locked for a fault, and no power was lost before its work
+-- was over.
+pub record IsCalm (which : Bank) (notes : List Note) : Type 0 where
+  pub flash : (at : Counts) → ¬ IsNoted notes (Locked which why.FlashFault at)
+  pub store : (at : Counts) → ¬ IsNoted notes (Locked which why.StoreFault at)
+  pub on : (device : Option Device) (at : Counts) → IsNoted notes (Lost device at) → IsOver which notes
+
+-- it was released, after at most so many operations of its device
+pub record ReleasedSoon (which : Bank) (at : Counts) (most : ℕ) (notes : List Note) : Type 0 where
+  pub svn : ℕ
+  pub then : Counts
+  pub noted : IsNoted notes (Released which svn then)
+  pub forth : count_at which at ≤ count_at which then
+  pub few : count_at which then ≤ count_at which at + most
+
+-- What is noted of a bank that is held at these counts, by the contents then.
+pub record BringsUp (accepts : Acceptance) (which : Bank) (w : World) (notes : List Note) (at : Counts) : Type 0 where
+  pub held : IsNoted notes (Held which at)
+  -- It is released where its image is trusted,
+  pub trusted : (t : AtCounts (λ image nv. IsTrusted image nv which accepts) which at w) → IsNoted notes (Released which t.manifest.svn at)
+  -- locked where the contents call for it,
+  pub due : (cause : LockWhy) → AtCounts (λ image nv. IsDue cause which image nv accepts) which at w → IsNoted notes (Locked which cause at)
+  -- and called untrusted where its check names a cause.
+  pub named : (cause : ActiveFail) → AtCounts (λ image nv. IsAgainst cause which image nv accepts) which at w → IsNoted notes (Untrusted which cause)
+  -- Where it isn't trusted and a good capsule stands in its recovery area, it is restored at level 1.
+  pub restored : AtCounts (λ image nv. IsRestorable which image nv accepts) which at w → IsNoted notes (Restored which 1)
+
+-- A power-on brings each bank up.
+abbrev pub BringsUpCalm : Event → Acceptance → World → World → Type 0
+BringsUpCalm event.Power accepts old new = (which : Bank) → IsCalm which (added old new) → (at : Counts) × BringsUp accepts which new (added old new) at
+BringsUpCalm e accepts old new = Unit {0}
+
+-- A bank that can be recovered, by what R says of its bytes and the store's where it is held, ends a power-on released, after at
+-- most 34 operations for each of its pages.
+abbrev pub PowerReleases : (Bank → List ℕ → List ℕ → Type 0) → Event → World → World → Type 0
+PowerReleases R event.Power old new = (which : Bank) (at : Counts) → IsCalm which (added old new) → IsNoted (added old new) (Held which at)
+    → AtCounts (R which) which at new → ReleasedSoon which at (34 * (size_of (state_at (device_of which) new) / 4096)) (added old new)
+PowerReleases R e old new = Unit {0}
