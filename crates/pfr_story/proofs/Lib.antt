@@ -13,3 +13,5 @@ pub mod Made
 pub mod FaultLaws
 pub mod LossLaws
 pub mod RecoverableLaws
+pub mod Bytes
+pub mod SpanLaws
