@@ -13,5 +13,8 @@ pub mod Made
 pub mod FaultLaws
 pub mod LossLaws
 pub mod RecoverableLaws
+pub mod MomentLaws
+pub mod KeepLaws
+pub mod RecoveryLaws
 pub mod Bytes
 pub mod SpanLaws
