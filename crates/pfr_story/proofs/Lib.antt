@@ -14,3 +14,7 @@ pub mod FaultLaws
 pub mod LossLaws
 pub mod RecoverableLaws
 pub mod Bytes
+pub mod MomentLaws
+pub mod KeepLaws
+pub mod RecoveryLaws
+pub mod SpanLaws
