@@ -13,3 +13,9 @@ pub mod Made
 pub mod FaultLaws
 pub mod LossLaws
 pub mod RecoverableLaws
+pub mod StepRules
+pub mod FuseLaws
+pub mod StoreLaws
+pub mod EventLaws
+pub mod ProvisionLaws
+pub mod GrowthLaws
