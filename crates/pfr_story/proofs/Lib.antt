@@ -18,3 +18,9 @@ pub mod MomentLaws
 pub mod KeepLaws
 pub mod RecoveryLaws
 pub mod SpanLaws
+pub mod StepRules
+pub mod FuseLaws
+pub mod StoreLaws
+pub mod EventLaws
+pub mod ProvisionLaws
+pub mod GrowthLaws
