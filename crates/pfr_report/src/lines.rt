@@ -89,28 +89,6 @@ fn write_no_good_image<K: Sink>(
     )
 }
 
-// The line of a bank that was restored.
-fn write_restored<K: Sink>(item: u32, bank: Bank, level: u8, out: &mut K) -> Result<(), SinkFail>
-    ensures { Writes K.tells K.written K.faults out.old out.new
-        (decimal item ++ (codes " " ++ ((bank_word bank ++ (codes " restored level " ++ decimal level)) ++ codes "\n"))) result }
-{
-    let mut item_buffer = Buffer::new();
-    let item = item_buffer.format(item).as_bytes();
-    let mut buffer = Buffer::new();
-    let level = buffer.format(level).as_bytes();
-    write_pieces(
-        out,
-        &[
-            item,
-            b" ",
-            bank_word(bank),
-            b" restored level ",
-            level,
-            b"\n",
-        ],
-    )
-}
-
 /// Writes the line of a note. At `Err` a prefix of it was written.
 #[tactic(auto, unfolding(crate::specs::Texts::note_text))]
 pub fn write_note<K: Sink>(note: &Note, out: &mut K) -> Result<(), SinkFail>
@@ -150,7 +128,14 @@ pub fn write_note<K: Sink>(note: &Note, out: &mut K) -> Result<(), SinkFail>
             write_pieces(out, &[item, b" lost", lost_word(device), b"\n"])
         }
         What::Untrusted { bank, why } => write_untrusted(note.item, bank, why, out),
-        What::Restored { bank, level } => write_restored(note.item, bank, level, out),
+        What::Restored { bank, level } => {
+            let mut buffer = Buffer::new();
+            let level = buffer.format(level).as_bytes();
+            write_pieces(
+                out,
+                &[item, b" ", bank_word(bank), b" restored level ", level, b"\n"],
+            )
+        }
         What::Provisioned => write_pieces(out, &[item, b" provisioned\n"]),
         What::ProvisionRefused { why } => write_pieces(
             out,
