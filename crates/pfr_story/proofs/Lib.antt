@@ -15,3 +15,4 @@ pub mod LossLaws
 pub mod RecoverableLaws
 pub mod Bytes
 pub mod SpanLaws
+pub mod SpanSteps
