@@ -25,3 +25,4 @@ pub mod StoreLaws
 pub mod EventLaws
 pub mod ProvisionLaws
 pub mod GrowthLaws
+pub mod SpanSteps

@@ -109,7 +109,7 @@ ended_closes : (P : Counts → Counts → Type 0) (end : Counts) (opens : List C
 ended_closes P end [] p = tt
 ended_closes P end (begin ∷ begins) p = (p.0, ended_closes P end begins p.1)
 
-open_map : (P Q : Counts → Type 0) → ((begin : Counts) → P begin → Q begin) → (opens : List Counts) → AllOpen P opens → AllOpen Q opens
+pub open_map : (P Q : Counts → Type 0) → ((begin : Counts) → P begin → Q begin) → (opens : List Counts) → AllOpen P opens → AllOpen Q opens
 open_map P Q f [] p = tt
 open_map P Q f (begin ∷ begins) p = (f begin p.0, open_map P Q f begins p.1)
 
