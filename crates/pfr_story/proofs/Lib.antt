@@ -3,6 +3,7 @@ pub mod Sequence
 pub mod Lift
 pub mod SafetyLaws
 pub mod CallLaws
+pub mod RestoreLaws
 pub mod Courses
 pub mod Traces
 pub mod StepTraces
