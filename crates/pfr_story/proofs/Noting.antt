@@ -85,8 +85,8 @@ module _ (P Q : What → Type 0) (old a b new : World) (notes : List Note) (fron
   added_is : added old new ≡ front.more ++ (notes ++ back.more)
   added_is =
       let whole : new.notes.list ≡ old.notes.list ++ (front.more ++ (notes ++ back.more)) =
-          back.is ∙ ap (λ (xs : List Note). xs ++ back.more) (is ∙ ap (λ (xs : List Note). xs ++ notes) front.is)
-          ∙ append_assoc (old.notes.list ++ front.more) notes back.more ∙ append_assoc old.notes.list front.more (notes ++ back.more) in
+      back.is ∙ ap (λ (xs : List Note). xs ++ back.more) (is ∙ ap (λ (xs : List Note). xs ++ notes) front.is)
+      ∙ append_assoc (old.notes.list ++ front.more) notes back.more ∙ append_assoc old.notes.list front.more (notes ++ back.more) in
       ap (λ (xs : List Note). drop (length old.notes.list) xs) whole ∙ drop-append_seam old.notes.list (front.more ++ (notes ++ back.more))
 
   pub in_added : (that : What) → IsNoted notes that → IsNoted (added old new) that
