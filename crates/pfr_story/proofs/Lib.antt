@@ -17,3 +17,5 @@ pub mod LossLaws
 pub mod TailLaws
 pub mod BringLaws
 pub mod RecoverableLaws
+pub mod Bytes
+pub mod SpanLaws
