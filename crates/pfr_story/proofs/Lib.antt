@@ -11,8 +11,11 @@ pub mod Facts
 pub mod Turns
 pub mod NoteLaws
 pub mod Made
+pub mod Noting
 pub mod FaultLaws
 pub mod LossLaws
+pub mod TailLaws
+pub mod BringLaws
 pub mod RecoverableLaws
 pub mod Bytes
 pub mod MomentLaws
