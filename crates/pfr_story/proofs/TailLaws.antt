@@ -108,7 +108,6 @@ module _ (accepts : Acceptance) (b : Bank) where
   tail_due story why.Unprovisioned h = unready why.Unprovisioned story (rw (fuses_of-blank (store story) h.0 h.1) refl)
   tail_due story why.SlotsSpent h = unready why.SlotsSpent story (rw (fuses_of-spent (store story) h.0 h.1) refl)
   tail_due story (why.Layout rule) h = unready (why.Layout rule) story (rw (h.provisioned, h.broken) refl)
-  tail_due story why.NotRestored h = absurd h
   tail_due story (why.NoGoodImage active cause) h =
       let one : h.1.fuses ≡ h.0.fuses = fuses_one (store story) h.1.fuses h.0.fuses h.1.provisioned h.0.provisioned in
       no_image_locked story active cause h.0 (subst (λ (f : FusesState). judged_recovery accepts b f story ≡ Err cause) one h.1.judged)
