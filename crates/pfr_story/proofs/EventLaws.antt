@@ -29,7 +29,7 @@ use Rattle.pfr_story.specs.Standing.{standing_of, is_off}
 use Rattle.pfr_story.specs.Turn.{off_course, ignored, provision_course, where_off, begun, Turn}
 use Rattle.pfr_story.specs.Promises.{AreOff, IsPower, IsIgnored, StaysQuiet, LostEnds, LostIsDark, BelongsTo, NotesBelong}
 use Rattle.pfr_story.proofs.SafetyLaws.{AllSafe-append}
-use Rattle.pfr_story.proofs.CallLaws.{called_safe}
+use Rattle.pfr_story.proofs.CallLaws.{called_any}
 use Rattle.pfr_story.proofs.Traces.{Traced, Traced-known}
 use Rattle.pfr_story.proofs.Made.{Made, added_said}
 use Rattle.pfr_story.proofs.StepRules.{AllowsBanks, noted_good, power_good, provision_traced}
@@ -75,7 +75,7 @@ module _ (P : What → Type 0) where
   }
 
   call_says : (which : Device) (ops : List Operation) (story : Story) → AllSafe (Saying P) (called which ops) story
-  call_says which ops story = called_safe (Saying P) which (λ later. Unit {0}) (λ op later q. tt) (λ later. tt) ops story (λ added part. tt)
+  call_says which ops story = called_any (Saying P) which (λ op later. tt) (λ later. tt) ops story
 
   migrated_says : (story : Story) → AllSafe (Saying P) (migrated story) story
   migrated_says story = (tt, call_says device.Nv (migration_in (fuses_of (store story))) story)

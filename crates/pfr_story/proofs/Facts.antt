@@ -5,7 +5,6 @@ use Rattle.pfr_flash.specs.FlashState.{Rose}
 use Rattle.pfr_flash.specs.Judging.{◌>>◌, told_as}
 use Rattle.pfr_flash.specs.Layout.{IsValidLayout, judge_layout}
 use Rattle.pfr_flash.specs.Operation.{Operation}
-use Rattle.pfr_flash.specs.declared.layout.Layout.{Layout}
 use Rattle.pfr_flash.specs.declared.layout.LayoutRule.{LayoutRule}
 use Rattle.pfr_flash.specs.declared.names.Bank.{Bank}
 use Rattle.pfr_flash.specs.declared.names.Bank.TheVariants as bank
@@ -24,9 +23,7 @@ use Rattle.pfr_fuses.specs.declared.fuse_fail.FuseFail.TheVariants as fuse
 use Rattle.pfr_fuses.proofs.StandsLemmas.{fuses_of-err}
 use Rattle.pfr_manifest.specs.declared.manifest.Manifest.{Manifest}
 use Rattle.pfr_capsule.specs.CapsuleState.{CapsuleState}
-use Rattle.pfr_capsule.specs.Good.{StandForBank}
 use Rattle.pfr_capsule.specs.declared.fail.CapsuleFail.{CapsuleFail}
-use Rattle.pfr_capsule.proofs.GoodLaw.{judged_good}
 use Rattle.pfr_auth.specs.declared.fail.ActiveFail.{ActiveFail}
 use Rattle.pfr_auth.proofs.TrustedLaw.{judged_trusted, stands_whole, trusted_found}
 use Rattle.pfr_recoverable.specs.Recoverable.{HasGoodRecovery}
@@ -41,7 +38,8 @@ use Rattle.pfr_story.specs.Plans.{mine, store, ready_in, ready_of, judged_active
 use Rattle.pfr_story.specs.Causes.{IsTrustedWith, IsNotTrusted, IsAgainst, IsRestorable, IsDue}
 use Rattle.pfr_story.specs.Turn.{fault_of}
 use Rattle.pfr_story.proofs.SafetyLaws.{Leads-then}
-use Rattle.pfr_story.proofs.CallLaws.{image_noted, image_operated, called_safe, AllMake-append, AllMake-called}
+use Rattle.pfr_story.proofs.CallLaws.{image_noted, image_operated, store_operated, called_any, AllMake-append, AllMake-called}
+use Rattle.pfr_story.proofs.RestoreLaws.{found_good}
 use Rattle.pfr_story.proofs.Traces.{Precedes, Precedes-refl, Precedes-after}
 
 -- What is looked at: the worlds at the two ends, the engine, and where the power is switched off.
@@ -81,7 +79,7 @@ IsTrue s (Asks which) story = Unit {0}
 
 -- operations say nothing
 pub call_true : (s : Setting) (which : Device) (ops : List Operation) (story : Story) → AllSafe (IsTrue s) (called which ops) story
-call_true s which ops story = called_safe (IsTrue s) which (λ later. Unit {0}) (λ op here q. tt) (λ here. tt) ops story (λ added part. tt)
+call_true s which ops story = called_any (IsTrue s) which (λ op here. tt) (λ here. tt) ops story
 
 -- ---- a bank is brought up
 -- its fuses are these, and its layout is valid
@@ -94,16 +92,12 @@ ready_noted b fuses w story r =
     let same : mine b story ≡ mine b (noted w story) = sym (image_noted (device_of b) w story) in
     record { provisioned = r.provisioned; layout = subst (λ (image : List ℕ). IsValidLayout (layout_of fuses.provision b) (length image)) same r.layout }
 
-store_stays : (b : Bank) (op : Operation) (story : Story) → store (operated (device_of b) op story) ≡ store story
-store_stays bank.Bmc op story = refl
-store_stays bank.Pch op story = refl
-
 ready_operated : (b : Bank) (fuses : FusesState) (op : Operation) (story : Story) → IsReady b fuses story → IsReady b fuses (operated (device_of b) op story)
 ready_operated b fuses op story r =
     let same : length (mine b (operated (device_of b) op story)) ≡ length (mine b story) =
     ap (λ (image : List ℕ). length image) (image_operated (device_of b) op story) ∙ length-applied (mine b story) op in
     record {
-      provisioned = subst (λ (nv : List ℕ). fuses_of nv ≡ Ok fuses) (sym (store_stays b op story)) r.provisioned;
+      provisioned = subst (λ (nv : List ℕ). fuses_of nv ≡ Ok fuses) (sym (store_operated b op story)) r.provisioned;
       layout = subst (λ (n : ℕ). IsValidLayout (layout_of fuses.provision b) n) (sym same) r.layout;
     }
 
@@ -123,13 +117,7 @@ not_trusted cause b image nv accepts a = record {
 module _ (s : Setting) (b : Bank) where
   good_recovery : (fuses : FusesState) (capsule : CapsuleState) (story : Story) → IsReady b fuses story → AreBytes (mine b story) → judged_recovery s.accepts b fuses story ≡ Ok capsule → HasGoodRecovery b (mine b story) (store story) s.accepts
   good_recovery fuses capsule story r bytes j =
-      let stands : StandForBank (store story) fuses b = record { all = fuses; provisioned = r.provisioned; provision = refl; floor = refl; capsule_row = refl; manifest_row = refl } in
-      let layout : Layout = layout_of fuses.provision b in
-      record {
-        fuses = fuses;
-        provisioned = r.provisioned;
-        good = (judged_good (mine b story) (store story) layout.recovery_at layout.area_len b s.accepts fuses capsule stands r.layout bytes j).0;
-      }
+      record { fuses = fuses; provisioned = r.provisioned; good = (found_good s.accepts b fuses capsule story r.provisioned r.layout bytes j).0 }
 
   -- what is released by a check is trusted
   trusted_with : (fuses : FusesState) (m : Manifest) (story : Story) → IsReady b fuses story → judged_active s.accepts b fuses story ≡ Ok m

@@ -22,7 +22,7 @@ use Rattle.pfr_story.proofs.Facts.{Setting, LockFact}
 use Rattle.pfr_story.proofs.Turns.{step_of, Turn-known}
 
 -- ---- what was held at a moment, by the counts then
-bank_then : (which : Bank) (at : Story) (new : World) → Precedes at (story_of new) → upto (state_at (device_of which) new) (count_at which (counts_of at)) ≡ mine which at
+pub bank_then : (which : Bank) (at : Story) (new : World) → Precedes at (story_of new) → upto (state_at (device_of which) new) (count_at which (counts_of at)) ≡ mine which at
 bank_then bank.Bmc at new p = upto_begins at.bmc (story_of new).bmc p.bmc
 bank_then bank.Pch at new p = upto_begins at.pch (story_of new).pch p.pch
 
@@ -32,7 +32,7 @@ pub at_moment : (P : List ℕ → List ℕ → Type 0) (which : Bank) (at : Stor
 at_moment P which at counts new e p h =
     rw e (subst (λ (image : List ℕ). P image (upto new.nv (counts_of at).nv)) (sym (bank_then which at new p)) (subst (λ (nv : List ℕ). P (mine which at) nv) (sym (upto_begins at.nv (story_of new).nv p.nv)) h))
 
-lock_due : (s : Setting) (cause : LockWhy) (which : Bank) (at : Story) → ¬ IsFaultLock cause → AreBytes (mine which at) → LockFact s cause which at → IsDue cause which (mine which at) (store at) s.accepts
+pub lock_due : (s : Setting) (cause : LockWhy) (which : Bank) (at : Story) → ¬ IsFaultLock cause → AreBytes (mine which at) → LockFact s cause which at → IsDue cause which (mine which at) (store at) s.accepts
 lock_due s why.FlashFault which at n bytes p = absurd (n tt)
 lock_due s why.StoreFault which at n bytes p = absurd (n tt)
 lock_due s why.Unprovisioned which at n bytes p = p bytes

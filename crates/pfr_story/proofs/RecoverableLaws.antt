@@ -21,7 +21,7 @@ use Rattle.pfr_story.specs.Safety.{IsSafe, AllSafe, Keeps}
 use Rattle.pfr_story.specs.declared.stop.Stop.{Stop}
 use Rattle.pfr_story.specs.Plans.{mine, store}
 use Rattle.pfr_story.specs.Recovery.{HoldsIn, LeavesTrue, KeepsRecoverable}
-use Rattle.pfr_story.proofs.CallLaws.{image_noted, called_safe}
+use Rattle.pfr_story.proofs.CallLaws.{image_noted, called_any}
 use Rattle.pfr_story.proofs.Traces.{Traced, Traced-keeps, Traced-whole, Traced-cut}
 use Rattle.pfr_story.proofs.Lift.{other_bank, image_deeds}
 
@@ -32,7 +32,7 @@ other_left R bank.Pch op story h = h
 
 pub other_safe : (R : List ℕ → List ℕ → Type 0) (b : Bank) (ops : List Operation) (story : Story) → AllSafe (LeavesTrue R b) (called (device_of (other_bank b)) ops) story
 other_safe R b ops story =
-    called_safe (LeavesTrue R b) (device_of (other_bank b)) (λ later. Unit {0}) (λ op here q. other_left R b op here) (λ here. tt) ops story (λ added part. tt)
+    called_any (LeavesTrue R b) (device_of (other_bank b)) (λ op here. other_left R b op here) (λ here. tt) ops story
 
 -- So it is kept by moves that leave it true.
 pub true_kept : (R : List ℕ → List ℕ → Type 0) (b : Bank) → Keeps (LeavesTrue R b) (HoldsIn R b)

@@ -27,10 +27,8 @@ use Rattle.pfr_fuses.proofs.StandsLemmas.{fuses_of-ok}
 use Rattle.pfr_manifest.specs.Regions.{IsRegion}
 use Rattle.pfr_manifest.specs.declared.manifest.Manifest.{Manifest}
 use Rattle.pfr_capsule.specs.CapsuleState.{CapsuleState}
-use Rattle.pfr_capsule.specs.Good.{StandForBank}
 use Rattle.pfr_capsule.specs.declared.fail.CapsuleFail.{CapsuleFail}
 use Rattle.pfr_capsule.proofs.GoodFacts.{good_regions}
-use Rattle.pfr_capsule.proofs.GoodLaw.{judged_good}
 use Rattle.pfr_auth.specs.declared.fail.ActiveFail.{ActiveFail}
 use Rattle.pfr_jobs.specs.declared.job.JobKind.TheVariants.{ActiveFromRecovery}
 use Rattle.pfr_recoverable.specs.Recoverable.{HasGoodRecovery}
@@ -41,7 +39,7 @@ use Rattle.pfr_report.specs.declared.note.LockWhy.TheVariants as why
 use Rattle.pfr_report.specs.declared.note.What.{What}
 use Rattle.pfr_report.specs.declared.note.What.TheVariants as what
 use Rattle.pfr_story.specs.Story.{Story, Says, noted, device_of, called, after}
-use Rattle.pfr_story.specs.World.{World, story_of, past_of, AllMoved}
+use Rattle.pfr_story.specs.World.{World, story_of, AllMoved}
 use Rattle.pfr_story.specs.Safety.{Rule, AllGood, AllSafe}
 use Rattle.pfr_story.specs.Course.{Stretch, Course, Steps, Follows}
 use Rattle.pfr_story.specs.Standing.{standing_of, is_off}
@@ -50,9 +48,10 @@ use Rattle.pfr_story.specs.Turn.{bank_stretch, fuse_stretch, provision_stretch, 
 use Rattle.pfr_story.specs.Recovery.{HoldsIn, LeavesTrue, StaysRecoverable}
 use Rattle.pfr_story.proofs.WorldLaws.{AllMoved-refl, AllMoved-trans}
 use Rattle.pfr_story.proofs.SafetyLaws.{AllSafe-append}
-use Rattle.pfr_story.proofs.CallLaws.{image_noted, called_safe}
+use Rattle.pfr_story.proofs.CallLaws.{image_noted, called_any}
+use Rattle.pfr_story.proofs.RestoreLaws.{found_good}
 use Rattle.pfr_story.proofs.Courses.{Steps-moved}
-use Rattle.pfr_story.proofs.Traces.{Traced, Traced-then, Traced-ran, Traced-whole, Traced-cut, Begins, AreImages}
+use Rattle.pfr_story.proofs.Traces.{Traced, Traced-then, Traced-ran, Traced-whole, Traced-cut, precedes_moved, AreImages}
 use Rattle.pfr_story.proofs.StepTraces.{Between, AllowsLosses, IsGoodStretch, AreGood, AreGood-none, AreGood-next, Follows-good}
 use Rattle.pfr_story.proofs.Bytes.{HaveBytes, images_then}
 use Rattle.pfr_story.proofs.RecoverableLaws.{other_safe}
@@ -86,8 +85,7 @@ module _ (accepts : Acceptance) (b : Bank) where
   own_copy fuses capsule story sized read valid judged =
       let layout : Layout = layout_of fuses.provision b in
       let image : List ℕ = mine b story in
-      let stands : StandForBank (store story) fuses b = record { all = fuses; provisioned = read; provision = refl; floor = refl; capsule_row = refl; manifest_row = refl } in
-      let found = judged_good image (store story) layout.recovery_at layout.area_len b accepts fuses capsule stands valid (sized.images (device_of b)) judged in
+      let found = found_good accepts b fuses capsule story read valid (sized.images (device_of b)) judged in
       let same : found.0.fuses ≡ fuses = fuses_one (store story) found.0.fuses fuses found.0.provisioned read in
       let regions : All (IsRegion (layout_of found.0.fuses.provision b) (length image)) found.0.capsule.manifest.regions = good_regions image (store story) layout.recovery_at layout.area_len b accepts found.0 in
       let here : All (IsRegion layout (length image)) found.0.capsule.manifest.regions =
@@ -190,7 +188,7 @@ module _ (accepts : Acceptance) (b : Bank) (first last : World) where
 
 -- ---- a provision makes no moment before it ends
 call_quiet : (ops : List Operation) (story : Story) → AllSafe NoMoments (called device.Nv ops) story
-call_quiet ops story = called_safe NoMoments device.Nv (λ later. Unit {0}) (λ op here q. tt) (λ here. tt) ops story (λ added part. tt)
+call_quiet ops story = called_any NoMoments device.Nv (λ op here. tt) (λ here. tt) ops story
 
 tried_quiet : (root : RootSlot) (judged : Result ℕ FuseFail) (story : Story) → AllSafe NoMoments (provisioned_in root judged story) story
 tried_quiet root (Ok number) story =
@@ -201,15 +199,12 @@ provisioned_quiet : (root : RootSlot) (story : Story) → AllSafe NoMoments (pro
 provisioned_quiet root story = (tt, tried_quiet root (judge_provision (store story) root (length story.bmc.start) (length story.pch.start)) story)
 
 -- ---- the devices' sizes
-moved_begins : (old new : FlashState) → Moved old new → Begins (past_of old) (past_of new)
-moved_begins old new m = record { start = m.start; more = m.ops.more; ops = m.ops.is }
-
 same_size : (old new : FlashState) → Moved old new → length new.start ≡ length old.start
 same_size old new m = ap (λ (start : List ℕ). length start) m.start
 
 sized_world : (w last : World) → HaveBytes last → IsBankSize (size_of last.bmc) → IsBankSize (size_of last.pch) → size_of last.nv ≡ 32768 → AllMoved w last → IsSized (story_of w)
 sized_world w last held bmc pch nv m = record {
-  images = images_then (story_of w) last (record { bmc = moved_begins w.bmc last.bmc m.bmc; pch = moved_begins w.pch last.pch m.pch; nv = moved_begins w.nv last.nv m.nv }) held;
+  images = images_then (story_of w) last (precedes_moved w last m) held;
   blocks = by_bank;
   store_size = length-play w.nv.start w.nv.ops ∙ sym (same_size w.nv last.nv m.nv) ∙ nv;
 }

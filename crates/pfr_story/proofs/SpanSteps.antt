@@ -43,8 +43,7 @@ use Rattle.pfr_story.specs.Course.{Stretch, Course, Follows}
 use Rattle.pfr_story.specs.Turn.{fault_of, bank_stretch, fuse_stretch, provision_stretch, where_off, ignored, off_course, power_course, provision_course, begun, Turn}
 use Rattle.pfr_story.proofs.WorldLaws.{AllMoved-refl}
 use Rattle.pfr_story.proofs.SafetyLaws.{AllSafe-append, Leads-then, safe_whole, safe_cut, kept_by}
-use Rattle.pfr_story.proofs.CallLaws.{notes_operated}
-use Rattle.pfr_story.proofs.RestoreLaws.{image_called}
+use Rattle.pfr_story.proofs.CallLaws.{notes_operated, image_called}
 use Rattle.pfr_story.proofs.Traces.{Traced, Traced-keeps}
 use Rattle.pfr_story.proofs.StepTraces.{IsGoodStretch, AreGood, AreGood-none, AreGood-next, Follows-good}
 use Rattle.pfr_story.proofs.FuseLaws.{profile_migrated, profile_kept, provisioned_refused}

@@ -25,7 +25,7 @@ use Rattle.pfr_story.specs.Plans.{mine, restore_ops, copied, restored, by_second
 use Rattle.pfr_story.specs.Turn.{fault_of, bank_stretch, fuse_stretch, provision_stretch, power_course, provision_course}
 use Rattle.pfr_story.proofs.WorldLaws.{AllMoved-refl}
 use Rattle.pfr_story.proofs.SafetyLaws.{AllSafe-append}
-use Rattle.pfr_story.proofs.CallLaws.{called_safe}
+use Rattle.pfr_story.proofs.CallLaws.{called_any}
 use Rattle.pfr_story.proofs.Traces.{Traced}
 use Rattle.pfr_story.proofs.StepTraces.{IsGoodStretch, AreGood, AreGood-none, AreGood-next, Follows-good}
 
@@ -51,7 +51,7 @@ module _ (G : Rule) (h : AllowsBanks G) where
         let layout : Layout = layout_of fuses.provision b in
         let ops : List Operation = restore_ops level (mine b story) capsule layout in
         let call : AllSafe G (called (device_of b) ops) story =
-        called_safe G (device_of b) (λ later. Unit {0}) (λ op here q. h.works b op here) (λ here. h.asks (device_of b) here) ops story (λ added part. tt) in
+        called_any G (device_of b) (λ op here. h.works b op here) (λ here. h.asks (device_of b) here) ops story in
         AllSafe-append G (copied b level fuses capsule story) (Says (λ _. what.Restored b level) ∷ []) story call
         (h.restored b level (after (copied b level fuses capsule story) story), tt)
 

@@ -15,7 +15,6 @@ use Rattle.pfr_fuses.specs.RootSlot.{layout_of}
 use Rattle.pfr_fuses.proofs.StandsLemmas.{fuses_of-blank, fuses_of-spent}
 use Rattle.pfr_manifest.specs.declared.manifest.Manifest.{Manifest}
 use Rattle.pfr_capsule.specs.CapsuleState.{CapsuleState}
-use Rattle.pfr_capsule.specs.Good.{StandForBank}
 use Rattle.pfr_capsule.specs.declared.fail.CapsuleFail.{CapsuleFail}
 use Rattle.pfr_capsule.proofs.GoodLaw.{good_found}
 use Rattle.pfr_auth.specs.Areas.{judge_area}
@@ -35,16 +34,16 @@ use Rattle.pfr_report.specs.declared.note.LockWhy.TheVariants as why
 use Rattle.pfr_report.specs.declared.note.Note.{Note}
 use Rattle.pfr_report.specs.declared.note.What.{What}
 use Rattle.pfr_report.specs.declared.note.What.TheVariants as what
-use Rattle.pfr_story.specs.Story.{Story, Move, Says, after, noted, counts_of, past_at, device_of, called}
+use Rattle.pfr_story.specs.Story.{Past, Story, Move, Says, after, noted, counts_of, past_at, device_of, called}
 use Rattle.pfr_story.specs.Plans.{mine, store, ready_of, judged_active, judged_recovery, restore_ops, restored, by_second, checked_again, by_recovery, by_active, by_ready, brought_up}
 use Rattle.pfr_story.specs.Promises.{count_at}
 use Rattle.pfr_story.specs.Causes.{IsNotTrusted, IsAgainst, IsDue, IsRestorable}
 use Rattle.pfr_story.specs.Bringing.{ReleasedSoon}
 use Rattle.pfr_story.proofs.Sequence.{after-append}
-use Rattle.pfr_story.proofs.CallLaws.{image_noted, AllMake-append, AllMake-called}
+use Rattle.pfr_story.proofs.CallLaws.{image_noted, past_called, AllMake-append, AllMake-called}
 use Rattle.pfr_story.proofs.Made.{said}
 use Rattle.pfr_story.proofs.Noting.{noted_first, noted_next, Whichever, AllSay, said_all}
-use Rattle.pfr_story.proofs.RestoreLaws.{called_after, RestoresFrom, restored_judged}
+use Rattle.pfr_story.proofs.RestoreLaws.{stand_for, RestoresFrom, restored_judged}
 
 -- ---- what is noted behind Held
 count_is : (b : Bank) (story : Story) → count_at b (counts_of story) ≡ length (past_at (device_of b) story).ops
@@ -117,10 +116,9 @@ module _ (accepts : Acceptance) (b : Bank) where
   -- ---- a good recovery area
   good_is : (story : Story) (g : HasGoodRecovery b (mine b story) (store story) accepts) (fuses : FusesState) → fuses_of (store story) ≡ Ok fuses → judged_recovery accepts b fuses story ≡ Ok g.good.capsule
   good_is story g fuses f =
-      let stands : StandForBank (store story) g.fuses b = record { all = g.fuses; provisioned = g.provisioned; provision = refl; floor = refl; capsule_row = refl; manifest_row = refl } in
       let layout : Layout = layout_of g.fuses.provision b in
       subst (λ (x : FusesState). judged_recovery accepts b x story ≡ Ok g.good.capsule) (fuses_one (store story) g.fuses fuses g.provisioned f)
-      (good_found (mine b story) (store story) layout.recovery_at layout.area_len b accepts g.fuses stands g.good)
+      (good_found (mine b story) (store story) layout.recovery_at layout.area_len b accepts g.fuses (stand_for (store story) g.fuses b g.provisioned) g.good)
 
   good_layout : (story : Story) (g : HasGoodRecovery b (mine b story) (store story) accepts) → IsValidLayout (layout_of g.fuses.provision b) (length (mine b story))
   good_layout story g =
@@ -162,7 +160,7 @@ module _ (accepts : Acceptance) (b : Bank) where
       let ops : List Operation = restore_ops 1 (mine b story) capsule (layout_of fuses.provision b) in
       let then_story : Story = after (called (device_of b) ops) story in
       ap (λ (s : Story). count_at b (counts_of s)) (after-append (called (device_of b) ops) (Says (λ _. what.Restored b 1) ∷ []) story)
-      ∙ count_is b then_story ∙ ap (λ (xs : List Operation). length xs) (called_after b ops story).added
+      ∙ count_is b then_story ∙ ap (λ (p : Past). length p.ops) (past_called (device_of b) ops story)
       ∙ length-append (past_at (device_of b) story).ops ops ∙ ap (λ (n : ℕ). n + length ops) (sym (count_is b story))
 
   restore_few : (image : List ℕ) (capsule : CapsuleState) (layout : Layout) → length (restore_ops 1 image capsule layout) ≤ 17 * (length image / 4096)
