@@ -12,7 +12,7 @@ use Rattle.pfr_flash.proofs.PlayLemmas.{play_push, play-append}
 use Rattle.pfr_report.specs.declared.note.What.{What}
 use Rattle.pfr_story.specs.Story.{Past, Story, Move, Says, Does, Asks, after, noted, operated, with_op, past_at, image_of, image_at, device_of, all_do, called, FailedAt, asking, unbegun, torn, IsCut}
 use Rattle.pfr_story.specs.Safety.{Rule, AllSafe, AllMake}
-use Rattle.pfr_story.specs.Plans.{store}
+use Rattle.pfr_story.specs.Plans.{mine, store}
 use Rattle.pfr_story.proofs.Sequence.{after-append}
 
 pub image_noted : (which : Device) (what : Counts → What) (story : Story) → image_at which (noted what story) ≡ image_at which story
@@ -59,6 +59,11 @@ image_called which ops story = ap (λ (p : Past). image_of p) (past_called which
 pub store_operated : (b : Bank) (op : Operation) (story : Story) → store (operated (device_of b) op story) ≡ store story
 store_operated bank.Bmc op story = refl
 store_operated bank.Pch op story = refl
+
+-- and the store leaves the banks
+pub mine_operated : (b : Bank) (op : Operation) (story : Story) → mine b (operated device.Nv op story) ≡ mine b story
+mine_operated bank.Bmc op story = refl
+mine_operated bank.Pch op story = refl
 
 pub store_called : (b : Bank) (ops : List Operation) (story : Story) → store (after (called (device_of b) ops) story) ≡ store story
 store_called b [] story = refl

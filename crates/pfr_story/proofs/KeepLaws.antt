@@ -43,7 +43,7 @@ use Rattle.pfr_story.specs.Story.{Story, Does, operated, device_of, called}
 use Rattle.pfr_story.specs.Safety.{AllSafe}
 use Rattle.pfr_story.specs.Plans.{mine, store, migration_by, migration_in}
 use Rattle.pfr_story.specs.Recovery.{LeavesTrue}
-use Rattle.pfr_story.proofs.CallLaws.{image_operated, image_did, store_operated, called_safe}
+use Rattle.pfr_story.proofs.CallLaws.{image_operated, image_did, store_operated, mine_operated, called_safe}
 use Rattle.pfr_story.proofs.FuseLaws.{part_holds}
 
 -- a good capsule stands in the bank's recovery area
@@ -201,14 +201,10 @@ recovery_says accepts b image nv later fuses before behind r =
     let same : r.fuses ≡ record fuses { profile = profile_of nv } = fuses_one nv r.fuses (record fuses { profile = profile_of nv }) r.provisioned before in
     recovery_still accepts b image nv later r (subst (λ (kept : FusesState). StandForBank later kept b) (sym same) (says_stand fuses (profile_of nv) b later behind))
 
-mine_kept : (b : Bank) (op : Operation) (story : Story) → mine b (operated device.Nv op story) ≡ mine b story
-mine_kept bank.Bmc op story = refl
-mine_kept bank.Pch op story = refl
-
 module _ (accepts : Acceptance) (b : Bank) (story : Story) (size : length (store story) ≡ 32768) (small : AreBytes (store story)) where
   store_keeps : (fuses : FusesState) (op : Operation) (here : Story) → SaysFuses fuses (store here) → SaysFuses fuses (store (operated device.Nv op here)) → LeavesTrue (GoodRecovery accepts b) b (Does device.Nv op) here
   store_keeps fuses op here before behind r =
-      subst (λ (image : List ℕ). HasGoodRecovery b image (store (operated device.Nv op here)) accepts) (sym (mine_kept b op here))
+      subst (λ (image : List ℕ). HasGoodRecovery b image (store (operated device.Nv op here)) accepts) (sym (mine_operated b op here))
       (recovery_says accepts b (mine b here) (store here) (store (operated device.Nv op here)) fuses before behind r)
 
   profile_safe : (fuses : FusesState) (p : Profile) → fuses_of (store story) ≡ Ok fuses → fuses.profile ≡ p → AllSafe (LeavesTrue (GoodRecovery accepts b) b) (called device.Nv (migration_by p fuses)) story

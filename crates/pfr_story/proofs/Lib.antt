@@ -28,4 +28,5 @@ pub mod StoreLaws
 pub mod EventLaws
 pub mod ProvisionLaws
 pub mod GrowthLaws
+pub mod ContentsLaws
 pub mod SpanSteps

@@ -59,7 +59,7 @@ one_slot nv a b p q = elim (cases_lt a b) [
   | inr more ↦ elim (cases_lt b a) [ inl less ↦ absurd (p.first b less q.gate) | inr same ↦ omega (arith, more, same) ]
 ]
 
-provisioned_so : (nv : List ℕ) (root : RootSlot) (m n number : ℕ) → length nv ≡ 32768 → IsSlot root → judge_provision nv root m n ≡ Ok number
+pub provisioned_so : (nv : List ℕ) (root : RootSlot) (m n number : ℕ) → length nv ≡ 32768 → IsSlot root → judge_provision nv root m n ≡ Ok number
     → IsProvisionedBy (play nv (provision_plan number root)) number × (provision_in (slot_at (play nv (provision_plan number root)) number) ≡ root)
 unfolding ready
 provisioned_so nv root m n number size slot j =

@@ -13,7 +13,7 @@ use Rattle.pfr_strokes.specs.declared.side.Side.TheVariants as side
 use Rattle.pfr_recoverable.specs.Recoverable.{IsRecoverable}
 use Rattle.pfr_recoverable.proofs.CutLaw.{IsAtWork, work_kept, bank_after, store_after}
 use Rattle.pfr_recoverable.proofs.PassLaw.{IsPassDeed, AllPassDeeds, one_deed, same_current}
-use Rattle.pfr_story.specs.Story.{Story, Says, Does, Asks, moved_by, operated, device_of, called}
+use Rattle.pfr_story.specs.Story.{Story, Says, Does, Asks, moved_by, operated, device_of, other_bank, called}
 use Rattle.pfr_story.specs.Deeds.{deed_move, deed_moves}
 use Rattle.pfr_story.specs.World.{World, story_of}
 use Rattle.pfr_story.specs.Goes.{Goes}
@@ -23,7 +23,7 @@ use Rattle.pfr_story.specs.Plans.{mine, store}
 use Rattle.pfr_story.specs.Recovery.{HoldsIn, LeavesTrue, KeepsRecoverable}
 use Rattle.pfr_story.proofs.CallLaws.{image_noted, called_any}
 use Rattle.pfr_story.proofs.Traces.{Traced, Traced-keeps, Traced-whole, Traced-cut}
-use Rattle.pfr_story.proofs.Lift.{other_bank, image_deeds}
+use Rattle.pfr_story.proofs.Lift.{image_deeds}
 
 -- What is true of a bank's bytes and the store's is left so by a call of the other bank's device.
 other_left : (R : List ℕ → List ℕ → Type 0) (b : Bank) (op : Operation) (story : Story) → HoldsIn R b story → HoldsIn R b (operated (device_of (other_bank b)) op story)

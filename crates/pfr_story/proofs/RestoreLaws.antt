@@ -42,7 +42,7 @@ module _ (b : Bank) (level : ℕ) (fuses : FusesState) (capsule : CapsuleState) 
       ∙ image_noted device.Nv (λ _. Restored b level) (after (copied b level fuses capsule story) story)
       ∙ store_called b (restore_ops level (mine b story) capsule (layout_of fuses.provision b)) story
 
-not_recovery : (level : ℕ) → ¬ (ActiveFromRecovery level ≡ RecoveryFromStaging)
+pub not_recovery : (level : ℕ) → ¬ (ActiveFromRecovery level ≡ RecoveryFromStaging)
 not_recovery level e = absurd cc
 
 -- ---- it leaves an image that is trusted, by the capsule's manifest
