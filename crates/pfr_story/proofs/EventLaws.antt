@@ -65,13 +65,15 @@ module _ (P : What → Type 0) where
   saying_banks : HoldsOfBanks P → AllowsBanks (Saying P)
   saying_banks h = record {
     held = λ b story. h.held b (counts_of story);
-    released = λ b svn story. h.released b svn (counts_of story);
-    locked = λ b cause story. h.locked b cause (counts_of story);
-    untrusted = λ b cause story. h.untrusted b cause;
-    restored = λ b level story. h.restored b level;
+    bank = λ b. record {
+      released = λ svn story. h.released b svn (counts_of story);
+      locked = λ cause story. h.locked b cause (counts_of story);
+      untrusted = λ cause story. h.untrusted b cause;
+      restored = λ level story. h.restored b level;
+      asks = λ which story own. tt;
+      works = λ op story. tt;
+    };
     lost = λ which story. h.lost which (counts_of story);
-    asks = λ which story. tt;
-    works = λ b op story. tt;
   }
 
   call_says : (which : Device) (ops : List Operation) (story : Story) → AllSafe (Saying P) (called which ops) story

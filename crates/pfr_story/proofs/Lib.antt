@@ -4,6 +4,7 @@ pub mod Lift
 pub mod SafetyLaws
 pub mod CallLaws
 pub mod RestoreLaws
+pub mod BringRules
 pub mod Courses
 pub mod Traces
 pub mod StepTraces

@@ -29,7 +29,8 @@ use Rattle.pfr_story.proofs.CallLaws.{AllMake-append, AllMake-more, cut_makes}
 use Rattle.pfr_story.proofs.Traces.{noted_append, noted_right}
 use Rattle.pfr_story.proofs.Made.{said, said_append, Made, made_then, added_said}
 use Rattle.pfr_story.proofs.Noting.{Whichever, said_all}
-use Rattle.pfr_story.proofs.Facts.{IsOwn, IsLoss, IsNoLoss, brought_makes}
+use Rattle.pfr_story.proofs.BringRules.{IsOwn}
+use Rattle.pfr_story.proofs.Facts.{IsLoss, IsNoLoss, brought_makes}
 use Rattle.pfr_story.proofs.Turns.{step_of, Turn-known, IsStore, migrated_makes, provisioned_makes}
 
 -- ---- moves that note no loss

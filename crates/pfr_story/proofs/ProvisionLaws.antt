@@ -106,13 +106,15 @@ module _ (root : RootSlot) (judged : Result ℕ FuseFail) (base : Past) where
   backing_banks : AllowsBanks (Backing root judged base)
   backing_banks = record {
     held = λ b story. tt;
-    released = λ b svn story. tt;
-    locked = λ b cause story. tt;
-    untrusted = λ b cause story. tt;
-    restored = λ b level story. tt;
+    bank = λ b. record {
+      released = λ svn story. tt;
+      locked = λ cause story. tt;
+      untrusted = λ cause story. tt;
+      restored = λ level story. tt;
+      asks = λ which story own. tt;
+      works = λ op story. tt;
+    };
     lost = λ which story. tt;
-    asks = λ which story. tt;
-    works = λ b op story. tt;
   }
 
   provision_backed : (r : Result ℕ FuseFail) (story : Story) → judged ≡ r → story.nv ≡ base → AllSafe (Backing root judged base) (provisioned_in root r story) story

@@ -2,18 +2,15 @@
 use Rattle.std.proofs.Common.{◌≡◌, ◌∙◌, refl, sym, ap, subst, ℕ, ◌%◌, Bool, true, false, List, [], ◌∷◌, length, All, inl, inr, Result, Ok, Err}
 use Rattle.pfr_flash.specs.Bytes.{AreBytes}
 use Rattle.pfr_flash.specs.FlashState.{FlashState, size_of}
-use Rattle.pfr_flash.specs.Judging.{◌>>◌, told_as}
-use Rattle.pfr_flash.specs.Layout.{IsBankSize, IsValidLayout, judge_layout}
+use Rattle.pfr_flash.specs.Layout.{IsBankSize, IsValidLayout}
 use Rattle.pfr_flash.specs.Moved.{Moved}
 use Rattle.pfr_flash.specs.Operation.{Operation}
 use Rattle.pfr_flash.specs.declared.layout.Layout.{Layout}
-use Rattle.pfr_flash.specs.declared.layout.LayoutRule.{LayoutRule}
 use Rattle.pfr_flash.specs.declared.names.Bank.{Bank}
 use Rattle.pfr_flash.specs.declared.names.Bank.TheVariants as bank
 use Rattle.pfr_flash.specs.declared.names.Counts.{Counts}
 use Rattle.pfr_flash.specs.declared.names.Device.TheVariants as device
 use Rattle.pfr_flash.specs.declared.flash.FlashFail.TheVariants.{Fault, Lost as Loses}
-use Rattle.pfr_flash.proofs.LayoutLemmas.{judged_valid}
 use Rattle.pfr_flash.proofs.PlayLemmas.{length-play}
 use Rattle.pfr_engine.specs.Acceptance.{Acceptance}
 use Rattle.pfr_fuses.specs.FusesState.{FusesState}
@@ -25,17 +22,13 @@ use Rattle.pfr_fuses.specs.declared.root_slot.RootSlot.{RootSlot}
 use Rattle.pfr_fuses.proofs.BlankLemmas.{judged-ok}
 use Rattle.pfr_fuses.proofs.StandsLemmas.{fuses_of-ok}
 use Rattle.pfr_manifest.specs.Regions.{IsRegion}
-use Rattle.pfr_manifest.specs.declared.manifest.Manifest.{Manifest}
 use Rattle.pfr_capsule.specs.CapsuleState.{CapsuleState}
-use Rattle.pfr_capsule.specs.declared.fail.CapsuleFail.{CapsuleFail}
 use Rattle.pfr_capsule.proofs.GoodFacts.{good_regions}
-use Rattle.pfr_auth.specs.declared.fail.ActiveFail.{ActiveFail}
 use Rattle.pfr_jobs.specs.declared.job.JobKind.TheVariants.{ActiveFromRecovery}
 use Rattle.pfr_recoverable.specs.Recoverable.{HasGoodRecovery}
 use Rattle.pfr_recoverable.proofs.StaysLaw.{fuses_one}
 use Rattle.pfr_script.specs.declared.event.Event.{Event}
 use Rattle.pfr_script.specs.declared.event.Event.TheVariants as event
-use Rattle.pfr_report.specs.declared.note.LockWhy.TheVariants as why
 use Rattle.pfr_report.specs.declared.note.What.{What}
 use Rattle.pfr_report.specs.declared.note.What.TheVariants as what
 use Rattle.pfr_story.specs.Story.{Story, Says, noted, device_of, called, after}
@@ -43,13 +36,14 @@ use Rattle.pfr_story.specs.World.{World, story_of, AllMoved}
 use Rattle.pfr_story.specs.Safety.{Rule, AllGood, AllSafe}
 use Rattle.pfr_story.specs.Course.{Stretch, Course, Steps, Follows}
 use Rattle.pfr_story.specs.Standing.{standing_of, is_off}
-use Rattle.pfr_story.specs.Plans.{mine, store, ready_in, judged_active, judged_recovery, restore_ops, copied, restored, by_second, checked_again, by_recovery, by_active, by_ready, brought_up, migrated, provisioned, provisioned_in}
+use Rattle.pfr_story.specs.Plans.{mine, store, judged_recovery, restore_ops, copied, brought_up, migrated, provisioned, provisioned_in}
 use Rattle.pfr_story.specs.Turn.{bank_stretch, fuse_stretch, provision_stretch, where_off, ignored, power_course, off_course, provision_course, begun, Turn}
 use Rattle.pfr_story.specs.Recovery.{HoldsIn, LeavesTrue, StaysRecoverable}
 use Rattle.pfr_story.proofs.WorldLaws.{AllMoved-refl, AllMoved-trans}
 use Rattle.pfr_story.proofs.SafetyLaws.{AllSafe-append}
 use Rattle.pfr_story.proofs.CallLaws.{image_noted, called_any}
 use Rattle.pfr_story.proofs.RestoreLaws.{found_good}
+use Rattle.pfr_story.proofs.BringRules.{Any, IsReady, ready_noted, ready_found, Walks, walk_safe}
 use Rattle.pfr_story.proofs.Courses.{Steps-moved}
 use Rattle.pfr_story.proofs.Traces.{Traced, Traced-then, Traced-ran, Traced-whole, Traced-cut, precedes_moved, AreImages}
 use Rattle.pfr_story.proofs.StepTraces.{Between, AllowsLosses, IsGoodStretch, AreGood, AreGood-none, AreGood-next, Follows-good}
@@ -57,9 +51,6 @@ use Rattle.pfr_story.proofs.Bytes.{HaveBytes, images_then}
 use Rattle.pfr_story.proofs.RecoverableLaws.{other_safe}
 use Rattle.pfr_story.proofs.MomentLaws.{StaysTrue, NoMoments, Stays, call_stays, stays_along, stays_behind}
 use Rattle.pfr_story.proofs.KeepLaws.{GoodRecovery, job_leaves, ops_safe, migration_safe}
-
-abbrev Any : Story → Type 0
-Any story = Unit {0}
 
 -- the devices hold bytes, the banks have whole blocks, and the store has its size
 record IsSized (story : Story) : Type 0 where
@@ -106,48 +97,29 @@ module _ (accepts : Acceptance) where
 
 -- ---- a bank is brought up
 module _ (accepts : Acceptance) (b c : Bank) where
-  second_safe : (judged : Result Manifest ActiveFail) (story : Story) → AllSafe (Keeping accepts b) (by_second c judged story) story
-  second_safe (Ok m) story = (refl, tt)
-  second_safe (Err cause) story = tt
+  -- a bank that can be checked, of devices that have their sizes
+  abbrev IsFit : FusesState → Story → Type 0
+  IsFit fuses story = IsSized story × IsReady c fuses story
 
-  again_safe : (fuses : FusesState) (story : Story) → AllSafe (Keeping accepts b) (checked_again accepts c fuses story) story
-  again_safe fuses story = (tt, second_safe (judged_active accepts c fuses story) story)
-
-  recovery_safe : (fuses : FusesState) (cause : ActiveFail) (judged : Result CapsuleState CapsuleFail) (story : Story) → IsSized story → fuses_of (store story) ≡ Ok fuses
-      → IsValidLayout (layout_of fuses.provision c) (length (mine c story)) → judged_recovery accepts c fuses story ≡ judged → AllSafe (Keeping accepts b) (by_recovery accepts c fuses cause judged story) story
-  recovery_safe fuses cause (Ok capsule) story sized read valid judged =
-      let copy = copied c 1 fuses capsule story in
-      let safe : AllSafe (Keeping accepts b) copy story = call_stays (GoodRecovery accepts b) b (device_of c) (restore_ops 1 (mine c story) capsule (layout_of fuses.provision c)) story
-      (copy_safe accepts b c fuses capsule story sized read valid judged) in
-      let told : Story = after (restored c 1 fuses capsule story) story in
-      AllSafe-append (Keeping accepts b) (restored c 1 fuses capsule story) (checked_again accepts c fuses told) story
-      (AllSafe-append (Keeping accepts b) copy (Says (λ _. what.Restored c 1) ∷ []) story safe (tt, tt)) (again_safe fuses told)
-  recovery_safe fuses cause (Err other) story sized read valid judged = (refl, tt)
-
-  active_safe : (fuses : FusesState) (judged : Result Manifest ActiveFail) (story : Story) → IsSized story → fuses_of (store story) ≡ Ok fuses
-      → IsValidLayout (layout_of fuses.provision c) (length (mine c story)) → AllSafe (Keeping accepts b) (by_active accepts c fuses judged story) story
-  active_safe fuses (Ok m) story sized read valid = (refl, tt)
-  active_safe fuses (Err cause) story sized read valid =
-      let w : Counts → What = λ _. what.Untrusted c cause in
-      let told : Story = noted w story in
-      let there : IsValidLayout (layout_of fuses.provision c) (length (mine c told)) =
-      subst (λ (image : List ℕ). IsValidLayout (layout_of fuses.provision c) (length image)) (sym (image_noted (device_of c) w story)) valid in
-      (tt, (tt, recovery_safe fuses cause (judged_recovery accepts c fuses told) told (sized_noted w story sized) read there refl))
-
-  layout_safe : (fuses : FusesState) (judged : Result (Unit {0}) LayoutRule) (story : Story) → IsSized story → fuses_of (store story) ≡ Ok fuses
-      → judge_layout (layout_of fuses.provision c) (length (mine c story)) ≡ judged → AllSafe (Keeping accepts b) (by_ready accepts c (told_as (λ rule. why.Layout rule) judged >> Ok fuses) story) story
-  layout_safe fuses (Ok valid) story sized read l = (tt, active_safe fuses (judged_active accepts c fuses story) story sized read (judged_valid _ _ l))
-  layout_safe fuses (Err rule) story sized read l = (refl, tt)
-
-  ready_safe : (read : Result FusesState FuseFail) (story : Story) → IsSized story → fuses_of (store story) ≡ read
-      → AllSafe (Keeping accepts b) (by_ready accepts c (ready_in c (length (mine c story)) read) story) story
-  ready_safe (Ok fuses) story sized f = layout_safe fuses (judge_layout (layout_of fuses.provision c) (length (mine c story))) story sized f refl
-  ready_safe (Err cause) story sized f = (refl, tt)
+  keeping_walks : Walks (Keeping accepts b) accepts c IsSized IsFit (λ fuses cause story. IsFit fuses story) (λ fuses story. Unit {0})
+  keeping_walks = record {
+    asks = λ which story own. tt;
+    ready = λ fuses story sized e. (sized, ready_found c fuses story e);
+    unready = λ cause story sized e. refl;
+    released = λ fuses m story fit j. refl;
+    untrusted = λ fuses cause story fit j. (tt, (sized_noted (λ _. what.Untrusted c cause) story fit.0, ready_noted c fuses (λ _. what.Untrusted c cause) story fit.1));
+    no_image = λ fuses cause other story fit j. refl;
+    restores = λ fuses cause capsule story fit j.
+        let copy = copied c 1 fuses capsule story in
+        let safe : AllSafe (Keeping accepts b) copy story = call_stays (GoodRecovery accepts b) b (device_of c) (restore_ops 1 (mine c story) capsule (layout_of fuses.provision c)) story
+        (copy_safe accepts b c fuses capsule story fit.0 fit.1.provisioned fit.1.layout j) in
+        (AllSafe-append (Keeping accepts b) copy (Says (λ _. what.Restored c 1) ∷ []) story safe (tt, tt), tt);
+    again = λ fuses m story any j. refl;
+  }
 
   brought_safe : (story : Story) → IsSized story → AllSafe (Keeping accepts b) (brought_up accepts c story) story
   brought_safe story sized =
-      let held : Story = noted (what.Held c) story in
-      (refl, (tt, ready_safe (fuses_of (store held)) held (sized_noted (what.Held c) story sized) refl))
+      walk_safe (Keeping accepts b) accepts c IsSized IsFit (λ fuses cause there. IsFit fuses there) (λ fuses there. Unit {0}) keeping_walks story refl (sized_noted (what.Held c) story sized)
 
 -- ---- the stretches of a step
 module _ (accepts : Acceptance) (b : Bank) (first last : World) where

@@ -60,13 +60,15 @@ module _ (plan : List Operation) (base : Past) where
   storing_banks : AllowsBanks (Storing plan base)
   storing_banks = record {
     held = λ b story. tt;
-    released = λ b svn story. tt;
-    locked = λ b cause story. tt;
-    untrusted = λ b cause story. tt;
-    restored = λ b level story. tt;
+    bank = λ b. record {
+      released = λ svn story. tt;
+      locked = λ cause story. tt;
+      untrusted = λ cause story. tt;
+      restored = λ level story. tt;
+      asks = λ which story own. tt;
+      works = λ op story. works b op story;
+    };
     lost = λ which story. tt;
-    asks = λ which story. tt;
-    works = λ b op story. works b op story;
   }
 
   call_stores : (ops : List Operation) (story : Story) → ops ≡ plan → story.nv ≡ base → AllSafe (Storing plan base) (called device.Nv ops) story

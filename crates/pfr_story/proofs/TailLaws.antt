@@ -40,9 +40,11 @@ use Rattle.pfr_story.specs.Promises.{count_at}
 use Rattle.pfr_story.specs.Causes.{IsNotTrusted, IsAgainst, IsDue, IsRestorable}
 use Rattle.pfr_story.specs.Bringing.{ReleasedSoon}
 use Rattle.pfr_story.proofs.Sequence.{after-append}
-use Rattle.pfr_story.proofs.CallLaws.{image_noted, past_called, AllMake-append, AllMake-called}
+use Rattle.pfr_story.proofs.CallLaws.{image_noted, past_called}
 use Rattle.pfr_story.proofs.Made.{said}
 use Rattle.pfr_story.proofs.Noting.{noted_first, noted_next, Whichever, AllSay, said_all}
+use Rattle.pfr_story.specs.Safety.{Rule}
+use Rattle.pfr_story.proofs.BringRules.{AllowsBank, allowed_behind, allowed_safe, Making, safe_made}
 use Rattle.pfr_story.proofs.RestoreLaws.{stand_for, RestoresFrom, restored_judged}
 
 -- ---- what is noted behind Held
@@ -220,42 +222,31 @@ HoldsNot which that = ¬ IsHeldOf which that
 abbrev pub NoneHolds : Bank → List Move → Type 0
 NoneHolds which moves = AllSay (HoldsNot which) moves
 
+-- nothing behind Held notes that a bank is held
 module _ (accepts : Acceptance) (which b : Bank) where
-  abbrev Never : (Counts → What) → Type 0
-  Never w = (at : Counts) → HoldsNot which (w at)
+  abbrev NotHeld : Rule
+  NotHeld = Making Whichever (λ w. (at : Counts) → HoldsNot which (w at))
 
-  second_holds : (judged : Result Manifest ActiveFail) (story : Story) → NoneHolds which (by_second b judged story)
-  second_holds (Ok m) story = ((λ at h. h), tt)
-  second_holds (Err cause) story = tt
+  not_held : AllowsBank NotHeld b
+  not_held = record {
+    released = λ svn story at h. h;
+    locked = λ cause story at h. h;
+    untrusted = λ cause story at h. h;
+    restored = λ level story at h. h;
+    asks = λ d story own. tt;
+    works = λ op story. tt;
+  }
 
-  restored_holds : (fuses : FusesState) (capsule : CapsuleState) (story : Story) → NoneHolds which (restored b 1 fuses capsule story)
-  restored_holds fuses capsule story =
-      let ops : List Operation = restore_ops 1 (mine b story) capsule (layout_of fuses.provision b) in
-      AllMake-append Whichever Never (called (device_of b) ops) (Says (λ _. what.Restored b 1) ∷ []) (AllMake-called Whichever Never (device_of b) ops tt) ((λ at h. h), tt)
-
-  recovery_holds : (fuses : FusesState) (cause : ActiveFail) (judged : Result CapsuleState CapsuleFail) (story : Story) → NoneHolds which (by_recovery accepts b fuses cause judged story)
-  recovery_holds fuses cause (Ok capsule) story =
-      let end : Story = after (restored b 1 fuses capsule story) story in
-      AllMake-append Whichever Never (restored b 1 fuses capsule story) (checked_again accepts b fuses end) (restored_holds fuses capsule story) (tt, second_holds (judged_active accepts b fuses end) end)
-  recovery_holds fuses cause (Err other) story = ((λ at h. h), tt)
-
-  active_holds : (fuses : FusesState) (judged : Result Manifest ActiveFail) (story : Story) → NoneHolds which (by_active accepts b fuses judged story)
-  active_holds fuses (Ok m) story = ((λ at h. h), tt)
-  active_holds fuses (Err cause) story =
-      let told : Story = noted (λ _. what.Untrusted b cause) story in
-      ((λ at h. h), (tt, recovery_holds fuses cause (judged_recovery accepts b fuses told) told))
-
-  pub ready_holds : (ready : Result FusesState LockWhy) (story : Story) → NoneHolds which (by_ready accepts b ready story)
-  ready_holds (Ok fuses) story = (tt, active_holds fuses (judged_active accepts b fuses story) story)
-  ready_holds (Err cause) story = ((λ at h. h), tt)
+  behind_holds : (story : Story) → NoneHolds which (by_ready accepts b (ready_of b story) story)
+  behind_holds story = safe_made Whichever _ (by_ready accepts b (ready_of b story) story) story (allowed_behind NotHeld accepts b not_held story)
 
   -- the other bank's part
   pub brought_holds : ¬ (b ≡ which) → (story : Story) → NoneHolds which (brought_up accepts b story)
-  brought_holds apart story = ((λ at e. apart e), (tt, ready_holds (ready_of b (noted (what.Held b) story)) (noted (what.Held b) story)))
+  brought_holds apart story = safe_made Whichever _ (brought_up accepts b story) story (allowed_safe NotHeld accepts b not_held story (λ at e. apart e))
 
 -- the own part
 pub brought_once : (accepts : Acceptance) (b : Bank) (story : Story) (at : Counts) → IsNoted (said (brought_up accepts b story) story) (what.Held b at) → at ≡ counts_of story
 brought_once accepts b story at (inl e) = cc
 brought_once accepts b story at (inr n) =
     let held : Story = noted (what.Held b) story in
-    absurd (said_all (HoldsNot b) (by_ready accepts b (ready_of b held) held) held (ready_holds accepts b b (ready_of b held) held) (what.Held b at) n refl)
+    absurd (said_all (HoldsNot b) (by_ready accepts b (ready_of b held) held) held (behind_holds accepts b b held) (what.Held b at) n refl)

@@ -29,7 +29,8 @@ use Rattle.pfr_story.proofs.CallLaws.{AllMake-append, AllMake-called, cut_makes}
 use Rattle.pfr_story.proofs.Courses.{Steps-moved, Follows-calm}
 use Rattle.pfr_story.proofs.Traces.{Traced, Traced-known, KnownBefore}
 use Rattle.pfr_story.proofs.StepTraces.{Between, AllowsLosses, IsGoodStretch, AreGood, AreGood-none, AreGood-next, Follows-good}
-use Rattle.pfr_story.proofs.Facts.{Setting, Fact, IsTrue, call_true, brought_true, IsOwn, IsNoLoss, brought_makes, lock_true}
+use Rattle.pfr_story.proofs.BringRules.{Any, IsOwn}
+use Rattle.pfr_story.proofs.Facts.{Setting, Fact, IsTrue, call_true, brought_true, IsNoLoss, brought_makes, lock_true}
 
 -- A step in which no count of losses or faults rose is calm.
 pub Turn-calm : (accepts : Acceptance) (e : Event) (old new : World) → Turn accepts e old new → NoneLost old new → NoneRose old new → Calm (course accepts e (story_of old)) (begun old) new
@@ -43,9 +44,6 @@ Turn-calm accepts e old new t lost rose = Follows-calm (course accepts e (story_
 -- Of each device the work of a step is what its calls do.
 pub Turn-moved : (accepts : Acceptance) (e : Event) (old new : World) → Turn accepts e old new → AllMoved (begun old) new
 Turn-moved accepts e old new (mid, first, rest) = AllMoved-trans (begun old) mid new first.moved (Steps-moved (course accepts e (story_of old)).stretches mid new rest)
-
-abbrev pub Any : Story → Type 0
-Any story = Unit {0}
 
 -- ---- the stretches
 abbrev pub IsStore : Device → Type 0
