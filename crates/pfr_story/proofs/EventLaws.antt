@@ -94,13 +94,13 @@ module _ (P : What → Type 0) where
   Turn-says accepts event.Off old new h p t = by_off (is_off (standing_of bank.Bmc old.notes.list)) refl t
     where
       by_off : (b : Bool) → is_off (standing_of bank.Bmc old.notes.list) ≡ b → Follows (where_off b ignored off_course) (begun old) new → Traced (Saying P) (begun old) new
-      by_off true off t = noted_good (Saying P) (saying_banks h) (Says (λ _. what.Ignored) ∷ []) (begun old) new t (p.0 off, tt)
+      by_off true off t = noted_good (Saying P) (saying_banks h) (begun old) new (Says (λ _. what.Ignored) ∷ []) t (p.0 off, tt)
       by_off false on t =
-          noted_good (Saying P) (saying_banks h) (Says (what.Lost None) ∷ []) (begun old) new t (p.1 (λ off. false≢true (sym on ∙ off)) (counts_of (story_of old)), tt)
+          noted_good (Saying P) (saying_banks h) (begun old) new (Says (what.Lost None) ∷ []) t (p.1 (λ off. false≢true (sym on ∙ off)) (counts_of (story_of old)), tt)
   Turn-says accepts (event.Provision root) old new h p t = by_off (is_off (standing_of bank.Bmc old.notes.list)) refl t
     where
       by_off : (b : Bool) → is_off (standing_of bank.Bmc old.notes.list) ≡ b → Follows (where_off b ignored (provision_course root)) (begun old) new → Traced (Saying P) (begun old) new
-      by_off true off t = noted_good (Saying P) (saying_banks h) (Says (λ _. what.Ignored) ∷ []) (begun old) new t (p.0 off, tt)
+      by_off true off t = noted_good (Saying P) (saying_banks h) (begun old) new (Says (λ _. what.Ignored) ∷ []) t (p.0 off, tt)
       by_off false on t =
           provision_traced (Saying P) (saying_banks h) (λ story. Unit {0}) root (begun old) new
           (λ story any. (tt, provisioned_says root (judged_here root story) story (p.1 (λ off. false≢true (sym on ∙ off)) (judged_here root story)))) tt t

@@ -1,5 +1,5 @@
 -- What is true of a note where it is made, and that a bank that is brought up makes only such notes.
-use Rattle.std.proofs.Common.{◌≡◌, ◌∙◌, refl, sym, ap, subst, ℕ, ◌<◌, List, [], ◌∷◌, length, ◌⊎◌, inl, inr, Some, None, Result, Ok, Err}
+use Rattle.std.proofs.Common.{◌≡◌, ◌∙◌, refl, sym, ap, subst, ℕ, ◌<◌, List, length, ◌⊎◌, inl, inr, Some, None, Result, Ok, Err}
 use Rattle.pfr_flash.specs.Bytes.{AreBytes}
 use Rattle.pfr_flash.specs.FlashState.{Rose}
 use Rattle.pfr_flash.specs.Judging.{◌>>◌, told_as}
@@ -11,7 +11,7 @@ use Rattle.pfr_flash.specs.declared.names.Bank.TheVariants as bank
 use Rattle.pfr_flash.specs.declared.names.Counts.{Counts}
 use Rattle.pfr_flash.specs.declared.names.Device.{Device}
 use Rattle.pfr_flash.specs.declared.names.Device.TheVariants as device
-use Rattle.pfr_flash.proofs.PlayLemmas.{length-applied}
+use Rattle.pfr_flash.proofs.PlayLemmas.{length-play}
 use Rattle.pfr_engine.specs.Acceptance.{Acceptance}
 use Rattle.pfr_fuses.specs.FusesState.{FusesState}
 use Rattle.pfr_fuses.specs.FusesOf.{fuses_of}
@@ -29,14 +29,14 @@ use Rattle.pfr_report.specs.declared.note.LockWhy.{LockWhy}
 use Rattle.pfr_report.specs.declared.note.LockWhy.TheVariants as why
 use Rattle.pfr_report.specs.declared.note.What.{What}
 use Rattle.pfr_report.specs.declared.note.What.TheVariants as what
-use Rattle.pfr_story.specs.Story.{Story, Says, Does, Asks, after, noted, operated, counts_of, device_of, says, called}
+use Rattle.pfr_story.specs.Story.{Story, Says, Does, Asks, after, noted, counts_of, device_of, says, called}
 use Rattle.pfr_story.specs.World.{World, state_at}
 use Rattle.pfr_story.specs.Safety.{Rule, AllSafe, AllMake, Leads}
 use Rattle.pfr_story.specs.Plans.{mine, store, lock_of, ready_in, judged_active, judged_recovery, restore_ops, copied, restored, brought_up}
 use Rattle.pfr_story.specs.Causes.{IsTrustedWith, IsNotTrusted, IsAgainst, IsRestorable, IsDue}
 use Rattle.pfr_story.specs.Turn.{fault_of}
 use Rattle.pfr_story.proofs.SafetyLaws.{Leads-then}
-use Rattle.pfr_story.proofs.CallLaws.{image_noted, image_operated, store_operated, called_any}
+use Rattle.pfr_story.proofs.CallLaws.{image_noted, image_called, store_called, called_any}
 use Rattle.pfr_story.proofs.RestoreLaws.{found_good}
 use Rattle.pfr_story.proofs.BringRules.{Any, IsReady, ready_noted, ready_found, IsOwn, Walks, walk_safe, AllowsBank, allowed_safe, Making, safe_made}
 use Rattle.pfr_story.proofs.Traces.{Precedes, Precedes-refl, Precedes-after}
@@ -81,20 +81,15 @@ pub call_true : (s : Setting) (which : Device) (ops : List Operation) (story : S
 call_true s which ops story = called_any (IsTrue s) which (λ op here. tt) (λ here. tt) ops story
 
 -- ---- a bank is brought up
--- an operation of its device leaves its fuses, and its layout valid
-ready_operated : (b : Bank) (fuses : FusesState) (op : Operation) (story : Story) → IsReady b fuses story → IsReady b fuses (operated (device_of b) op story)
-ready_operated b fuses op story r =
-    let same : length (mine b (operated (device_of b) op story)) ≡ length (mine b story) =
-    ap (λ (image : List ℕ). length image) (image_operated (device_of b) op story) ∙ length-applied (mine b story) op in
+-- a call of its device leaves its fuses, and its layout valid
+ready_called : (b : Bank) (fuses : FusesState) (ops : List Operation) (story : Story) → IsReady b fuses story → IsReady b fuses (after (called (device_of b) ops) story)
+ready_called b fuses ops story r =
+    let same : length (mine b (after (called (device_of b) ops) story)) ≡ length (mine b story) =
+    ap (λ (image : List ℕ). length image) (image_called (device_of b) ops story) ∙ length-play (mine b story) ops in
     record {
-      provisioned = subst (λ (nv : List ℕ). fuses_of nv ≡ Ok fuses) (sym (store_operated b op story)) r.provisioned;
+      provisioned = ap (λ (nv : List ℕ). fuses_of nv) (store_called b ops story) ∙ r.provisioned;
       layout = subst (λ (n : ℕ). IsValidLayout (layout_of fuses.provision b) n) (sym same) r.layout;
     }
-
--- a call of its device leaves it so
-ready_called : (b : Bank) (fuses : FusesState) (ops : List Operation) (story : Story) → IsReady b fuses story → IsReady b fuses (after (called (device_of b) ops) story)
-ready_called b fuses [] story r = r
-ready_called b fuses (op ∷ ops) story r = ready_called b fuses ops (operated (device_of b) op story) (ready_operated b fuses op story r)
 
 not_trusted : (cause : ActiveFail) (b : Bank) (image nv : List ℕ) (accepts : Acceptance) → IsAgainst cause b image nv accepts → IsNotTrusted b image nv accepts
 not_trusted cause b image nv accepts a = record {

@@ -31,22 +31,22 @@ use Rattle.pfr_script.specs.declared.event.Event.{Event}
 use Rattle.pfr_script.specs.declared.event.Event.TheVariants as event
 use Rattle.pfr_report.specs.declared.note.What.{What}
 use Rattle.pfr_report.specs.declared.note.What.TheVariants as what
-use Rattle.pfr_story.specs.Story.{Story, Says, noted, device_of, called, after}
+use Rattle.pfr_story.specs.Story.{Story, Move, Says, noted, device_of, called}
 use Rattle.pfr_story.specs.World.{World, story_of, AllMoved}
 use Rattle.pfr_story.specs.Safety.{Rule, AllGood, AllSafe}
-use Rattle.pfr_story.specs.Course.{Stretch, Course, Steps, Follows}
+use Rattle.pfr_story.specs.Course.{Stretch, Steps, Follows}
 use Rattle.pfr_story.specs.Standing.{standing_of, is_off}
 use Rattle.pfr_story.specs.Plans.{mine, store, judged_recovery, restore_ops, copied, brought_up, migrated, provisioned, provisioned_in}
 use Rattle.pfr_story.specs.Turn.{bank_stretch, fuse_stretch, provision_stretch, where_off, ignored, power_course, off_course, provision_course, begun, Turn}
 use Rattle.pfr_story.specs.Recovery.{HoldsIn, LeavesTrue, StaysRecoverable}
-use Rattle.pfr_story.proofs.WorldLaws.{AllMoved-refl, AllMoved-trans}
+use Rattle.pfr_story.proofs.WorldLaws.{AllMoved-refl}
 use Rattle.pfr_story.proofs.SafetyLaws.{AllSafe-append}
 use Rattle.pfr_story.proofs.CallLaws.{image_noted, called_any}
 use Rattle.pfr_story.proofs.RestoreLaws.{found_good}
 use Rattle.pfr_story.proofs.BringRules.{Any, IsReady, ready_noted, ready_found, Walks, walk_safe}
-use Rattle.pfr_story.proofs.Courses.{Steps-moved}
+use Rattle.pfr_story.proofs.Turns.{Turn-moved}
 use Rattle.pfr_story.proofs.Traces.{Traced, Traced-then, Traced-ran, Traced-whole, Traced-cut, precedes_moved, AreImages}
-use Rattle.pfr_story.proofs.StepTraces.{Between, AllowsLosses, IsGoodStretch, AreGood, AreGood-none, AreGood-next, Follows-good}
+use Rattle.pfr_story.proofs.StepTraces.{Between, AllowsLosses, IsGoodStretch, noted_along, power_along, provision_along}
 use Rattle.pfr_story.proofs.Bytes.{HaveBytes, images_then}
 use Rattle.pfr_story.proofs.RecoverableLaws.{other_safe}
 use Rattle.pfr_story.proofs.MomentLaws.{StaysTrue, NoMoments, Stays, call_stays, stays_along, stays_behind}
@@ -191,9 +191,6 @@ module _ (accepts : Acceptance) (b : Bank) (old new : World) (held : HaveBytes n
   abbrev Kept : Type 0
   Kept = Stays (GoodRecovery accepts b) b old new
 
-  abbrev AreKeeping : (Story → Type 0) → List Stretch → Type 0
-  AreKeeping P stretches = AreGood (Keeping accepts b) old new P stretches
-
   within : Between old new old new
   within = record { before = AllMoved-refl old; behind = AllMoved-refl new }
 
@@ -203,29 +200,20 @@ module _ (accepts : Acceptance) (b : Bank) (old new : World) (held : HaveBytes n
   known : (w : World) → AllMoved w new → IsSized (story_of w)
   known w m = sized_world w new held bmc pch nv m
 
-  none : AreKeeping Any []
-  none = AreGood-none (Keeping accepts b) old new IsSized known allows Any
+  kept : Traced (Keeping accepts b) old new → Kept
+  kept t = stays_along (GoodRecovery accepts b) b old new t
 
-  next : (P : Story → Type 0) (stretch : Stretch) (stretches : List Stretch) → IsKeeping accepts b old new P stretch → AreKeeping Any stretches → AreKeeping P (stretch ∷ stretches)
-  next P stretch stretches good rest = AreGood-next (Keeping accepts b) old new IsSized known allows P Any stretch stretches good rest
-
-  along : (P : Story → Type 0) (c : Course) → Follows c old new → AllGood (Keeping accepts b) c.first (story_of old) → P (after c.first (story_of old)) → AreKeeping P c.stretches → Kept
-  along P c t first p stretches =
-      stays_along (GoodRecovery accepts b) b old new (Follows-good (Keeping accepts b) old new P c old new within t first p stretches)
+  noted_kept : (moves : List Move) → Follows (record { first = moves; stretches = [] }) old new → AllGood (Keeping accepts b) moves (story_of old) → Kept
+  noted_kept moves t good = kept (noted_along (Keeping accepts b) old new IsSized known allows old new within moves t good)
 
   power_kept : Follows (power_course accepts) old new → Kept
   power_kept t =
-      along Any (power_course accepts) t (tt, tt) tt
-      (next Any fuse_stretch (bank_stretch accepts bank.Bmc ∷ bank_stretch accepts bank.Pch ∷ []) (fuse_keeps accepts b old new)
-      (next Any (bank_stretch accepts bank.Bmc) (bank_stretch accepts bank.Pch ∷ []) (bank_keeps accepts b old new bank.Bmc)
-      (next Any (bank_stretch accepts bank.Pch) [] (bank_keeps accepts b old new bank.Pch) none)))
-
-  ignored_kept : Follows ignored old new → Kept
-  ignored_kept t = along Any ignored t (tt, tt) tt none
+      kept (power_along (Keeping accepts b) old new IsSized known allows old new within accepts Any Any Any Any (fuse_keeps accepts b old new)
+      (bank_keeps accepts b old new bank.Bmc) (bank_keeps accepts b old new bank.Pch) tt tt t)
 
   off_kept : (off : Bool) → Follows (where_off off ignored off_course) old new → Kept
-  off_kept true t = ignored_kept t
-  off_kept false t = along Any off_course t (refl, tt) tt none
+  off_kept true t = noted_kept ignored.first t (tt, tt)
+  off_kept false t = noted_kept off_course.first t (refl, tt)
 
   -- nothing is provisioned where the platform is
   unset : (root : RootSlot) (number : ℕ) → judge_provision (store (story_of old)) root (size_of old.bmc) (size_of old.pch) ≡ Ok number → ¬ HoldsIn (GoodRecovery accepts b) b (story_of old)
@@ -250,36 +238,25 @@ module _ (accepts : Acceptance) (b : Bank) (old new : World) (held : HaveBytes n
   by_judged : (root : RootSlot) (judged : Result ℕ FuseFail) → judge_provision (store (story_of old)) root (size_of old.bmc) (size_of old.pch) ≡ judged → Follows (provision_course root) old new → Kept
   by_judged root (Ok number) e (mid, first, steps) = slot_kept root mid (unset root number e) (Traced-ran NoMoments [] old mid first tt) steps
   by_judged root (Err cause) e t =
-      along (IsRefused accepts b old new root) (provision_course root) t tt (cause, e) (next (IsRefused accepts b old new root) (provision_stretch root) [] (refusal_keeps accepts b old new root) none)
+      kept (provision_along (Keeping accepts b) old new IsSized known allows old new within root (IsRefused accepts b old new root) Any (refusal_keeps accepts b old new root) (cause, e) t)
 
   try_kept : (root : RootSlot) (off : Bool) → Follows (where_off off ignored (provision_course root)) old new → Kept
-  try_kept root true t = ignored_kept t
+  try_kept root true t = noted_kept ignored.first t (tt, tt)
   try_kept root false t = by_judged root (judge_provision (store (story_of old)) root (size_of old.bmc) (size_of old.pch)) refl t
 
 -- the sizes stay
 size_still : (old new : FlashState) → Moved old new → IsBankSize (size_of old) → IsBankSize (size_of new)
 size_still old new m size = subst (λ (n : ℕ). IsBankSize n) (sym (same_size old new m)) size
 
-follows_moved : (c : Course) (old new : World) → Follows c old new → AllMoved old new
-follows_moved c old new (mid, first, rest) = AllMoved-trans old mid new first.moved (Steps-moved c.stretches mid new rest)
-
 -- What says that a good capsule stands in a bank's recovery area stays true from each moment of a step to the next.
 pub Turn-recoverable : (accepts : Acceptance) (e : Event) (old new : World) → Turn accepts e old new → HaveBytes new → IsBankSize (size_of old.bmc) → IsBankSize (size_of old.pch) → size_of old.nv ≡ 32768
     → StaysRecoverable (λ b image nv. HasGoodRecovery b image nv accepts) old new
-Turn-recoverable accepts e old new t held bmc pch nv b = by_event e t
+Turn-recoverable accepts e old new t held bmc pch nv b = by_event e t (size_still old.bmc new.bmc m.bmc bmc) (size_still old.pch new.pch m.pch pch) (same_size old.nv new.nv m.nv ∙ nv)
   where
-    moved : (c : Course) → Follows c (begun old) new → AllMoved (begun old) new
-    moved c f = follows_moved c (begun old) new f
+    m : AllMoved (begun old) new
+    m = Turn-moved accepts e old new t
 
-    by_event : (e : Event) → Turn accepts e old new → Stays (GoodRecovery accepts b) b (begun old) new
-    by_event event.Power t =
-        let m = moved (power_course accepts) t in
-        power_kept accepts b (begun old) new held (size_still old.bmc new.bmc m.bmc bmc) (size_still old.pch new.pch m.pch pch) (same_size old.nv new.nv m.nv ∙ nv) t
-    by_event event.Off t =
-        let m = moved (where_off (is_off (standing_of bank.Bmc old.notes.list)) ignored off_course) t in
-        off_kept accepts b (begun old) new held (size_still old.bmc new.bmc m.bmc bmc) (size_still old.pch new.pch m.pch pch) (same_size old.nv new.nv m.nv ∙ nv)
-        (is_off (standing_of bank.Bmc old.notes.list)) t
-    by_event (event.Provision root) t =
-        let m = moved (where_off (is_off (standing_of bank.Bmc old.notes.list)) ignored (provision_course root)) t in
-        try_kept accepts b (begun old) new held (size_still old.bmc new.bmc m.bmc bmc) (size_still old.pch new.pch m.pch pch) (same_size old.nv new.nv m.nv ∙ nv)
-        root (is_off (standing_of bank.Bmc old.notes.list)) t
+    by_event : (e : Event) → Turn accepts e old new → IsBankSize (size_of new.bmc) → IsBankSize (size_of new.pch) → size_of new.nv ≡ 32768 → Stays (GoodRecovery accepts b) b (begun old) new
+    by_event event.Power t bmc pch nv = power_kept accepts b (begun old) new held bmc pch nv t
+    by_event event.Off t bmc pch nv = off_kept accepts b (begun old) new held bmc pch nv (is_off (standing_of bank.Bmc old.notes.list)) t
+    by_event (event.Provision root) t bmc pch nv = try_kept accepts b (begun old) new held bmc pch nv root (is_off (standing_of bank.Bmc old.notes.list)) t

@@ -32,13 +32,13 @@ use Rattle.pfr_story.specs.Safety.{Rule, AllGood, AllSafe, Keeps, Both, Leads}
 use Rattle.pfr_story.specs.Spans.{opens_after, opens_from}
 use Rattle.pfr_story.specs.Standing.{standing_of, is_off}
 use Rattle.pfr_story.specs.Plans.{mine, store, restore_ops, copied, restored, brought_up, migration_by, migration_in, migrated, provisioned_in, provisioned}
-use Rattle.pfr_story.specs.Course.{Stretch, Course, Follows}
+use Rattle.pfr_story.specs.Course.{Follows}
 use Rattle.pfr_story.specs.Turn.{fault_of, bank_stretch, fuse_stretch, provision_stretch, where_off, ignored, off_course, power_course, provision_course, begun, Turn}
 use Rattle.pfr_story.proofs.WorldLaws.{AllMoved-refl}
 use Rattle.pfr_story.proofs.SafetyLaws.{AllSafe-append, Leads-then, safe_whole, safe_cut, kept_by}
 use Rattle.pfr_story.proofs.CallLaws.{notes_operated, image_called}
 use Rattle.pfr_story.proofs.Traces.{Traced, Traced-keeps}
-use Rattle.pfr_story.proofs.StepTraces.{IsGoodStretch, AreGood, AreGood-none, AreGood-next, Follows-good}
+use Rattle.pfr_story.proofs.StepTraces.{Between, AllowsLosses, IsGoodStretch, noted_along, power_along, provision_along}
 use Rattle.pfr_story.proofs.BringRules.{Any, ready_found, Walks, walk_safe}
 use Rattle.pfr_story.proofs.FuseLaws.{profile_migrated, profile_kept, provisioned_refused}
 use Rattle.pfr_story.proofs.SpanLaws.{IsSettled, open_none, open_any, open_map, opens_push, IsOpen, Kept, SparesOpen, KeepsSpans, Kept-moves, none_or_settled}
@@ -255,37 +255,29 @@ module _ (accepts : Acceptance) (which : Bank) where
 
   -- ---- a whole step
   module _ (old new : World) where
-    none : (P : Story → Type 0) → AreGood (KeepsSpans accepts which) (begun old) new P []
-    none P = AreGood-none (KeepsSpans accepts which) (begun old) new Any (λ w moved. tt) (λ at story fell. ((refl, tt), tt)) P
+    within : Between (begun old) new (begun old) new
+    within = record { before = AllMoved-refl (begun old); behind = AllMoved-refl new }
 
-    next : (P Q : Story → Type 0) (stretch : Stretch) (stretches : List Stretch) → IsGoodStretch (KeepsSpans accepts which) (begun old) new Any P stretch Q
-        → AreGood (KeepsSpans accepts which) (begun old) new Q stretches → AreGood (KeepsSpans accepts which) (begun old) new P (stretch ∷ stretches)
-    next P Q stretch stretches good rest = AreGood-next (KeepsSpans accepts which) (begun old) new Any (λ w moved. tt) (λ at story fell. ((refl, tt), tt)) P Q stretch stretches good rest
+    allows : AllowsLosses (KeepsSpans accepts which) (begun old) new
+    allows at story fell = ((refl, tt), tt)
 
-    along : (P : Story → Type 0) (c : Course) → Follows c (begun old) new → AllGood (KeepsSpans accepts which) c.first (story_of (begun old)) → P (after c.first (story_of (begun old)))
-        → AreGood (KeepsSpans accepts which) (begun old) new P c.stretches → Traced (KeepsSpans accepts which) (begun old) new
-    along P c t first p stretches =
-        Follows-good (KeepsSpans accepts which) (begun old) new P c (begun old) new (record { before = AllMoved-refl (begun old); behind = AllMoved-refl new }) t first p stretches
-
-    ignored_kept : Follows ignored (begun old) new → Traced (KeepsSpans accepts which) (begun old) new
-    ignored_kept t = along Any ignored t ((tt, tt), tt) tt (none Any)
+    noted_kept : (moves : List Move) → Follows (record { first = moves; stretches = [] }) (begun old) new → AllGood (KeepsSpans accepts which) moves (story_of (begun old))
+        → Traced (KeepsSpans accepts which) (begun old) new
+    noted_kept moves t good = noted_along (KeepsSpans accepts which) (begun old) new Any (λ w moved. tt) allows (begun old) new within moves t good
 
     off_kept : (off : Bool) → Follows (where_off off ignored off_course) (begun old) new → Traced (KeepsSpans accepts which) (begun old) new
-    off_kept true t = ignored_kept t
-    off_kept false t = along Any off_course t ((refl, tt), tt) tt (none Any)
+    off_kept true t = noted_kept ignored.first t ((tt, tt), tt)
+    off_kept false t = noted_kept off_course.first t ((refl, tt), tt)
 
     try_kept : (root : RootSlot) (off : Bool) → Early (story_of (begun old)) → Follows (where_off off ignored (provision_course root)) (begun old) new → Traced (KeepsSpans accepts which) (begun old) new
-    try_kept root true p t = ignored_kept t
-    try_kept root false p t = along Early (provision_course root) t tt p (next Early Any (provision_stretch root) [] (provision_kept (begun old) new root) (none Any))
+    try_kept root true p t = noted_kept ignored.first t ((tt, tt), tt)
+    try_kept root false p t = provision_along (KeepsSpans accepts which) (begun old) new Any (λ w moved. tt) allows (begun old) new within root Early Any (provision_kept (begun old) new root) p t
 
     power_kept : Early (story_of (begun old)) → Follows (power_course accepts) (begun old) new → Traced (KeepsSpans accepts which) (begun old) new
     power_kept p t =
-        let bmc : Stretch = bank_stretch accepts bank.Bmc in
-        let pch : Stretch = bank_stretch accepts bank.Pch in
-        along Early (power_course accepts) t ((tt, tt), tt)
-        (record { kept = Kept-moves accepts which (Says (λ _. what.Power)) (story_of (begun old)) (tt, tt) p.kept; size = p.size })
-        (next Early Late fuse_stretch (bmc ∷ pch ∷ []) (fuse_kept (begun old) new)
-        (next Late Late bmc (pch ∷ []) (bank_kept (begun old) new bank.Bmc) (next Late Late pch [] (bank_kept (begun old) new bank.Pch) (none Late))))
+        power_along (KeepsSpans accepts which) (begun old) new Any (λ w moved. tt) allows (begun old) new within accepts Early Late Late Late
+        (fuse_kept (begun old) new) (bank_kept (begun old) new bank.Bmc) (bank_kept (begun old) new bank.Pch) (tt, tt)
+        (record { kept = Kept-moves accepts which (Says (λ _. what.Power)) (story_of (begun old)) (tt, tt) p.kept; size = p.size }) t
 
     Turn-early : (e : Event) → Early (story_of (begun old)) → Turn accepts e old new → Traced (KeepsSpans accepts which) (begun old) new
     Turn-early event.Power p t = power_kept p t

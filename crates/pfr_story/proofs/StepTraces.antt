@@ -3,7 +3,12 @@ use Rattle.std.proofs.Common.{◌≡◌, ◌<◌, refl, sym, subst, arith, Bool,
 use Rattle.pfr_flash.specs.FlashState.{Rose}
 use Rattle.pfr_flash.specs.declared.flash.FlashFail.TheVariants.{Fault, Lost as Loses}
 use Rattle.pfr_flash.specs.declared.names.Device.{Device}
-use Rattle.pfr_story.specs.Story.{Story, Move, after, IsCut}
+use Rattle.pfr_flash.specs.declared.names.Bank.TheVariants as bank
+use Rattle.pfr_engine.specs.Acceptance.{Acceptance}
+use Rattle.pfr_fuses.specs.declared.root_slot.RootSlot.{RootSlot}
+use Rattle.pfr_report.specs.declared.note.What.TheVariants.{Power}
+use Rattle.pfr_story.specs.Story.{Story, Move, Says, after, noted, IsCut}
+use Rattle.pfr_story.specs.Turn.{fuse_stretch, bank_stretch, provision_stretch, power_course, provision_course}
 use Rattle.pfr_story.specs.World.{World, story_of, state_at, AllMoved}
 use Rattle.pfr_story.specs.Safety.{Rule, AllGood, Leads}
 use Rattle.pfr_story.specs.Course.{Stretch, goes_on_if, Steps, lost, Course, Follows}
@@ -35,14 +40,14 @@ abbrev pub AreGood : Rule → World → World → (Story → Type 0) → List St
 AreGood G first last P stretches = (old new : World) → Between first last old new → P (story_of old) → Steps stretches old new → Traced G old new
 
 module _ (G : Rule) (first last : World) (K : Story → Type 0) (known : (w : World) → AllMoved w last → K (story_of w)) (allows : AllowsLosses G first last) where
-  pub AreGood-none : (P : Story → Type 0) → AreGood G first last P []
+  AreGood-none : (P : Story → Type 0) → AreGood G first last P []
   AreGood-none P old new within p r = Traced-ran G [] old new r tt
 
   traced_on : (on : Bool) (steps : World → World → Type 0) (mid new : World) → (on ≡ true → steps mid new → Traced G mid new) → goes_on_if on steps mid new → Traced G mid new
   traced_on true steps mid new f r = f refl r
   traced_on false steps mid new f r = Traced-ran G [] mid new r tt
 
-  pub AreGood-next : (P Q : Story → Type 0) (s : Stretch) (ss : List Stretch) → IsGoodStretch G first last K P s Q → AreGood G first last Q ss → AreGood G first last P (s ∷ ss)
+  AreGood-next : (P Q : Story → Type 0) (s : Stretch) (ss : List Stretch) → IsGoodStretch G first last K P s Q → AreGood G first last Q ss → AreGood G first last P (s ∷ ss)
   AreGood-next P Q s ss good next old new within p (inl (mid, c, rest)) =
       let here : K (story_of old) × P (story_of old) = (known old (AllMoved-trans old mid last c.moved (AllMoved-trans mid new last (Steps-moved ss mid new rest) within.behind)), p) in
       Traced-then G old mid new (Traced-whole G (s.plan (story_of old)) old mid c (good.plan.safe (story_of old) here))
@@ -65,9 +70,23 @@ module _ (G : Rule) (first last : World) (K : Story → Type 0) (known : (w : Wo
       Traced-then G old l.at new (Traced-cut G (s.plan (story_of old)) l.which Loses old l.at l.stopped (good.plan.safe (story_of old) here))
       (Traced-ran G (lost l.which) l.at new l.noted (allows l.which (story_of l.at) fell))
 
--- Each move of a step along a course is good, from where what it notes first is, and its stretches from there.
-pub Follows-good : (G : Rule) (first last : World) (P : Story → Type 0) (c : Course) (old new : World) → Between first last old new → Follows c old new
-    → AllGood G c.first (story_of old) → P (after c.first (story_of old)) → AreGood G first last P c.stretches → Traced G old new
-Follows-good G first last P c old new within (mid, says, rest) good p stretches =
-    Traced-then G old mid new (Traced-ran G c.first old mid says good)
-    (stretches mid new (record { before = AllMoved-trans first old mid within.before says.moved; behind = within.behind }) (subst P (sym says.is) p) rest)
+  -- ---- Each move of a step is good, from where what it notes first is, and its stretches from there.
+  module _ (old new : World) (within : Between first last old new) where
+    along : (P : Story → Type 0) (c : Course) → Follows c old new → AllGood G c.first (story_of old) → P (after c.first (story_of old)) → AreGood G first last P c.stretches → Traced G old new
+    along P c (mid, says, rest) good p stretches =
+        Traced-then G old mid new (Traced-ran G c.first old mid says good)
+        (stretches mid new (record { before = AllMoved-trans first old mid within.before says.moved; behind = within.behind }) (subst P (sym says.is) p) rest)
+
+    -- of one that only notes something
+    pub noted_along : (moves : List Move) → Follows (record { first = moves; stretches = [] }) old new → AllGood G moves (story_of old) → Traced G old new
+    noted_along moves t good = along (λ story. Unit {0}) (record { first = moves; stretches = [] }) t good tt (AreGood-none (λ story. Unit {0}))
+
+    pub power_along : (accepts : Acceptance) (P Q R S : Story → Type 0) → IsGoodStretch G first last K P fuse_stretch Q → IsGoodStretch G first last K Q (bank_stretch accepts bank.Bmc) R
+        → IsGoodStretch G first last K R (bank_stretch accepts bank.Pch) S → G (Says (λ _. Power)) (story_of old) → P (noted (λ _. Power) (story_of old)) → Follows (power_course accepts) old new → Traced G old new
+    power_along accepts P Q R S fuses bmc pch good p t =
+        let last_one = AreGood-next R S (bank_stretch accepts bank.Pch) [] pch (AreGood-none S) in
+        let banks = AreGood-next Q R (bank_stretch accepts bank.Bmc) (bank_stretch accepts bank.Pch ∷ []) bmc last_one in
+        along P (power_course accepts) t (good, tt) p (AreGood-next P Q fuse_stretch (bank_stretch accepts bank.Bmc ∷ bank_stretch accepts bank.Pch ∷ []) fuses banks)
+
+    pub provision_along : (root : RootSlot) (P Q : Story → Type 0) → IsGoodStretch G first last K P (provision_stretch root) Q → P (story_of old) → Follows (provision_course root) old new → Traced G old new
+    provision_along root P Q good p t = along P (provision_course root) t tt p (AreGood-next P Q (provision_stretch root) [] good (AreGood-none Q))

@@ -122,8 +122,8 @@ Turn-stored accepts event.Off old new t = by_off (is_off (standing_of bank.Bmc o
     base = past_of old.nv
 
     by_off : (b : Bool) → Follows (where_off b ignored off_course) (begun old) new → Stored [] base (past_of new.nv)
-    by_off true t = stored_traced [] base (begun old) new (noted_good (Storing [] base) (storing_banks [] base) (Says (λ _. what.Ignored) ∷ []) (begun old) new t (tt, tt)) refl
-    by_off false t = stored_traced [] base (begun old) new (noted_good (Storing [] base) (storing_banks [] base) (Says (what.Lost None) ∷ []) (begun old) new t (tt, tt)) refl
+    by_off true t = stored_traced [] base (begun old) new (noted_good (Storing [] base) (storing_banks [] base) (begun old) new (Says (λ _. what.Ignored) ∷ []) t (tt, tt)) refl
+    by_off false t = stored_traced [] base (begun old) new (noted_good (Storing [] base) (storing_banks [] base) (begun old) new (Says (what.Lost None) ∷ []) t (tt, tt)) refl
 Turn-stored accepts (event.Provision root) old new t = by_off (is_off (standing_of bank.Bmc old.notes.list)) t
   where
     base : Past
@@ -133,7 +133,7 @@ Turn-stored accepts (event.Provision root) old new t = by_off (is_off (standing_
     plan = operations_in root (judged_here root (story_of old))
 
     by_off : (b : Bool) → Follows (where_off b ignored (provision_course root)) (begun old) new → Stored plan base (past_of new.nv)
-    by_off true t = stored_traced plan base (begun old) new (noted_good (Storing plan base) (storing_banks plan base) (Says (λ _. what.Ignored) ∷ []) (begun old) new t (tt, tt)) refl
+    by_off true t = stored_traced plan base (begun old) new (noted_good (Storing plan base) (storing_banks plan base) (begun old) new (Says (λ _. what.Ignored) ∷ []) t (tt, tt)) refl
     by_off false t =
         stored_traced plan base (begun old) new
         (provision_traced (Storing plan base) (storing_banks plan base) (λ story. story ≡ story_of (begun old)) root (begun old) new

@@ -15,20 +15,20 @@ use Rattle.pfr_script.specs.declared.event.Event.TheVariants as event
 use Rattle.pfr_report.specs.Texts.{IsNoted}
 use Rattle.pfr_report.specs.declared.note.What.{What}
 use Rattle.pfr_report.specs.declared.note.What.TheVariants as what
-use Rattle.pfr_story.specs.Story.{Story, Says, called, after}
+use Rattle.pfr_story.specs.Story.{Story, Move, Says, called, after}
 use Rattle.pfr_story.specs.World.{World, story_of, state_at, AllMoved, NoneLost, NoneRose, added}
 use Rattle.pfr_story.specs.Safety.{AllGood, AllSafe, AllMake}
-use Rattle.pfr_story.specs.Course.{Stretch, Course, Follows, Calm}
+use Rattle.pfr_story.specs.Course.{Stretch, Follows, Calm}
 use Rattle.pfr_story.specs.Standing.{standing_of, is_off}
 use Rattle.pfr_story.specs.Plans.{store, migrated, provisioned, provisioned_in, migration_in}
-use Rattle.pfr_story.specs.Turn.{bank_stretch, fuse_stretch, provision_stretch, where_off, ignored, power_course, off_course, provision_course, course, begun, Turn}
+use Rattle.pfr_story.specs.Turn.{bank_stretch, fuse_stretch, provision_stretch, where_off, ignored, off_course, provision_course, course, begun, Turn}
 use Rattle.pfr_story.specs.Promises.{IsSwitchedOff}
 use Rattle.pfr_story.proofs.WorldLaws.{AllMoved-refl, AllMoved-trans}
 use Rattle.pfr_story.proofs.SafetyLaws.{AllSafe-append}
 use Rattle.pfr_story.proofs.CallLaws.{AllMake-append, AllMake-called, cut_makes}
 use Rattle.pfr_story.proofs.Courses.{Steps-moved, Follows-calm}
 use Rattle.pfr_story.proofs.Traces.{Traced, Traced-known, KnownBefore}
-use Rattle.pfr_story.proofs.StepTraces.{Between, AllowsLosses, IsGoodStretch, AreGood, AreGood-none, AreGood-next, Follows-good}
+use Rattle.pfr_story.proofs.StepTraces.{Between, AllowsLosses, IsGoodStretch, noted_along, power_along, provision_along}
 use Rattle.pfr_story.proofs.BringRules.{Any, IsOwn}
 use Rattle.pfr_story.proofs.Facts.{Setting, Fact, IsTrue, call_true, brought_true, IsNoLoss, brought_makes, lock_true}
 
@@ -106,33 +106,20 @@ module _ (s : Setting) where
     allows : AllowsLosses (IsTrue s) s.first s.last
     allows which story fell = ((refl, fell), tt)
 
-    along : (c : Course) → Follows c (begun old) new → AllGood (IsTrue s) c.first (story_of (begun old)) → AreGood (IsTrue s) s.first s.last Any c.stretches → Traced (IsTrue s) (begun old) new
-    along c t first stretches = Follows-good (IsTrue s) s.first s.last Any c (begun old) new within t first tt stretches
-
-    none : AreGood (IsTrue s) s.first s.last Any []
-    none = AreGood-none (IsTrue s) s.first s.last Any (λ w moved. tt) allows Any
-
-    next : (stretch : Stretch) (stretches : List Stretch) → IsTrueStretch stretch → AreGood (IsTrue s) s.first s.last Any stretches → AreGood (IsTrue s) s.first s.last Any (stretch ∷ stretches)
-    next stretch stretches good rest = AreGood-next (IsTrue s) s.first s.last Any (λ w moved. tt) allows Any Any stretch stretches good rest
-
-    ignored_true : Follows ignored (begun old) new → Traced (IsTrue s) (begun old) new
-    ignored_true t = along ignored t (tt, tt) none
+    noted_true : (moves : List Move) → Follows (record { first = moves; stretches = [] }) (begun old) new → AllGood (IsTrue s) moves (story_of (begun old)) → Traced (IsTrue s) (begun old) new
+    noted_true moves t good = noted_along (IsTrue s) s.first s.last Any (λ w moved. tt) allows (begun old) new within moves t good
 
     off_true : (off : Bool) → (off ≡ false → s.IsSwitched) → Follows (where_off off ignored off_course) (begun old) new → Traced (IsTrue s) (begun old) new
-    off_true true may t = ignored_true t
-    off_true false may t = along off_course t ((refl, may refl), tt) none
+    off_true true may t = noted_true ignored.first t (tt, tt)
+    off_true false may t = noted_true off_course.first t ((refl, may refl), tt)
 
     try_true : (root : RootSlot) (off : Bool) → Follows (where_off off ignored (provision_course root)) (begun old) new → Traced (IsTrue s) (begun old) new
-    try_true root true t = ignored_true t
-    try_true root false t = along (provision_course root) t tt (next (provision_stretch root) [] (provision_true root) none)
+    try_true root true t = noted_true ignored.first t (tt, tt)
+    try_true root false t = provision_along (IsTrue s) s.first s.last Any (λ w moved. tt) allows (begun old) new within root Any Any (provision_true root) tt t
 
   pub Turn-true : (e : Event) (old new : World) → Between s.first s.last (begun old) new → MaySwitch e old → Turn s.accepts e old new → Traced (IsTrue s) (begun old) new
   Turn-true event.Power old new within may t =
-      let pch = bank_stretch s.accepts bank.Pch in
-      let bmc = bank_stretch s.accepts bank.Bmc in
-      along event.Power old new within (power_course s.accepts) t (tt, tt)
-      (next event.Power old new within fuse_stretch (bmc ∷ pch ∷ []) fuse_true
-      (next event.Power old new within bmc (pch ∷ []) (bank_true bank.Bmc) (next event.Power old new within pch [] (bank_true bank.Pch) (none event.Power old new within))))
+      power_along (IsTrue s) s.first s.last Any (λ w moved. tt) (allows event.Power old new within) (begun old) new within s.accepts Any Any Any Any fuse_true (bank_true bank.Bmc) (bank_true bank.Pch) tt tt t
   Turn-true event.Off old new within may t =
       off_true event.Off old new within (is_off (standing_of bank.Bmc old.notes.list)) (λ off. may (λ on. absurd (let k = off in cc))) t
   Turn-true (event.Provision root) old new within may t = try_true (event.Provision root) old new within root (is_off (standing_of bank.Bmc old.notes.list)) t
