@@ -32,7 +32,7 @@ use Rattle.pfr_story.proofs.SafetyLaws.{AllSafe-append}
 use Rattle.pfr_story.proofs.CallLaws.{called_any}
 use Rattle.pfr_story.proofs.Traces.{Traced, Traced-known}
 use Rattle.pfr_story.proofs.Made.{Made, added_said}
-use Rattle.pfr_story.proofs.StepRules.{AllowsBanks, noted_good, power_good, provision_traced}
+use Rattle.pfr_story.proofs.StepTraces.{AllowsBanks, noted_good, power_good, provision_traced}
 use Rattle.pfr_story.proofs.StoreLaws.{judged_here}
 
 -- ---- what is so of all that is noted

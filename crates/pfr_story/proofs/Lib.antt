@@ -23,7 +23,6 @@ pub mod MomentLaws
 pub mod KeepLaws
 pub mod RecoveryLaws
 pub mod SpanLaws
-pub mod StepRules
 pub mod FuseLaws
 pub mod StoreLaws
 pub mod EventLaws

@@ -18,7 +18,7 @@ use Rattle.pfr_story.specs.Story.{Story, Move, Says, after, noted, counts_of}
 use Rattle.pfr_story.specs.World.{World, story_of, state_at, NoneLost, LostAt, added}
 use Rattle.pfr_story.specs.Goes.{Ran}
 use Rattle.pfr_story.specs.Safety.{AllMake}
-use Rattle.pfr_story.specs.Course.{Stretch, goes_on_if, Steps, Course, Follows}
+use Rattle.pfr_story.specs.Course.{Stretch, Steps, Course, Follows}
 use Rattle.pfr_story.specs.Standing.{standing_of, standing_from, standing_after, is_off, Standing, Off}
 use Rattle.pfr_story.specs.Plans.{brought_up, migrated, provisioned}
 use Rattle.pfr_story.specs.Turn.{bank_stretch, fuse_stretch, provision_stretch, where_off, ignored, off_course, power_course, provision_course, begun, Turn}
@@ -26,6 +26,7 @@ use Rattle.pfr_story.specs.Promises.{HasLost, LossesAreNoted, IsLast, LostEnds, 
 use Rattle.pfr_story.proofs.WorldLaws.{NoneLost-trans, NoneLost-at, LostAt-later, LostAt-on, each_at}
 use Rattle.pfr_story.proofs.Sequence.{after-append}
 use Rattle.pfr_story.proofs.CallLaws.{AllMake-append, AllMake-more, cut_makes}
+use Rattle.pfr_story.proofs.Courses.{went_on}
 use Rattle.pfr_story.proofs.Traces.{noted_append, noted_right}
 use Rattle.pfr_story.proofs.Made.{said, said_append, Made, made_then, added_said}
 use Rattle.pfr_story.proofs.Noting.{Whichever, said_all}
@@ -93,10 +94,6 @@ ends_then a b c p (inr l) = inr (lost_then a b c p l)
 quiet_ran : (moves : List Move) (old new : World) → Ran moves old new → AllQuiet moves → GoesQuiet old new
 quiet_ran moves old new r q = record { made = record { trace = moves; is = r.is }; quiet = q; none = r.none_lost }
 
-ends_on : (on : Bool) (steps : World → World → Type 0) (mid new : World) → (steps mid new → EndsSo mid new) → goes_on_if on steps mid new → EndsSo mid new
-ends_on true steps mid new f r = f r
-ends_on false steps mid new f r = inl (quiet_ran [] mid new r tt)
-
 pub Steps-losses : (ss : List Stretch) (old new : World) → AreQuiet ss → Steps ss old new → EndsSo old new
 Steps-losses [] old new q p = inl (quiet_ran [] old new p tt)
 Steps-losses (s ∷ ss) old new q (inl (mid, c, rest)) = ends_then old mid new (quiet_ran (s.plan (story_of old)) old mid c (q.0.plan (story_of old))) (Steps-losses ss mid new q.1 rest)
@@ -104,7 +101,7 @@ Steps-losses (s ∷ ss) old new q (inr (inl (mid, f, rest))) =
     let cut = cut_makes Whichever IsNoLoss f.which (s.plan (story_of old)) f.stopped.trace (story_of old) (q.0.plan (story_of old)) f.stopped.cut in
     let stopped : GoesQuiet old f.at = record { made = record { trace = f.stopped.trace; is = f.stopped.is }; quiet = cut.1; none = f.stopped.cause.1 } in
     ends_then old mid new (quiet_then old f.at mid stopped (quiet_ran (s.on_fault f.which) f.at mid f.noted (q.0.noted f.which)))
-    (ends_on s.goes_on (Steps ss) mid new (λ r. Steps-losses ss mid new q.1 r) rest)
+    (went_on s.goes_on (Steps ss) mid new (EndsSo mid new) (λ e r. Steps-losses ss mid new q.1 r) (λ r. inl (quiet_ran [] mid new r tt)) rest)
 Steps-losses (s ∷ ss) old new q (inr (inr l)) =
     let cut = cut_makes Whichever IsNoLoss l.which (s.plan (story_of old)) l.stopped.trace (story_of old) (q.0.plan (story_of old)) l.stopped.cut in
     inr (record {

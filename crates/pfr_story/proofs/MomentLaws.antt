@@ -15,19 +15,11 @@ use Rattle.pfr_story.specs.Plans.{mine, store}
 use Rattle.pfr_story.specs.Promises.{AtCounts}
 use Rattle.pfr_story.specs.Recovery.{HoldsIn, LeavesTrue, moments_with, moments_of, StaysAlong}
 use Rattle.pfr_story.proofs.CallLaws.{image_noted}
-use Rattle.pfr_story.proofs.Traces.{Traced, Precedes, Precedes-refl, Precedes-after, upto_begins}
+use Rattle.pfr_story.proofs.Traces.{IsStamped, Traced, Precedes, Precedes-refl, Precedes-after, upto_begins}
 use Rattle.pfr_story.proofs.NoteLaws.{bank_then, at_moment}
 use Rattle.pfr_story.proofs.Made.{Made, made_then, said, added_said}
 
 -- ---- the rule
--- a note that carries counts carries those of its moment
-abbrev pub IsStamped : What → Counts → Type 0
-IsStamped (what.Held b at) now = at ≡ now
-IsStamped (what.Released b svn at) now = at ≡ now
-IsStamped (what.Locked b why at) now = at ≡ now
-IsStamped (what.Lost device at) now = at ≡ now
-IsStamped that now = Unit {0}
-
 -- each operation leaves R true of the bank, where it was, and each note is stamped
 abbrev pub StaysTrue : (List ℕ → List ℕ → Type 0) → Bank → Rule
 StaysTrue R b (Says w) story = IsStamped (w (counts_of story)) (counts_of story)

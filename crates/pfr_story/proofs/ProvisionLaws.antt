@@ -41,7 +41,7 @@ use Rattle.pfr_story.proofs.SafetyLaws.{AllSafe-append}
 use Rattle.pfr_story.proofs.CallLaws.{with_all, past_called, called_any}
 use Rattle.pfr_story.proofs.Traces.{Begins, Traced-known, noted_right}
 use Rattle.pfr_story.proofs.Made.{Made, said, said_append, added_said}
-use Rattle.pfr_story.proofs.StepRules.{AllowsBanks, provision_traced}
+use Rattle.pfr_story.proofs.StepTraces.{AllowsBanks, provision_traced}
 use Rattle.pfr_story.proofs.StoreLaws.{Stored, judged_here, operations_in, Turn-stored}
 use Rattle.pfr_story.proofs.EventLaws.{outcome_of}
 

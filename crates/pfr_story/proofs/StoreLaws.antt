@@ -25,7 +25,7 @@ use Rattle.pfr_story.specs.Turn.{off_course, ignored, provision_course, where_of
 use Rattle.pfr_story.proofs.SafetyLaws.{AllSafe-append}
 use Rattle.pfr_story.proofs.CallLaws.{past_did, called_safe}
 use Rattle.pfr_story.proofs.Traces.{Traced, Traced-keeps}
-use Rattle.pfr_story.proofs.StepRules.{AllowsBanks, noted_good, power_good, provision_traced}
+use Rattle.pfr_story.proofs.StepTraces.{AllowsBanks, noted_good, power_good, provision_traced}
 
 -- the store did these operations, or a front of them, the last perhaps torn
 pub record Stored (plan : List Operation) (old new : Past) : Type 0 where

@@ -13,6 +13,7 @@ use Rattle.pfr_flash.specs.declared.names.Device.TheVariants as device
 use Rattle.pfr_report.specs.Texts.{IsNoted}
 use Rattle.pfr_report.specs.declared.note.Note.{Note}
 use Rattle.pfr_report.specs.declared.note.What.{What}
+use Rattle.pfr_report.specs.declared.note.What.TheVariants as what
 use Rattle.pfr_story.specs.Story.{Past, Story, Move, Says, Does, Asks, after, moved_by, noted, with_op, counts_of, image_at, image_of}
 use Rattle.pfr_story.specs.World.{World, past_of, story_of, AllMoved, added}
 use Rattle.pfr_story.specs.Goes.{Ran, Stopped}
@@ -123,6 +124,14 @@ noted_append (x ∷ xs) ys that (inr n) = elim (noted_append xs ys that n) [ inl
 pub noted_right : (xs ys : List Note) (that : What) → IsNoted ys that → IsNoted (xs ++ ys) that
 noted_right [] ys that n = n
 noted_right (x ∷ xs) ys that n = inr (noted_right xs ys that n)
+
+-- a note that carries counts carries these
+abbrev pub IsStamped : What → Counts → Type 0
+IsStamped (what.Held b at) now = at ≡ now
+IsStamped (what.Released b svn at) now = at ≡ now
+IsStamped (what.Locked b why at) now = at ≡ now
+IsStamped (what.Lost device at) now = at ≡ now
+IsStamped that now = Unit {0}
 
 -- a fact of each note that the rule lets through, where it is made
 abbrev pub Tells : Rule → (What → Story → Type 0) → Type 0
