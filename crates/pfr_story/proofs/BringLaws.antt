@@ -30,13 +30,12 @@ use Rattle.pfr_story.specs.Causes.{IsAgainst, IsDue, IsRestorable}
 use Rattle.pfr_story.specs.Promises.{AtCounts}
 use Rattle.pfr_story.specs.Bringing.{IsOver, IsCalm, ReleasedSoon, BringsUp, BringsUpCalm, PowerReleases}
 use Rattle.pfr_story.proofs.WorldLaws.{AllMoved-trans}
-use Rattle.pfr_story.proofs.CallLaws.{AllMake-called}
+use Rattle.pfr_story.proofs.SafetyLaws.{AllMake-called}
 use Rattle.pfr_story.proofs.Courses.{Steps-moved}
-use Rattle.pfr_story.proofs.Made.{said, notes_after, Steps-made}
+use Rattle.pfr_story.proofs.Made.{said, notes_after, Steps-made, Whichever, Wrote, Anything, wrote_then, wrote_by, wrote_cut, wrote_moves, never_noted, in_added, only_between}
 use Rattle.pfr_story.proofs.Traces.{Precedes, precedes_moved}
 use Rattle.pfr_story.proofs.Bytes.{HaveBytes, images_then}
 use Rattle.pfr_story.proofs.NoteLaws.{at_moment}
-use Rattle.pfr_story.proofs.Noting.{Whichever, Wrote, Anything, wrote_then, wrote_by, wrote_cut, wrote_moves, never_noted, in_added, only_between}
 use Rattle.pfr_story.proofs.TailLaws.{HoldsNot, NoneHolds, brought_holds, brought_once, behind, tail_trusted, tail_due, tail_named, tail_restored, tail_releases}
 
 -- ---- notes that can't be there where it is calm
