@@ -1,8 +1,7 @@
 -- What is noted belongs to its event.
-use Rattle.std.proofs.Common.{◌≡◌, ◌∙◌, refl, sym, ap, subst, ℕ, ◌+◌, List, [], ◌∷◌, Bool, true, false, Option, Some, None, Result, Ok, Err, inl, inr}
+use Rattle.std.proofs.Common.{◌≡◌, ◌∙◌, refl, sym, ap, subst, ℕ, ◌+◌, List, [], ◌∷◌, Bool, true, false, Option, Result, Ok, Err, inl, inr}
 use Rattle.std.proofs.lemmas.Bool.{false≢true}
 use Rattle.pfr_flash.specs.Operation.{Operation}
-use Rattle.pfr_flash.specs.declared.names.Bank.{Bank}
 use Rattle.pfr_flash.specs.declared.names.Bank.TheVariants as bank
 use Rattle.pfr_flash.specs.declared.names.Counts.{Counts}
 use Rattle.pfr_flash.specs.declared.names.Device.{Device}
@@ -12,18 +11,16 @@ use Rattle.pfr_fuses.specs.FusesOf.{fuses_of}
 use Rattle.pfr_fuses.specs.Provisioning.{provision_plan}
 use Rattle.pfr_fuses.specs.declared.fuse_fail.FuseFail.{FuseFail}
 use Rattle.pfr_fuses.specs.declared.root_slot.RootSlot.{RootSlot}
-use Rattle.pfr_auth.specs.declared.fail.ActiveFail.{ActiveFail}
 use Rattle.pfr_script.specs.declared.event.Event.{Event}
 use Rattle.pfr_script.specs.declared.event.Event.TheVariants as event
 use Rattle.pfr_report.specs.Texts.{IsNoted}
-use Rattle.pfr_report.specs.declared.note.LockWhy.{LockWhy}
 use Rattle.pfr_report.specs.declared.note.Note.{Note}
 use Rattle.pfr_report.specs.declared.note.What.{What}
 use Rattle.pfr_report.specs.declared.note.What.TheVariants as what
 use Rattle.pfr_story.specs.Story.{Story, Says, Does, Asks, noted, counts_of, called}
 use Rattle.pfr_story.specs.World.{World, story_of, IsDark, added}
 use Rattle.pfr_story.specs.Safety.{Rule, AllSafe}
-use Rattle.pfr_story.specs.Plans.{store, migration_in, migrated, provisioned_in, refusal_of}
+use Rattle.pfr_story.specs.Plans.{store, migration_in, provisioned_in, refusal_of}
 use Rattle.pfr_story.specs.Course.{Follows}
 use Rattle.pfr_story.specs.Standing.{standing_of, is_off}
 use Rattle.pfr_story.specs.Turn.{off_course, ignored, provision_course, where_off, begun, Turn}
@@ -34,102 +31,62 @@ use Rattle.pfr_story.proofs.Made.{Made, added_said}
 use Rattle.pfr_story.proofs.StepTraces.{AllowsBanks, noted_good, power_good, provision_traced}
 use Rattle.pfr_story.proofs.StoreLaws.{judged_here}
 
--- ---- what is so of all that is noted
-abbrev Saying : (What → Type 0) → Rule
-Saying P (Says w) story = P (w (counts_of story))
-Saying P (Does which op) story = Unit {0}
-Saying P (Asks which) story = Unit {0}
-
--- it is so of all that is noted of banks, and of losses of power
-record HoldsOfBanks (P : What → Type 0) : Type 0 where
-  held : (b : Bank) (at : Counts) → P (what.Held b at)
-  released : (b : Bank) (svn : ℕ) (at : Counts) → P (what.Released b svn at)
-  locked : (b : Bank) (cause : LockWhy) (at : Counts) → P (what.Locked b cause at)
-  untrusted : (b : Bank) (cause : ActiveFail) → P (what.Untrusted b cause)
-  restored : (b : Bank) (level : ℕ) → P (what.Restored b level)
-  lost : (which : Device) (at : Counts) → P (what.Lost (Some which) at)
-
 -- what is noted of what was judged of a provision
 abbrev pub outcome_of : Result ℕ FuseFail → What
 outcome_of (Ok number) = what.Provisioned
 outcome_of (Err cause) = what.ProvisionRefused (refusal_of cause)
 
--- it is so of what is noted at this event
-abbrev HoldsAt : Event → World → (What → Type 0) → Type 0
-HoldsAt event.Power old P = P what.Power
-HoldsAt event.Off old P = (AreOff old → P what.Ignored) × (¬ AreOff old → (at : Counts) → P (what.Lost None at))
-HoldsAt (event.Provision root) old P = (AreOff old → P what.Ignored) × (¬ AreOff old → (r : Result ℕ FuseFail) → P (outcome_of r))
-
-module _ (P : What → Type 0) where
-  saying_banks : HoldsOfBanks P → AllowsBanks (Saying P)
-  saying_banks h = record {
-    held = λ b story. h.held b (counts_of story);
-    bank = λ b. record {
-      released = λ svn story. h.released b svn (counts_of story);
-      locked = λ cause story. h.locked b cause (counts_of story);
-      untrusted = λ cause story. h.untrusted b cause;
-      restored = λ level story. h.restored b level;
-      asks = λ which story own. tt;
-      works = λ op story. tt;
-    };
-    lost = λ which story. h.lost which (counts_of story);
-  }
-
-  call_says : (which : Device) (ops : List Operation) (story : Story) → AllSafe (Saying P) (called which ops) story
-  call_says which ops story = called_any (Saying P) which (λ op later. tt) (λ later. tt) ops story
-
-  migrated_says : (story : Story) → AllSafe (Saying P) (migrated story) story
-  migrated_says story = (tt, call_says device.Nv (migration_in (fuses_of (store story))) story)
-
-  provisioned_says : (root : RootSlot) (r : Result ℕ FuseFail) (story : Story) → P (outcome_of r) → AllSafe (Saying P) (provisioned_in root r story) story
-  provisioned_says root (Ok number) story p =
-      AllSafe-append (Saying P) (called device.Nv (provision_plan number root)) (Says (λ _. what.Provisioned) ∷ []) story (call_says device.Nv (provision_plan number root) story) (p, tt)
-  provisioned_says root (Err cause) story p = (p, tt)
-
-  -- So it is of each note that a step adds.
-  Turn-says : (accepts : Acceptance) (e : Event) (old new : World) → HoldsOfBanks P → HoldsAt e old P → Turn accepts e old new → Traced (Saying P) (begun old) new
-  Turn-says accepts event.Power old new h p t =
-      power_good (Saying P) (saying_banks h) (λ story. Unit {0}) accepts (begun old) new (λ story any. migrated_says story) p tt t
-  Turn-says accepts event.Off old new h p t = by_off (is_off (standing_of bank.Bmc old.notes.list)) refl t
-    where
-      by_off : (b : Bool) → is_off (standing_of bank.Bmc old.notes.list) ≡ b → Follows (where_off b ignored off_course) (begun old) new → Traced (Saying P) (begun old) new
-      by_off true off t = noted_good (Saying P) (saying_banks h) (begun old) new (Says (λ _. what.Ignored) ∷ []) t (p.0 off, tt)
-      by_off false on t =
-          noted_good (Saying P) (saying_banks h) (begun old) new (Says (what.Lost None) ∷ []) t (p.1 (λ off. false≢true (sym on ∙ off)) (counts_of (story_of old)), tt)
-  Turn-says accepts (event.Provision root) old new h p t = by_off (is_off (standing_of bank.Bmc old.notes.list)) refl t
-    where
-      by_off : (b : Bool) → is_off (standing_of bank.Bmc old.notes.list) ≡ b → Follows (where_off b ignored (provision_course root)) (begun old) new → Traced (Saying P) (begun old) new
-      by_off true off t = noted_good (Saying P) (saying_banks h) (begun old) new (Says (λ _. what.Ignored) ∷ []) t (p.0 off, tt)
-      by_off false on t =
-          provision_traced (Saying P) (saying_banks h) (λ story. Unit {0}) root (begun old) new
-          (λ story any. (tt, provisioned_says root (judged_here root story) story (p.1 (λ off. false≢true (sym on ∙ off)) (judged_here root story)))) tt t
-
-  all_noted : (old new : World) → Traced (Saying P) (begun old) new → (that : What) → IsNoted (added old new) that → P that
-  all_noted old new t that n = (Traced-known (Saying P) (λ note story. P note) (λ w story g. g) (begun old) new t that n).1
-
 -- ---- each note belongs to its event
-banks_belong : (e : Event) (old : World) → HoldsOfBanks (BelongsTo e old)
+abbrev Belongs : Event → World → Rule
+Belongs e old (Says w) story = BelongsTo e old (w (counts_of story))
+Belongs e old (Does which op) story = Unit {0}
+Belongs e old (Asks which) story = Unit {0}
+
+-- what is noted of banks, and of losses of power, belongs to each
+banks_belong : (e : Event) (old : World) → AllowsBanks (Belongs e old)
 banks_belong e old = record {
-  held = λ b at. tt;
-  released = λ b svn at. tt;
-  locked = λ b cause at. tt;
-  untrusted = λ b cause. tt;
-  restored = λ b level. tt;
-  lost = λ which at. tt;
+  held = λ b story. tt;
+  bank = λ b. record {
+    released = λ svn story. tt;
+    locked = λ cause story. tt;
+    untrusted = λ cause story. tt;
+    restored = λ level story. tt;
+    asks = λ which story own. tt;
+    works = λ op story. tt;
+  };
+  lost = λ which story. tt;
 }
 
-outcome_belongs : (root : RootSlot) (old : World) → ¬ AreOff old → (r : Result ℕ FuseFail) → BelongsTo (event.Provision root) old (outcome_of r)
-outcome_belongs root old on (Ok number) = (on, tt)
-outcome_belongs root old on (Err cause) = (on, tt)
+call_belongs : (e : Event) (old : World) (which : Device) (ops : List Operation) (story : Story) → AllSafe (Belongs e old) (called which ops) story
+call_belongs e old which ops story = called_any (Belongs e old) which (λ op later. tt) (λ later. tt) ops story
 
-event_belongs : (e : Event) (old : World) → HoldsAt e old (BelongsTo e old)
-event_belongs event.Power old = tt
-event_belongs event.Off old = ((λ off. (off, λ power. power)), λ on at. tt)
-event_belongs (event.Provision root) old = ((λ off. (off, λ power. power)), λ on r. outcome_belongs root old on r)
+provision_belongs : (root : RootSlot) (old : World) → ¬ AreOff old → (r : Result ℕ FuseFail) (story : Story) → AllSafe (Belongs (event.Provision root) old) (provisioned_in root r story) story
+provision_belongs root old on (Ok number) story =
+    AllSafe-append (Belongs (event.Provision root) old) (called device.Nv (provision_plan number root)) (Says (λ _. what.Provisioned) ∷ []) story
+    (call_belongs (event.Provision root) old device.Nv (provision_plan number root) story) ((on, tt), tt)
+provision_belongs root old on (Err cause) story = ((on, tt), tt)
+
+all_belong : (accepts : Acceptance) (e : Event) (old new : World) → Turn accepts e old new → Traced (Belongs e old) (begun old) new
+all_belong accepts event.Power old new t =
+    power_good (Belongs event.Power old) (banks_belong event.Power old) (λ story. Unit {0}) accepts (begun old) new
+    (λ story any. (tt, call_belongs event.Power old device.Nv (migration_in (fuses_of (store story))) story)) tt tt t
+all_belong accepts event.Off old new t = by_off (is_off (standing_of bank.Bmc old.notes.list)) refl t
+  where
+    by_off : (b : Bool) → is_off (standing_of bank.Bmc old.notes.list) ≡ b → Follows (where_off b ignored off_course) (begun old) new → Traced (Belongs event.Off old) (begun old) new
+    by_off true off t = noted_good (Belongs event.Off old) (banks_belong event.Off old) (begun old) new ignored.first t ((off, λ power. power), tt)
+    by_off false on t = noted_good (Belongs event.Off old) (banks_belong event.Off old) (begun old) new off_course.first t (tt, tt)
+all_belong accepts (event.Provision root) old new t = by_off (is_off (standing_of bank.Bmc old.notes.list)) refl t
+  where
+    by_off : (b : Bool) → is_off (standing_of bank.Bmc old.notes.list) ≡ b → Follows (where_off b ignored (provision_course root)) (begun old) new → Traced (Belongs (event.Provision root) old) (begun old) new
+    by_off true off t = noted_good (Belongs (event.Provision root) old) (banks_belong (event.Provision root) old) (begun old) new ignored.first t ((off, λ power. power), tt)
+    by_off false on t =
+        provision_traced (Belongs (event.Provision root) old) (banks_belong (event.Provision root) old) (λ story. Unit {0}) root (begun old) new
+        (λ story any. (tt, provision_belongs root old (λ off. false≢true (sym on ∙ off)) (judged_here root story) story)) tt t
 
 -- Each note that a step adds belongs to its event.
 pub Turn-belongs : (accepts : Acceptance) (e : Event) (old new : World) → Turn accepts e old new → NotesBelong e old new
-Turn-belongs accepts e old new t that n = all_noted (BelongsTo e old) old new (Turn-says (BelongsTo e old) accepts e old new (banks_belong e old) (event_belongs e old) t) that n
+Turn-belongs accepts e old new t that n =
+    (Traced-known (Belongs e old) (λ note story. BelongsTo e old note) (λ w story g. g) (begun old) new (all_belong accepts e old new t) that n).1
 
 -- ---- banks that are off
 is_ignored : (old new : World) → Follows ignored (begun old) new → IsIgnored old new
