@@ -1,7 +1,6 @@
 -- What is noted belongs to its event.
 use Rattle.std.proofs.Common.{◌≡◌, ◌∙◌, refl, sym, ap, subst, ℕ, ◌+◌, List, [], ◌∷◌, Bool, true, false, Option, Result, Ok, Err, inl, inr}
 use Rattle.std.proofs.lemmas.Bool.{false≢true}
-use Rattle.pfr_flash.specs.Operation.{Operation}
 use Rattle.pfr_flash.specs.declared.names.Bank.TheVariants as bank
 use Rattle.pfr_flash.specs.declared.names.Counts.{Counts}
 use Rattle.pfr_flash.specs.declared.names.Device.{Device}
@@ -17,7 +16,7 @@ use Rattle.pfr_report.specs.Texts.{IsNoted}
 use Rattle.pfr_report.specs.declared.note.Note.{Note}
 use Rattle.pfr_report.specs.declared.note.What.{What}
 use Rattle.pfr_report.specs.declared.note.What.TheVariants as what
-use Rattle.pfr_story.specs.Story.{Story, Says, Does, Asks, noted, counts_of, called}
+use Rattle.pfr_story.specs.Story.{Story, Says, noted, counts_of, called}
 use Rattle.pfr_story.specs.World.{World, story_of, IsDark, added}
 use Rattle.pfr_story.specs.Safety.{Rule, AllSafe}
 use Rattle.pfr_story.specs.Plans.{store, migration_in, provisioned_in, refusal_of}
@@ -25,8 +24,8 @@ use Rattle.pfr_story.specs.Course.{Follows}
 use Rattle.pfr_story.specs.Standing.{standing_of, is_off}
 use Rattle.pfr_story.specs.Turn.{off_course, ignored, provision_course, where_off, begun, Turn}
 use Rattle.pfr_story.specs.Promises.{AreOff, IsPower, IsIgnored, StaysQuiet, LostEnds, LostIsDark, BelongsTo, NotesBelong}
-use Rattle.pfr_story.proofs.SafetyLaws.{AllSafe-append, called_any}
-use Rattle.pfr_story.proofs.Traces.{Traced, Traced-known}
+use Rattle.pfr_story.proofs.SafetyLaws.{AllSafe-append}
+use Rattle.pfr_story.proofs.Traces.{Saying, call_says, Traced, Traced-known}
 use Rattle.pfr_story.proofs.Made.{Made, added_said}
 use Rattle.pfr_story.proofs.StepTraces.{AllowsBanks, noted_good, power_good, provision_traced}
 use Rattle.pfr_story.proofs.StoreLaws.{judged_here}
@@ -38,9 +37,7 @@ outcome_of (Err cause) = what.ProvisionRefused (refusal_of cause)
 
 -- ---- each note belongs to its event
 abbrev Belongs : Event → World → Rule
-Belongs e old (Says w) story = BelongsTo e old (w (counts_of story))
-Belongs e old (Does which op) story = Unit {0}
-Belongs e old (Asks which) story = Unit {0}
+Belongs e old = Saying (λ that story. BelongsTo e old that)
 
 -- what is noted of banks, and of losses of power, belongs to each
 banks_belong : (e : Event) (old : World) → AllowsBanks (Belongs e old)
@@ -57,19 +54,16 @@ banks_belong e old = record {
   lost = λ which story. tt;
 }
 
-call_belongs : (e : Event) (old : World) (which : Device) (ops : List Operation) (story : Story) → AllSafe (Belongs e old) (called which ops) story
-call_belongs e old which ops story = called_any (Belongs e old) which (λ op later. tt) (λ later. tt) ops story
-
 provision_belongs : (root : RootSlot) (old : World) → ¬ AreOff old → (r : Result ℕ FuseFail) (story : Story) → AllSafe (Belongs (event.Provision root) old) (provisioned_in root r story) story
 provision_belongs root old on (Ok number) story =
     AllSafe-append (Belongs (event.Provision root) old) (called device.Nv (provision_plan number root)) (Says (λ _. what.Provisioned) ∷ []) story
-    (call_belongs (event.Provision root) old device.Nv (provision_plan number root) story) ((on, tt), tt)
+    (call_says (λ that here. BelongsTo (event.Provision root) old that) device.Nv (provision_plan number root) story) ((on, tt), tt)
 provision_belongs root old on (Err cause) story = ((on, tt), tt)
 
 all_belong : (accepts : Acceptance) (e : Event) (old new : World) → Turn accepts e old new → Traced (Belongs e old) (begun old) new
 all_belong accepts event.Power old new t =
     power_good (Belongs event.Power old) (banks_belong event.Power old) (λ story. Unit {0}) accepts (begun old) new
-    (λ story any. (tt, call_belongs event.Power old device.Nv (migration_in (fuses_of (store story))) story)) tt tt t
+    (λ story any. (tt, call_says (λ that here. BelongsTo event.Power old that) device.Nv (migration_in (fuses_of (store story))) story)) tt tt t
 all_belong accepts event.Off old new t = by_off (is_off (standing_of bank.Bmc old.notes.list)) refl t
   where
     by_off : (b : Bool) → is_off (standing_of bank.Bmc old.notes.list) ≡ b → Follows (where_off b ignored off_course) (begun old) new → Traced (Belongs event.Off old) (begun old) new
@@ -86,7 +80,7 @@ all_belong accepts (event.Provision root) old new t = by_off (is_off (standing_o
 -- Each note that a step adds belongs to its event.
 pub Turn-belongs : (accepts : Acceptance) (e : Event) (old new : World) → Turn accepts e old new → NotesBelong e old new
 Turn-belongs accepts e old new t that n =
-    (Traced-known (Belongs e old) (λ note story. BelongsTo e old note) (λ w story g. g) (begun old) new (all_belong accepts e old new t) that n).1
+    (Traced-known (λ that story. BelongsTo e old that) (begun old) new (all_belong accepts e old new t) that n).1
 
 -- ---- banks that are off
 is_ignored : (old new : World) → Follows ignored (begun old) new → IsIgnored old new

@@ -29,16 +29,16 @@ use Rattle.pfr_report.specs.declared.note.LockWhy.{LockWhy}
 use Rattle.pfr_report.specs.declared.note.LockWhy.TheVariants as why
 use Rattle.pfr_report.specs.declared.note.What.{What}
 use Rattle.pfr_report.specs.declared.note.What.TheVariants as what
-use Rattle.pfr_story.specs.Story.{Story, Says, Does, Asks, after, noted, counts_of, device_of, says, called}
+use Rattle.pfr_story.specs.Story.{Story, after, noted, counts_of, device_of, says, called}
 use Rattle.pfr_story.specs.World.{World, state_at}
 use Rattle.pfr_story.specs.Safety.{Rule, AllSafe, AllMake, Leads}
 use Rattle.pfr_story.specs.Plans.{mine, store, lock_of, ready_in, judged_active, judged_recovery, restore_ops, copied, restored, brought_up}
 use Rattle.pfr_story.specs.Causes.{IsTrustedWith, IsNotTrusted, IsAgainst, IsRestorable, IsDue}
 use Rattle.pfr_story.specs.Turn.{fault_of}
-use Rattle.pfr_story.proofs.SafetyLaws.{Leads-then, image_noted, image_called, store_called, called_any}
+use Rattle.pfr_story.proofs.SafetyLaws.{Leads-then, image_noted, image_called, store_called}
 use Rattle.pfr_story.proofs.RestoreLaws.{found_good}
 use Rattle.pfr_story.proofs.BringRules.{Any, IsReady, ready_noted, ready_found, IsOwn, Walks, walk_safe, AllowsBank, allowed_safe, Making, safe_made}
-use Rattle.pfr_story.proofs.Traces.{Precedes, Precedes-refl, Precedes-after}
+use Rattle.pfr_story.proofs.Traces.{Saying, call_says, Precedes, Precedes-refl, Precedes-after}
 
 -- What is looked at: the worlds at the two ends, the engine, and where the power is switched off.
 pub record Setting : Type 1 where
@@ -71,13 +71,7 @@ Fact s _ story = Unit {0}
 
 -- Each note is true.
 abbrev pub IsTrue : Setting → Rule
-IsTrue s (Says w) story = Fact s (w (counts_of story)) story
-IsTrue s (Does which op) story = Unit {0}
-IsTrue s (Asks which) story = Unit {0}
-
--- operations say nothing
-pub call_true : (s : Setting) (which : Device) (ops : List Operation) (story : Story) → AllSafe (IsTrue s) (called which ops) story
-call_true s which ops story = called_any (IsTrue s) which (λ op here. tt) (λ here. tt) ops story
+IsTrue s = Saying (Fact s)
 
 -- ---- a bank is brought up
 -- a call of its device leaves its fuses, and its layout valid
@@ -119,7 +113,7 @@ module _ (s : Setting) (b : Bank) where
   -- it is restored, and checked again
   copied_true : (fuses : FusesState) (capsule : CapsuleState) → Leads (IsTrue s) (CanRestore fuses) (copied b 1 fuses capsule) (CanRestore fuses)
   copied_true fuses capsule = record {
-    safe = λ story p. call_true s (device_of b) (restore_ops 1 (mine b story) capsule (layout_of fuses.provision b)) story;
+    safe = λ story p. call_says (Fact s) (device_of b) (restore_ops 1 (mine b story) capsule (layout_of fuses.provision b)) story;
     ends = λ story p.
         let ops : List Operation = restore_ops 1 (mine b story) capsule (layout_of fuses.provision b) in
         (ready_called b fuses ops story p.0, was_later fuses ops story p.1);

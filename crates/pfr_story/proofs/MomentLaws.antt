@@ -15,7 +15,7 @@ use Rattle.pfr_story.specs.Plans.{mine, store}
 use Rattle.pfr_story.specs.Promises.{AtCounts}
 use Rattle.pfr_story.specs.Recovery.{HoldsIn, LeavesTrue, moments_with, moments_of, StaysAlong}
 use Rattle.pfr_story.proofs.SafetyLaws.{image_noted}
-use Rattle.pfr_story.proofs.Traces.{IsStamped, Traced, Precedes, Precedes-refl, Precedes-after, upto_begins}
+use Rattle.pfr_story.proofs.Traces.{IsStamped, Saying, Traced, Precedes, Precedes-refl, Precedes-after, upto_begins}
 use Rattle.pfr_story.proofs.NoteLaws.{bank_then, at_moment}
 use Rattle.pfr_story.proofs.Made.{Made, made_then, said, added_said}
 
@@ -80,9 +80,7 @@ IsUnstamped that = Unit {0}
 
 -- no note carries counts
 abbrev pub NoMoments : Rule
-NoMoments (Says w) story = IsUnstamped (w (counts_of story))
-NoMoments (Does which op) story = Unit {0}
-NoMoments (Asks which) story = Unit {0}
+NoMoments = Saying (λ that story. IsUnstamped that)
 
 passed_over : (that : What) (others : List Counts) → IsUnstamped that → moments_with that others ≡ others
 passed_over (what.Held b at) others u = absurd u

@@ -28,7 +28,7 @@ use Rattle.pfr_report.specs.declared.note.LockWhy.TheVariants as why
 use Rattle.pfr_report.specs.declared.note.Note.{Note}
 use Rattle.pfr_report.specs.declared.note.What.{What}
 use Rattle.pfr_report.specs.declared.note.What.TheVariants as what
-use Rattle.pfr_story.specs.Story.{Past, Story, Move, Says, Does, Asks, after, counts_of, called}
+use Rattle.pfr_story.specs.Story.{Past, Story, Move, Says, Asks, after, counts_of, called}
 use Rattle.pfr_story.specs.World.{World, past_of, story_of, added}
 use Rattle.pfr_story.specs.Safety.{Rule, AllSafe}
 use Rattle.pfr_story.specs.Plans.{provisioned_in, refusal_of}
@@ -37,8 +37,8 @@ use Rattle.pfr_story.specs.Standing.{standing_of, is_off}
 use Rattle.pfr_story.specs.Turn.{provision_stretch, ignored, provision_course, where_off, begun, Turn}
 use Rattle.pfr_story.specs.Promises.{AreOff, IsKnownSlot, IsUntroubled, sizes_judged, TriesProvision, ProvisionsSo}
 use Rattle.pfr_story.proofs.Sequence.{after-append}
-use Rattle.pfr_story.proofs.SafetyLaws.{AllSafe-append, with_all, past_called, called_any}
-use Rattle.pfr_story.proofs.Traces.{Begins, Traced-known, noted_right}
+use Rattle.pfr_story.proofs.SafetyLaws.{AllSafe-append, with_all, past_called}
+use Rattle.pfr_story.proofs.Traces.{Saying, call_says, Begins, Traced-known, noted_right}
 use Rattle.pfr_story.proofs.Made.{Made, said, said_append, added_said}
 use Rattle.pfr_story.proofs.StepTraces.{AllowsBanks, provision_traced}
 use Rattle.pfr_story.proofs.StoreLaws.{Stored, judged_here, operations_in, Turn-stored}
@@ -97,9 +97,7 @@ IsBacked root judged base (what.ProvisionRefused w) story = (cause : FuseFail) �
 IsBacked root judged base that story = Unit {0}
 
 abbrev Backing : RootSlot → Result ℕ FuseFail → Past → Rule
-Backing root judged base (Says w) story = IsBacked root judged base (w (counts_of story)) story
-Backing root judged base (Does which op) story = Unit {0}
-Backing root judged base (Asks which) story = Unit {0}
+Backing root judged base = Saying (IsBacked root judged base)
 
 module _ (root : RootSlot) (judged : Result ℕ FuseFail) (base : Past) where
   backing_banks : AllowsBanks (Backing root judged base)
@@ -120,7 +118,7 @@ module _ (root : RootSlot) (judged : Result ℕ FuseFail) (base : Past) where
   provision_backed (Ok number) story j e =
       let plan : List Operation = provision_plan number root in
       let call : AllSafe (Backing root judged base) (called device.Nv plan) story =
-      called_any (Backing root judged base) device.Nv (λ op later. tt) (λ later. tt) plan story in
+      call_says (IsBacked root judged base) device.Nv plan story in
       let went : WentThrough root judged base (after (called device.Nv plan) story).nv =
       record { number = number; judged_so = j; store = past_called device.Nv plan story ∙ ap (λ (p : Past). with_all p plan) e } in
       AllSafe-append (Backing root judged base) (called device.Nv plan) (Says (λ _. what.Provisioned) ∷ []) story call (went, tt)
@@ -198,7 +196,7 @@ module _ (accepts : Acceptance) (root : RootSlot) (old new : World) where
       let stored : Stored (operations_in root judged) base (past_of new.nv) = Turn-stored accepts (event.Provision root) old new t in
       let traced = provision_traced (Backing root judged base) (backing_banks root judged base) (λ story. story ≡ story_of (begun old)) root (begun old) new
       (λ story e. (tt, provision_backed root judged base (judged_here root story) story (sym (ap (λ (s : Story). judged_here root s) e)) (ap (λ (s : Story). s.nv) e))) refl (mid, first, rest) in
-      let known = Traced-known (Backing root judged base) (IsBacked root judged base) (λ w story g. g) (begun old) new traced in
+      let known = Traced-known (IsBacked root judged base) (begun old) new traced in
       let made : IsUntroubled bank.Bmc (added old new) → IsNoted (added old new) (outcome_of judged) = outcome mid first.is rest in
       record {
         done = λ n. let k = known what.Provisioned n in done_by stored k.0.nv k.1 k.2.nv;

@@ -4,7 +4,6 @@ use Rattle.pfr_flash.specs.Bytes.{AreBytes}
 use Rattle.pfr_flash.specs.FlashState.{FlashState, size_of}
 use Rattle.pfr_flash.specs.Layout.{IsBankSize, IsValidLayout}
 use Rattle.pfr_flash.specs.Moved.{Moved}
-use Rattle.pfr_flash.specs.Operation.{Operation}
 use Rattle.pfr_flash.specs.declared.layout.Layout.{Layout}
 use Rattle.pfr_flash.specs.declared.names.Bank.{Bank}
 use Rattle.pfr_flash.specs.declared.names.Bank.TheVariants as bank
@@ -40,15 +39,15 @@ use Rattle.pfr_story.specs.Plans.{mine, store, judged_recovery, restore_ops, cop
 use Rattle.pfr_story.specs.Turn.{bank_stretch, fuse_stretch, provision_stretch, where_off, ignored, power_course, off_course, provision_course, begun, Turn}
 use Rattle.pfr_story.specs.Recovery.{HoldsIn, LeavesTrue, StaysRecoverable}
 use Rattle.pfr_story.proofs.WorldLaws.{AllMoved-refl}
-use Rattle.pfr_story.proofs.SafetyLaws.{AllSafe-append, image_noted, called_any}
+use Rattle.pfr_story.proofs.SafetyLaws.{AllSafe-append, image_noted}
 use Rattle.pfr_story.proofs.RestoreLaws.{found_good}
 use Rattle.pfr_story.proofs.BringRules.{Any, IsReady, ready_noted, ready_found, Walks, walk_safe}
 use Rattle.pfr_story.proofs.Turns.{Turn-moved}
-use Rattle.pfr_story.proofs.Traces.{Traced, Traced-then, Traced-ran, Traced-whole, Traced-cut, precedes_moved, AreImages}
+use Rattle.pfr_story.proofs.Traces.{call_says, Traced, Traced-then, Traced-ran, Traced-whole, Traced-cut, precedes_moved, AreImages}
 use Rattle.pfr_story.proofs.StepTraces.{Between, AllowsLosses, IsGoodStretch, noted_along, power_along, provision_along}
 use Rattle.pfr_story.proofs.Bytes.{HaveBytes, images_then}
 use Rattle.pfr_story.proofs.RecoverableLaws.{other_safe}
-use Rattle.pfr_story.proofs.MomentLaws.{StaysTrue, NoMoments, Stays, call_stays, stays_along, stays_behind}
+use Rattle.pfr_story.proofs.MomentLaws.{StaysTrue, IsUnstamped, NoMoments, Stays, call_stays, stays_along, stays_behind}
 use Rattle.pfr_story.proofs.KeepLaws.{GoodRecovery, job_leaves, ops_safe, migration_safe}
 
 -- the devices hold bytes, the banks have whole blocks, and the store has its size
@@ -158,12 +157,9 @@ module _ (accepts : Acceptance) (b : Bank) (first last : World) where
   }
 
 -- ---- a provision makes no moment before it ends
-call_quiet : (ops : List Operation) (story : Story) → AllSafe NoMoments (called device.Nv ops) story
-call_quiet ops story = called_any NoMoments device.Nv (λ op here. tt) (λ here. tt) ops story
-
 tried_quiet : (root : RootSlot) (judged : Result ℕ FuseFail) (story : Story) → AllSafe NoMoments (provisioned_in root judged story) story
 tried_quiet root (Ok number) story =
-    AllSafe-append NoMoments (called device.Nv (provision_plan number root)) (Says (λ _. what.Provisioned) ∷ []) story (call_quiet (provision_plan number root) story) (tt, tt)
+    AllSafe-append NoMoments (called device.Nv (provision_plan number root)) (Says (λ _. what.Provisioned) ∷ []) story (call_says (λ that here. IsUnstamped that) device.Nv (provision_plan number root) story) (tt, tt)
 tried_quiet root (Err cause) story = (tt, tt)
 
 provisioned_quiet : (root : RootSlot) (story : Story) → AllSafe NoMoments (provisioned root story) story

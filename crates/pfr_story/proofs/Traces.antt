@@ -14,13 +14,13 @@ use Rattle.pfr_report.specs.Texts.{IsNoted}
 use Rattle.pfr_report.specs.declared.note.Note.{Note}
 use Rattle.pfr_report.specs.declared.note.What.{What}
 use Rattle.pfr_report.specs.declared.note.What.TheVariants as what
-use Rattle.pfr_story.specs.Story.{Past, Story, Move, Says, Does, Asks, after, moved_by, noted, with_op, counts_of, image_at, image_of}
+use Rattle.pfr_story.specs.Story.{Past, Story, Move, Says, Does, Asks, after, moved_by, noted, with_op, counts_of, image_at, image_of, called}
 use Rattle.pfr_story.specs.World.{World, past_of, story_of, AllMoved, added}
 use Rattle.pfr_story.specs.Goes.{Ran, Stopped}
 use Rattle.pfr_story.specs.Safety.{Rule, AllGood, AllSafe, Keeps}
 use Rattle.pfr_story.proofs.WorldLaws.{AllMoved-trans}
 use Rattle.pfr_story.proofs.Sequence.{after-append}
-use Rattle.pfr_story.proofs.SafetyLaws.{AllGood-append, safe_whole, safe_cut, kept_by, notes_operated}
+use Rattle.pfr_story.proofs.SafetyLaws.{AllGood-append, safe_whole, safe_cut, kept_by, notes_operated, called_any}
 
 pub record Traced (G : Rule) (old new : World) : Type 0 where
   pub trace : List Move
@@ -132,9 +132,15 @@ IsStamped (what.Locked b why at) now = at ≡ now
 IsStamped (what.Lost device at) now = at ≡ now
 IsStamped that now = Unit {0}
 
--- a fact of each note that the rule lets through, where it is made
-abbrev pub Tells : Rule → (What → Story → Type 0) → Type 0
-Tells G F = (w : Counts → What) (story : Story) → G (Says w) story → F (w (counts_of story)) story
+-- a fact is true of each note where it is made
+abbrev pub Saying : (What → Story → Type 0) → Rule
+Saying F (Says w) story = F (w (counts_of story)) story
+Saying F (Does which op) story = Unit {0}
+Saying F (Asks which) story = Unit {0}
+
+-- calls note nothing
+pub call_says : (F : What → Story → Type 0) (which : Device) (ops : List Operation) (story : Story) → AllSafe (Saying F) (called which ops) story
+call_says F which ops story = called_any (Saying F) which (λ op here. tt) (λ here. tt) ops story
 
 -- the fact was true of a note at an earlier moment of this story
 abbrev pub KnownBefore : (What → Story → Type 0) → What → Story → Type 0
@@ -146,11 +152,11 @@ pub record Known (F : What → Story → Type 0) (base : List Note) (story : Sto
   pub is : story.notes ≡ base ++ more
   pub all : (that : What) → IsNoted more that → KnownBefore F that story
 
-module _ (G : Rule) (F : What → Story → Type 0) (tells : Tells G F) (base : List Note) where
+module _ (F : What → Story → Type 0) (base : List Note) where
   known_later : (move : Move) (story : Story) (more : List Note) → ((that : What) → IsNoted more that → KnownBefore F that story) → (that : What) → IsNoted more that → KnownBefore F that (moved_by move story)
   known_later move story more all that n = let k = all that n in (k.0, k.1, Precedes-move k.0 story move k.2)
 
-  known_says : (w : Counts → What) (story : Story) → G (Says w) story → Known F base story → Known F base (noted w story)
+  known_says : (w : Counts → What) (story : Story) → F (w (counts_of story)) story → Known F base story → Known F base (noted w story)
   known_says w story g k =
       let note : Note = record { item = story.item; what = w (counts_of story) } in
       record {
@@ -159,21 +165,21 @@ module _ (G : Rule) (F : What → Story → Type 0) (tells : Tells G F) (base : 
         all = λ that n. elim (noted_append k.more (note ∷ []) that n) [
           | inl m ↦ known_later (Says w) story k.more k.all that m
           | inr m ↦ elim m [
-            | inl e ↦ (story, subst (λ (x : What). F x story) e (tells w story g), Precedes-move story story (Says w) (Precedes-refl story))
+            | inl e ↦ (story, subst (λ (x : What). F x story) e g, Precedes-move story story (Says w) (Precedes-refl story))
             | inr none ↦ absurd none
           ]
         ];
       }
 
-  known_moves : Keeps G (Known F base)
+  known_moves : Keeps (Saying F) (Known F base)
   known_moves (Says w) story g k = known_says w story g k
   known_moves (Does which op) story g k = record { more = k.more; is = notes_operated which op story ∙ k.is; all = known_later (Does which op) story k.more k.all }
   known_moves (Asks which) story g k = k
 
 -- Of each note that was added the fact was true where it was made.
-pub Traced-known : (G : Rule) (F : What → Story → Type 0) → Tells G F → (old new : World) → Traced G old new → (that : What) → IsNoted (added old new) that → KnownBefore F that (story_of new)
-Traced-known G F tells old new traced that n =
+pub Traced-known : (F : What → Story → Type 0) (old new : World) → Traced (Saying F) old new → (that : What) → IsNoted (added old new) that → KnownBefore F that (story_of new)
+Traced-known F old new traced that n =
     let none : Known F old.notes.list (story_of old) = record { more = []; is = sym (append-nil old.notes.list); all = λ that n. absurd n } in
-    let k = Traced-keeps G (Known F old.notes.list) (known_moves G F tells old.notes.list) old new traced none in
+    let k = Traced-keeps (Saying F) (Known F old.notes.list) (known_moves F old.notes.list) old new traced none in
     let e : added old new ≡ k.more = ap (λ (notes : List Note). drop (length old.notes.list) notes) k.is ∙ drop-append_seam old.notes.list k.more in
     k.all that (subst (λ (notes : List Note). IsNoted notes that) e n)

@@ -26,10 +26,10 @@ use Rattle.pfr_story.specs.Promises.{IsSwitchedOff}
 use Rattle.pfr_story.proofs.WorldLaws.{AllMoved-refl, AllMoved-trans}
 use Rattle.pfr_story.proofs.SafetyLaws.{AllSafe-append, AllMake-append, AllMake-called, cut_makes}
 use Rattle.pfr_story.proofs.Courses.{Steps-moved, Follows-calm}
-use Rattle.pfr_story.proofs.Traces.{Traced, Traced-known, KnownBefore}
+use Rattle.pfr_story.proofs.Traces.{call_says, Traced, Traced-known, KnownBefore}
 use Rattle.pfr_story.proofs.StepTraces.{Between, AllowsLosses, IsGoodStretch, noted_along, power_along, provision_along}
 use Rattle.pfr_story.proofs.BringRules.{Any, IsOwn}
-use Rattle.pfr_story.proofs.Facts.{Setting, Fact, IsTrue, call_true, brought_true, IsNoLoss, brought_makes, lock_true}
+use Rattle.pfr_story.proofs.Facts.{Setting, Fact, IsTrue, brought_true, IsNoLoss, brought_makes, lock_true}
 
 -- A step in which no count of losses or faults rose is calm.
 pub Turn-calm : (accepts : Acceptance) (e : Event) (old new : World) → Turn accepts e old new → NoneLost old new → NoneRose old new → Calm (course accepts e (story_of old)) (begun old) new
@@ -75,7 +75,7 @@ module _ (s : Setting) where
 
   fuse_true : IsTrueStretch fuse_stretch
   fuse_true = record {
-    plan = record { safe = λ story p. (tt, call_true s device.Nv (migration_in (fuses_of (store story))) story); ends = λ story p. tt };
+    plan = record { safe = λ story p. (tt, call_says (Fact s) device.Nv (migration_in (fuses_of (store story))) story); ends = λ story p. tt };
     noted = λ which story trace p cut rose.
         let nv = store_rose which (cut_makes IsStore IsNoLoss which _ trace story (migrated_makes story) cut).0 rose in
         (refl, ((refl, nv), (refl, ((refl, nv), tt))));
@@ -84,7 +84,7 @@ module _ (s : Setting) where
 
   provisioned_true : (root : RootSlot) (judged : Result ℕ FuseFail) (story : Story) → AllSafe (IsTrue s) (provisioned_in root judged story) story
   provisioned_true root (Ok number) story =
-      AllSafe-append (IsTrue s) (called device.Nv (provision_plan number root)) (Says (λ _. what.Provisioned) ∷ []) story (call_true s device.Nv (provision_plan number root) story) (tt, tt)
+      AllSafe-append (IsTrue s) (called device.Nv (provision_plan number root)) (Says (λ _. what.Provisioned) ∷ []) story (call_says (Fact s) device.Nv (provision_plan number root) story) (tt, tt)
   provisioned_true root (Err cause) story = (tt, tt)
 
   provision_true : (root : RootSlot) → IsTrueStretch (provision_stretch root)
@@ -135,4 +135,4 @@ Turn-known accepts e old new t that n =
     let s : Setting = record { accepts = accepts; first = old; last = new; IsSwitched = IsSwitchedOff e old } in
     let same = AllMoved-refl old in
     let within : Between old new (begun old) new = record { before = record { bmc = same.bmc; pch = same.pch; nv = same.nv }; behind = AllMoved-refl new } in
-    Traced-known (IsTrue s) (Fact s) (λ w story g. g) (begun old) new (Turn-true s e old new within (λ off. off) t) that n
+    Traced-known (Fact s) (begun old) new (Turn-true s e old new within (λ off. off) t) that n
