@@ -1,5 +1,5 @@
 -- A power-on brings each bank up of which no call failed.
-use Rattle.std.proofs.Common.{◌≡◌, ◌∙◌, refl, sym, ap, subst, ℕ, ◌*◌, ◌/◌, List, [], ◌∷◌, ◌++◌, length, Some, inl, inr}
+use Rattle.std.proofs.Common.{◌≡◌, ◌∙◌, refl, ap, ℕ, ◌*◌, ◌/◌, List, [], ◌∷◌, ◌++◌, length, Some, inl, inr}
 use Rattle.pfr_flash.specs.Bytes.{AreBytes}
 use Rattle.pfr_flash.specs.FlashState.{size_of}
 use Rattle.pfr_flash.specs.Layout.{IsBankSize}
@@ -9,7 +9,6 @@ use Rattle.pfr_flash.specs.declared.names.Bank.TheVariants as bank
 use Rattle.pfr_flash.specs.declared.names.Counts.{Counts}
 use Rattle.pfr_flash.specs.declared.names.Device.{Device}
 use Rattle.pfr_flash.specs.declared.names.Device.TheVariants as device
-use Rattle.pfr_flash.proofs.PlayLemmas.{length-play}
 use Rattle.pfr_engine.specs.Acceptance.{Acceptance}
 use Rattle.pfr_fuses.specs.FusesOf.{fuses_of}
 use Rattle.pfr_auth.specs.Trusted.{IsTrusted}
@@ -30,11 +29,11 @@ use Rattle.pfr_story.specs.Causes.{IsAgainst, IsDue, IsRestorable}
 use Rattle.pfr_story.specs.Promises.{AtCounts}
 use Rattle.pfr_story.specs.Bringing.{IsOver, IsCalm, ReleasedSoon, BringsUp, BringsUpCalm, PowerReleases}
 use Rattle.pfr_story.proofs.WorldLaws.{AllMoved-trans}
-use Rattle.pfr_story.proofs.SafetyLaws.{AllMake-called}
+use Rattle.pfr_story.proofs.SafetyLaws.{image_noted, AllMake-called}
 use Rattle.pfr_story.proofs.Courses.{Steps-moved}
 use Rattle.pfr_story.proofs.Made.{said, notes_after, Steps-made, Whichever, Wrote, Anything, wrote_then, wrote_by, wrote_cut, wrote_moves, never_noted, in_added, only_between}
 use Rattle.pfr_story.proofs.Traces.{Precedes, precedes_moved}
-use Rattle.pfr_story.proofs.Bytes.{HaveBytes, images_then}
+use Rattle.pfr_story.proofs.Bytes.{HaveBytes, images_then, mine_sized, bank_sized}
 use Rattle.pfr_story.proofs.NoteLaws.{at_moment}
 use Rattle.pfr_story.proofs.TailLaws.{HoldsNot, NoneHolds, brought_holds, brought_once, behind, tail_trusted, tail_due, tail_named, tail_restored, tail_releases}
 
@@ -221,11 +220,7 @@ module _ (accepts : Acceptance) (first new : World) where
 
     -- its size is that of its device
     sized : length (mine which (held c)) ≡ size_of (state_at (device_of which) new)
-    sized = by_bank which
-      where
-        by_bank : (b : Bank) → length (mine b (held c)) ≡ size_of (state_at (device_of b) new)
-        by_bank bank.Bmc = length-play c.at.bmc.start c.at.bmc.ops ∙ ap (λ (xs : List ℕ). length xs) (sym c.moved.bmc.start)
-        by_bank bank.Pch = length-play c.at.pch.start c.at.pch.ops ∙ ap (λ (xs : List ℕ). length xs) (sym c.moved.pch.start)
+    sized = ap (λ (xs : List ℕ). length xs) (image_noted (device_of which) (what.Held which) (story_of c.at)) ∙ mine_sized which c.at new c.moved
 
     soon : ReleasedSoon which (counts_in c.at) (34 * (length (mine which (held c)) / 4096)) (behind accepts which (held c))
         → ReleasedSoon which (counts_in c.at) (34 * (size_of (state_at (device_of which) new) / 4096)) (added first new)
@@ -256,15 +251,15 @@ Turn-brings accepts event.Power old new t have = λ which calm.
 Turn-brings accepts event.Off old new t have = tt
 Turn-brings accepts (event.Provision root) old new t have = tt
 
-size_moved : (which : Bank) (old new : World) → AllMoved old new → IsBankSize (size_of old.bmc) → IsBankSize (size_of old.pch) → IsBankSize (size_of (state_at (device_of which) new))
-size_moved bank.Bmc old new m bmc pch = subst (λ (start : List ℕ). IsBankSize (length start)) (sym m.bmc.start) bmc
-size_moved bank.Pch old new m bmc pch = subst (λ (start : List ℕ). IsBankSize (length start)) (sym m.pch.start) pch
-
 -- A bank with a good recovery area ends a power-on released.
 pub Turn-powers : (accepts : Acceptance) (e : Event) (old new : World) → Turn accepts e old new → HaveBytes new → IsBankSize (size_of old.bmc) → IsBankSize (size_of old.pch)
     → PowerReleases (λ bank image nv. HasGoodRecovery bank image nv accepts) e old new
 Turn-powers accepts event.Power old new t have bmc pch = λ which at calm held good.
     let c = power_crossed accepts old new t which calm in
-    powers accepts (begun old) new have which c at (size_moved which (begun old) new (AllMoved-trans (begun old) c.at new c.come c.moved) bmc pch) held good
+    powers accepts (begun old) new have which c at (bank_sized which (begun old) new (AllMoved-trans (begun old) c.at new c.come c.moved) (by_bank which)) held good
+  where
+    by_bank : (b : Bank) → IsBankSize (size_of (state_at (device_of b) (begun old)))
+    by_bank bank.Bmc = bmc
+    by_bank bank.Pch = pch
 Turn-powers accepts event.Off old new t have bmc pch = tt
 Turn-powers accepts (event.Provision root) old new t have bmc pch = tt

@@ -1,16 +1,31 @@
 -- What devices were given are bytes, so they hold bytes, at an earlier moment too.
-use Rattle.std.proofs.Common.{◌≡◌, ◌∙◌, List, All, length, take, ap, subst, arith}
+use Rattle.std.proofs.Common.{◌≡◌, ◌∙◌, ℕ, sym, List, All, length, take, ap, subst, arith}
 use Rattle.std.proofs.lemmas.List.{take-append-le, take_all}
 use Rattle.std.proofs.lemmas.List.Elements.{All-take}
 use Rattle.pfr_flash.specs.Bytes.{AreBytes}
-use Rattle.pfr_flash.specs.FlashState.{FlashState}
+use Rattle.pfr_flash.specs.FlashState.{FlashState, size_of}
+use Rattle.pfr_flash.specs.Layout.{IsBankSize}
 use Rattle.pfr_flash.specs.Holding.{WritesBytes, HoldsBytes}
 use Rattle.pfr_flash.specs.Operation.{Operation}
+use Rattle.pfr_flash.specs.declared.names.Bank.{Bank}
+use Rattle.pfr_flash.specs.declared.names.Bank.TheVariants as bank
 use Rattle.pfr_flash.specs.declared.names.Device.TheVariants as device
 use Rattle.pfr_flash.proofs.AreBytesLemmas.{AreBytes-play}
-use Rattle.pfr_story.specs.Story.{Past, Story, image_of}
-use Rattle.pfr_story.specs.World.{World, story_of, past_of, AreDevices}
+use Rattle.pfr_flash.proofs.PlayLemmas.{length-play}
+use Rattle.pfr_story.specs.Story.{Past, Story, image_of, device_of}
+use Rattle.pfr_story.specs.World.{World, story_of, state_at, past_of, AllMoved, AreDevices}
+use Rattle.pfr_story.specs.Plans.{mine}
 use Rattle.pfr_story.proofs.Traces.{Begins, Precedes, upto_begins, AreImages}
+
+-- what a bank holds is as long as its device
+pub mine_sized : (b : Bank) (w last : World) → AllMoved w last → length (mine b (story_of w)) ≡ size_of (state_at (device_of b) last)
+mine_sized bank.Bmc w last m = length-play w.bmc.start w.bmc.ops ∙ ap (λ (xs : List ℕ). length xs) (sym m.bmc.start)
+mine_sized bank.Pch w last m = length-play w.pch.start w.pch.ops ∙ ap (λ (xs : List ℕ). length xs) (sym m.pch.start)
+
+-- and its device has the size that it had
+pub bank_sized : (b : Bank) (old new : World) → AllMoved old new → IsBankSize (size_of (state_at (device_of b) old)) → IsBankSize (size_of (state_at (device_of b) new))
+bank_sized bank.Bmc old new m size = subst (λ (start : List ℕ). IsBankSize (length start)) (sym m.bmc.start) size
+bank_sized bank.Pch old new m size = subst (λ (start : List ℕ). IsBankSize (length start)) (sym m.pch.start) size
 
 -- what a device held at first, and what was written since, are bytes; the tears that it is armed with may be anything
 pub record HadBytes (d : FlashState) : Type 0 where

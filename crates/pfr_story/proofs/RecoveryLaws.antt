@@ -1,9 +1,8 @@
 -- A step leaves a bank one that can be recovered, from each of its moments to the next.
 use Rattle.std.proofs.Common.{◌≡◌, ◌∙◌, refl, sym, ap, subst, ℕ, ◌%◌, Bool, true, false, List, [], ◌∷◌, length, All, inl, inr, Result, Ok, Err}
 use Rattle.pfr_flash.specs.Bytes.{AreBytes}
-use Rattle.pfr_flash.specs.FlashState.{FlashState, size_of}
+use Rattle.pfr_flash.specs.FlashState.{size_of}
 use Rattle.pfr_flash.specs.Layout.{IsBankSize, IsValidLayout}
-use Rattle.pfr_flash.specs.Moved.{Moved}
 use Rattle.pfr_flash.specs.declared.layout.Layout.{Layout}
 use Rattle.pfr_flash.specs.declared.names.Bank.{Bank}
 use Rattle.pfr_flash.specs.declared.names.Bank.TheVariants as bank
@@ -45,7 +44,7 @@ use Rattle.pfr_story.proofs.BringRules.{Any, IsReady, ready_noted, ready_found, 
 use Rattle.pfr_story.proofs.Turns.{Turn-moved}
 use Rattle.pfr_story.proofs.Traces.{call_says, Traced, Traced-then, Traced-ran, Traced-whole, Traced-cut, precedes_moved, AreImages}
 use Rattle.pfr_story.proofs.StepTraces.{Between, AllowsLosses, IsGoodStretch, noted_along, power_along, provision_along}
-use Rattle.pfr_story.proofs.Bytes.{HaveBytes, images_then}
+use Rattle.pfr_story.proofs.Bytes.{HaveBytes, images_then, mine_sized, bank_sized}
 use Rattle.pfr_story.proofs.RecoverableLaws.{other_safe}
 use Rattle.pfr_story.proofs.MomentLaws.{StaysTrue, IsUnstamped, NoMoments, Stays, call_stays, stays_along, stays_behind}
 use Rattle.pfr_story.proofs.KeepLaws.{GoodRecovery, job_leaves, ops_safe, migration_safe}
@@ -166,19 +165,16 @@ provisioned_quiet : (root : RootSlot) (story : Story) → AllSafe NoMoments (pro
 provisioned_quiet root story = (tt, tried_quiet root (judge_provision (store story) root (length story.bmc.start) (length story.pch.start)) story)
 
 -- ---- the devices' sizes
-same_size : (old new : FlashState) → Moved old new → length new.start ≡ length old.start
-same_size old new m = ap (λ (start : List ℕ). length start) m.start
-
 sized_world : (w last : World) → HaveBytes last → IsBankSize (size_of last.bmc) → IsBankSize (size_of last.pch) → size_of last.nv ≡ 32768 → AllMoved w last → IsSized (story_of w)
 sized_world w last held bmc pch nv m = record {
   images = images_then (story_of w) last (precedes_moved w last m) held;
   blocks = by_bank;
-  store_size = length-play w.nv.start w.nv.ops ∙ sym (same_size w.nv last.nv m.nv) ∙ nv;
+  store_size = length-play w.nv.start w.nv.ops ∙ ap (λ (start : List ℕ). length start) (sym m.nv.start) ∙ nv;
 }
   where
     by_bank : (b : Bank) → length (mine b (story_of w)) % 65536 ≡ 0
-    by_bank bank.Bmc = subst (λ (n : ℕ). n % 65536 ≡ 0) (same_size w.bmc last.bmc m.bmc ∙ sym (length-play w.bmc.start w.bmc.ops)) bmc.blocks
-    by_bank bank.Pch = subst (λ (n : ℕ). n % 65536 ≡ 0) (same_size w.pch last.pch m.pch ∙ sym (length-play w.pch.start w.pch.ops)) pch.blocks
+    by_bank bank.Bmc = subst (λ (n : ℕ). n % 65536 ≡ 0) (sym (mine_sized bank.Bmc w last m)) bmc.blocks
+    by_bank bank.Pch = subst (λ (n : ℕ). n % 65536 ≡ 0) (sym (mine_sized bank.Pch w last m)) pch.blocks
 
 -- ---- a whole step
 module _ (accepts : Acceptance) (b : Bank) (old new : World) (held : HaveBytes new) (bmc : IsBankSize (size_of new.bmc)) (pch : IsBankSize (size_of new.pch)) (nv : size_of new.nv ≡ 32768) where
@@ -239,14 +235,10 @@ module _ (accepts : Acceptance) (b : Bank) (old new : World) (held : HaveBytes n
   try_kept root true t = noted_kept ignored.first t (tt, tt)
   try_kept root false t = by_judged root (judge_provision (store (story_of old)) root (size_of old.bmc) (size_of old.pch)) refl t
 
--- the sizes stay
-size_still : (old new : FlashState) → Moved old new → IsBankSize (size_of old) → IsBankSize (size_of new)
-size_still old new m size = subst (λ (n : ℕ). IsBankSize n) (sym (same_size old new m)) size
-
 -- What says that a good capsule stands in a bank's recovery area stays true from each moment of a step to the next.
 pub Turn-recoverable : (accepts : Acceptance) (e : Event) (old new : World) → Turn accepts e old new → HaveBytes new → IsBankSize (size_of old.bmc) → IsBankSize (size_of old.pch) → size_of old.nv ≡ 32768
     → StaysRecoverable (λ b image nv. HasGoodRecovery b image nv accepts) old new
-Turn-recoverable accepts e old new t held bmc pch nv b = by_event e t (size_still old.bmc new.bmc m.bmc bmc) (size_still old.pch new.pch m.pch pch) (same_size old.nv new.nv m.nv ∙ nv)
+Turn-recoverable accepts e old new t held bmc pch nv b = by_event e t (bank_sized bank.Bmc (begun old) new m bmc) (bank_sized bank.Pch (begun old) new m pch) (ap (λ (start : List ℕ). length start) m.nv.start ∙ nv)
   where
     m : AllMoved (begun old) new
     m = Turn-moved accepts e old new t

@@ -277,6 +277,13 @@ module _ (accepts : Acceptance) (which : Bank) where
       (one_more nv.ops op begin.nv here.nv there.nv p.forth_store h t) (omega (arith, same)) (omega (arith, h, t, more)) (omega (arith, p.done, same)) (omega (arith, t))
       (λ trust all. record { image = all.image; recovery = all.recovery; store = All-push (LeavesStore trust.fuses which) _ op all.store (spares trust) }) p
 
+  -- the other bank's device did something
+  elsewhere : (mine nv : Past) (begin here there : Counts) → count_at which there ≡ count_at which here → there.nv ≡ here.nv → IsKept accepts which mine nv begin here → IsKept accepts which mine nv begin there
+  elsewhere mine nv begin here there e f p =
+      grown mine mine nv nv (between (count_at which begin) (count_at which here) mine.ops) (between begin.nv here.nv nv.ops) begin here there refl refl
+      (ap (λ (n : ℕ). between (count_at which begin) n mine.ops) e) (ap (λ (n : ℕ). between begin.nv n nv.ops) f)
+      (omega (arith, e)) (omega (arith, f)) (omega (arith, e, p.done)) (omega (arith, f, p.done_store)) (λ trust all. all) p
+
   -- one that begins now
   begins_now : (mine nv : Past) (here : Counts) → count_at which here ≡ length mine.ops → here.nv ≡ length nv.ops → IsKept accepts which mine nv here here
   begins_now mine nv here m n =
@@ -400,16 +407,10 @@ module _ (accepts : Acceptance) where
   }
   Kept-moves bank.Bmc (Does device.Pch op) story g k = record {
     closed = k.closed;
-    opened = open_both _ _ _ (λ begin o s. record { kept = elsewhere bank.Bmc begin o.kept; settled = s.settled }) _ k.opened g;
+    opened = open_both _ _ _ (λ begin o s. record { kept = elsewhere accepts bank.Bmc story.bmc story.nv begin _ _ refl refl o.kept; settled = s.settled }) _ k.opened g;
   }
-    where
-      elsewhere : (which : Bank) (begin : Counts) → IsKept accepts bank.Bmc story.bmc story.nv begin (counts_of story) → IsKept accepts bank.Bmc story.bmc story.nv begin (counts_of (operated device.Pch op story))
-      elsewhere which begin p = record { forth = p.forth; forth_store = p.forth_store; done = p.done; done_store = p.done_store; spared = p.spared }
   Kept-moves bank.Pch (Does device.Bmc op) story g k = record {
     closed = k.closed;
-    opened = open_both _ _ _ (λ begin o s. record { kept = elsewhere begin o.kept; settled = s.settled }) _ k.opened g;
+    opened = open_both _ _ _ (λ begin o s. record { kept = elsewhere accepts bank.Pch story.pch story.nv begin _ _ refl refl o.kept; settled = s.settled }) _ k.opened g;
   }
-    where
-      elsewhere : (begin : Counts) → IsKept accepts bank.Pch story.pch story.nv begin (counts_of story) → IsKept accepts bank.Pch story.pch story.nv begin (counts_of (operated device.Bmc op story))
-      elsewhere begin p = record { forth = p.forth; forth_store = p.forth_store; done = p.done; done_store = p.done_store; spared = p.spared }
   Kept-moves which (Asks at) story g k = k
