@@ -109,11 +109,12 @@ pub record StaysSeated {T : Type 0} (most : ℕ) (old new : World) (answer : Res
   pub notes : AddsNotes most old.notes new.notes
   pub nv : StaysFed new answer
 
--- what a step makes of the platform
-pub record LeavesWhole (old new : World) : Type 0 where
+-- what work on the whole platform makes of it
+pub record LeavesWhole (most : ℕ) (old new : World) : Type 0 where
   pub together : standing_of Bmc new.notes.list ≡ Off → standing_of Pch new.notes.list ≡ Off
   pub apart : standing_of Pch new.notes.list ≡ Off → standing_of Bmc new.notes.list ≡ Off
-  pub notes : AddsNotes 64 old.notes new.notes
+  pub on : standing_of Bmc new.notes.list ≢ Off → new.nv.powered ≡ true
+  pub notes : AddsNotes most old.notes new.notes
 
 -- an event is taken: it is a power-on, or the banks aren't off
 abbrev pub IsTaken : Event → World → Type 0
