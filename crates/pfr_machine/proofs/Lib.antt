@@ -1,8 +1,3 @@
 pub mod WorldLemmas
-pub mod ReadLemmas
-pub mod WakeLemmas
-pub mod ProvisionLemmas
-pub mod TurnLemmas
-pub mod StoreLemmas
+pub mod DeskLemmas
 mod VerdictLaw
-pub mod RecoveryLemmas
