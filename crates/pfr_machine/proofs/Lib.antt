@@ -1,3 +1,4 @@
 pub mod WorldLemmas
 pub mod DeskLemmas
+pub mod SeatLemmas
 mod VerdictLaw
