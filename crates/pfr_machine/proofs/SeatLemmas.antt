@@ -27,7 +27,7 @@ use Rattle.pfr_machine.specs.Worlds.{AddsNotes, IsAwake, bank_in, desk_world, fl
 use Rattle.pfr_machine.specs.declared.board.Board.{Board}
 use Rattle.pfr_machine.specs.declared.sides.Sides.{Sides}
 use Rattle.pfr_machine.proofs.DeskLemmas.{leaves_seated, state_mine, state_other, state_store}
-use Rattle.pfr_machine.proofs.WorldLemmas.{AddsNotes-noted, after_locked, other_locked, standing_noted, seat_noted, board_noted}
+use Rattle.pfr_machine.proofs.WorldLemmas.{AddsNotes-noted, after_locked, after_released, other_locked, other_released, standing_noted, seat_noted, board_noted}
 
 -- a note of this item
 abbrev note_in : World → What → Note
@@ -318,6 +318,17 @@ module _ {F : Type 0} (dev : F → FlashState) (b whose other_whose : Bank) (how
       (desk_beside later_line what whose next refl e text after others)
       (subst (λ (w : World). AddsNotes 1 (desk_world b mine other (dev board.nv) board).notes w.notes) (sym (desk_noted_is what next e)) (AddsNotes-noted what (desk_world b mine other (dev board.nv) board) room))
       (ap (λ (w : World). w.nv.powered) (desk_noted_is what next e) ∙ (ap (λ (d : FlashState). d.powered) (state_store b mine other (dev board.nv) board) ∙ fed))
+
+-- it was released
+pub released_leaves : {F : Type 0} (dev : F → FlashState) (b whose other_whose : Bank) (how : Line) (mine other : FlashState) (board : Board F)
+    → IsDesk b whose other_whose how (desk_world b mine other (dev board.nv) board) → mine.powered ≡ true → (svn : ℕ) (at : Counts)
+    → 1 ≤ (desk_world b mine other (dev board.nv) board).notes.spare → (dev board.nv).powered ≡ true
+    → LeavesSeated 1 (record { bank = b; other = how; world = desk_world b mine other (dev board.nv) board }) (with_note (Released b svn at) (desk_world b mine other (dev board.nv) board))
+released_leaves dev b whose other_whose how mine other board desk on svn at room fed =
+    let what : What = Released b svn at in
+    subst (λ (w : World). LeavesSeated 1 (record { bank = b; other = how; world = desk_world b mine other (dev board.nv) board }) w)
+    (desk_noted_is dev b whose other_whose how mine mine other board desk on refl what (pushed what board) refl)
+    (desk_leaves dev b whose other_whose how mine mine other board desk on refl line.Running what (pushed what board) room fed refl tt (λ e. cc) (after_released b svn at) (other_released b svn at))
 
 -- ---- the power goes from a desk
 module _ {F : Type 0} (dev : F → FlashState) (b : Bank) (mine dark other dark_other : FlashState) (board next : Board F) (store : F) (device : Option Device) (at : Counts)
