@@ -1,19 +1,16 @@
 -- What calls and notes do to a platform, one of whose banks is in work.
-use Rattle.std.proofs.Common.{◌≡◌, ◌≢◌, ◌∙◌, refl, sym, ap, subst, ℕ, ◌≤◌, ◌+◌, ◌*◌, ◌/◌, ◌%◌, true, false, List, [], ◌∷◌, ◌++◌, length, arith, inl, Option, Some, None, Result, Ok, Err}
+use Rattle.std.proofs.Common.{◌≡◌, ◌≢◌, ◌∙◌, refl, sym, ap, subst, ℕ, true, List, [], length, Option, Some, None, Result, Ok, Err}
 use Rattle.pfr_flash.specs.FlashState.{FlashState, now, size_of}
-use Rattle.pfr_flash.specs.Layout.{IsBankSize, IsValidLayout}
+use Rattle.pfr_flash.specs.Layout.{IsBankSize}
 use Rattle.pfr_flash.specs.Plan.{Follows}
 use Rattle.pfr_flash.specs.Operation.{Operation}
 use Rattle.pfr_flash.specs.Reading.{EndsAt}
 use Rattle.pfr_flash.specs.declared.flash.FlashFail.{FlashFail}
-use Rattle.pfr_flash.specs.declared.flash.FlashFail.TheVariants.{Fault, Lost}
 use Rattle.pfr_flash.specs.declared.names.Bank.{Bank}
 use Rattle.pfr_flash.specs.declared.names.Bank.TheVariants as bank
-use Rattle.pfr_flash.specs.declared.names.Counts.{Counts}
 use Rattle.pfr_flash.specs.declared.names.Device.{Device}
 use Rattle.pfr_flash.specs.declared.names.Device.TheVariants as device
-use Rattle.pfr_flash.proofs.EndsLemmas.{ends_reads, ends_content}
-use Rattle.pfr_flash.proofs.RangeLemmas.{length-now}
+use Rattle.pfr_flash.proofs.EndsLemmas.{ends_reads}
 use Rattle.pfr_fuses.specs.FusesState.{FusesState}
 use Rattle.pfr_fuses.specs.RootSlot.{layout_of}
 use Rattle.pfr_flash.specs.declared.layout.Layout.{Layout}
@@ -22,19 +19,18 @@ use Rattle.pfr_report.specs.NotesState.{NotesState}
 use Rattle.pfr_report.specs.Texts.{HasText}
 use Rattle.pfr_report.specs.declared.note.Note.{Note}
 use Rattle.pfr_report.specs.declared.note.What.{What}
-use Rattle.pfr_report.specs.declared.note.What.TheVariants.{Held, Released, Locked, Lost as LostNote}
 use Rattle.pfr_story.specs.Standing as standing
 use Rattle.pfr_story.specs.Standing.{Standing, standing_after, standing_by, standing_of}
-use Rattle.pfr_story.specs.Story.{Move, Plan, Says, called, device_of, image_at}
-use Rattle.pfr_story.specs.World.{World, counts_in, state_at, story_of}
+use Rattle.pfr_story.specs.Story.{Move, Plan, called, device_of, image_at}
+use Rattle.pfr_story.specs.World.{World, state_at, story_of}
 use Rattle.pfr_story.specs.Goes.{Goes, Ran, Stopped}
 use Rattle.pfr_story.specs.Plans.{copied, restore_ops}
 use Rattle.pfr_story.specs.declared.line.Line.{Line}
 use Rattle.pfr_story.specs.declared.line.Line.TheVariants as line
 use Rattle.pfr_story.specs.declared.stop.Stop.{Stop}
-use Rattle.pfr_story.proofs.Lift.{OnlyAt, Goes-follows, Goes-reads, Ran-uncalled, at_device}
-use Rattle.pfr_machine.specs.Inside.{AreBeside, AreSeated, AreSides, IsBoard, IsDesk, IsSeat}
-use Rattle.pfr_machine.specs.Worlds.{AddsNotes, DeskState, IsAwake, Stays, StaysAwake, bank_in, desk_world, flash_in, line_in, other_of, pushed, sides_world, with_note, world_with}
+use Rattle.pfr_story.proofs.Lift.{OnlyAt, Goes-follows, Goes-reads, at_device}
+use Rattle.pfr_machine.specs.Inside.{AreBeside, AreSeated, AreSides, IsDesk, IsSeat}
+use Rattle.pfr_machine.specs.Worlds.{AddsNotes, IsAwake, Stays, StaysAwake, bank_in, desk_world, flash_in, line_in, other_of, pushed, with_note, world_with}
 use Rattle.pfr_machine.specs.Ready.{LeavesSeated}
 use Rattle.pfr_machine.specs.declared.board.Board.{Board}
 use Rattle.pfr_machine.specs.declared.sides.Sides.{Sides}

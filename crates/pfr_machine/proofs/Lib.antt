@@ -1,4 +1,6 @@
 pub mod WorldLemmas
 pub mod DeskLemmas
 pub mod SeatLemmas
+pub mod CheckLemmas
+pub mod CapsuleLemmas
 mod VerdictLaw

@@ -6,14 +6,12 @@ use Rattle.pfr_flash.specs.declared.names.Bank.{Bank}
 use Rattle.pfr_flash.specs.declared.names.Bank.TheVariants as bank
 use Rattle.pfr_flash.specs.declared.names.Counts.{Counts}
 use Rattle.pfr_flash.specs.declared.names.Device.{Device}
-use Rattle.pfr_report.specs.NotesState.{NotesState}
 use Rattle.pfr_report.specs.Texts.{HasText}
 use Rattle.pfr_report.specs.declared.note.LockWhy.{LockWhy}
 use Rattle.pfr_report.specs.declared.note.LockWhy.TheVariants.{NoGoodImage}
 use Rattle.pfr_report.specs.declared.note.Note.{Note}
 use Rattle.pfr_report.specs.declared.note.What.{What}
 use Rattle.pfr_report.specs.declared.note.What.TheVariants.{Held, Released, Locked, Lost}
-use Rattle.pfr_story.specs.Standing as standing
 use Rattle.pfr_story.specs.Standing.{Standing, standing_after, standing_by, standing_of}
 use Rattle.pfr_story.specs.Story.{Says, device_of}
 use Rattle.pfr_story.specs.World.{World, IsDark, counts_in, state_at}

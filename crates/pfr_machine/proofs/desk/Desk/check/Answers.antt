@@ -2,7 +2,7 @@ use Rattle.std.proofs.Common.{◌∙◌, sym, subst, Option, Some, None}
 use Rattle.pfr_flash.specs.declared.flash.FlashFail.{FlashFail}
 use Rattle.pfr_flash.specs.Reading.{EndsAt}
 use Rattle.pfr_machine.specs.Worlds.{flash_in}
-use Rattle.pfr_machine.proofs.DeskLemmas.{awake_mine, awake_store, desk_worked, mine_read, mine_unread, read_on, read_size, stays_here}
+use Rattle.pfr_machine.proofs.DeskLemmas.{awake_mine, awake_store, desk_worked, mine_unread, read_on, read_size, stays_here}
 use Rattle.pfr_machine.proofs.CheckLemmas.{distrusts, releases}
 use Rattle.pfr_machine.proofs.desk.Desk.check.Goals as goal
 

@@ -1,6 +1,6 @@
-use Rattle.std.proofs.Common.{◌≡◌, ap, sym, subst}
+use Rattle.std.proofs.Common.{ap}
 use Rattle.pfr_report.specs.declared.note.What.TheVariants.{Locked}
-use Rattle.pfr_story.specs.declared.line.Line.TheVariants.{Off, Locked as IsLocked}
+use Rattle.pfr_story.specs.declared.line.Line.TheVariants.{Locked as IsLocked}
 use Rattle.pfr_machine.specs.Worlds.{flash_in}
 use Rattle.pfr_machine.proofs.DeskLemmas.{awake_mine, awake_store}
 use Rattle.pfr_machine.proofs.SeatLemmas.{desk_beside, desk_locks, desk_leaves, lock_text}

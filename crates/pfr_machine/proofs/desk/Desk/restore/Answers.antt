@@ -1,4 +1,4 @@
-use Rattle.std.proofs.Common.{◌∙◌, ap, sym, refl, Some}
+use Rattle.std.proofs.Common.{◌∙◌, ap}
 use Rattle.std.proofs.lemmas.Result.{err_from_is_err_and}
 use Rattle.pfr_flash.specs.declared.names.Bank.{Bank}
 use Rattle.pfr_report.specs.declared.note.What.TheVariants.{Restored}
@@ -17,5 +17,5 @@ returns-in_err-copy-clause-goes g c =
 pub returns-clause-goes : goal.returns-clause-goes
 returns-clause-goes g c =
     let own = ap (λ (d : DeskState). d.bank) c.note.view_is ∙ c.in_ok-copy.ensures.stays.bank in
-    Ran-append _ _ _ _ _ c.in_ok-copy.ensures.goes
-    (noted_ran (λ _. Restored c.args.self.now.bank c.args.level) (Restored c.note.inside.bank c.args.level) _ _ (ap (λ (b : Bank). Restored b c.args.level) own) (ap (λ (d : DeskState). d.world) c.note-2.ensures.noted))
+    Ran-append _ _ c.args.self.now.world c.copy.new.self.world c.note-2.new.self.world c.in_ok-copy.ensures.goes
+    (noted_ran (λ _. Restored c.args.self.now.bank c.args.level) (Restored c.note.inside.bank c.args.level) c.copy.new.self.world c.note-2.new.self.world (ap (λ (b : Bank). Restored b c.args.level) own) (ap (λ (d : DeskState). d.world) c.note-2.ensures.noted))

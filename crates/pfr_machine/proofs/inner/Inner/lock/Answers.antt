@@ -1,8 +1,5 @@
-use Rattle.std.proofs.Common.{◌∙◌, sym, ap, subst}
+use Rattle.std.proofs.Common.{◌∙◌, ap}
 use Rattle.pfr_report.specs.declared.note.What.TheVariants.{Locked}
-use Rattle.pfr_story.specs.Goes.{Ran}
-use Rattle.pfr_story.specs.World.{World}
-use Rattle.pfr_machine.specs.Worlds.{AddsNotes}
 use Rattle.pfr_machine.proofs.SeatLemmas.{locked_are_beside, locked_says, locked_adds}
 use Rattle.pfr_machine.proofs.inner.Inner.lock.Goals as goal
 
