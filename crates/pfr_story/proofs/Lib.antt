@@ -17,3 +17,9 @@ pub mod RecoverableLaws
 pub mod Bytes
 pub mod SpanLaws
 pub mod SpanSteps
+pub mod StepRules
+pub mod FuseLaws
+pub mod StoreLaws
+pub mod EventLaws
+pub mod ProvisionLaws
+pub mod GrowthLaws
