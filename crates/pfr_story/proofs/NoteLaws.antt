@@ -32,7 +32,7 @@ pub at_moment : (P : List ℕ → List ℕ → Type 0) (which : Bank) (at : Stor
 at_moment P which at counts new e p h =
     rw e (subst (λ (image : List ℕ). P image (upto new.nv (counts_of at).nv)) (sym (bank_then which at new p)) (subst (λ (nv : List ℕ). P (mine which at) nv) (sym (upto_begins at.nv (story_of new).nv p.nv)) h))
 
-lock_due : (s : Setting) (cause : LockWhy) (which : Bank) (at : Story) → ¬ IsFaultLock cause → AreBytes (mine which at) → LockFact s cause which at → IsDue cause which (mine which at) (store at) s.accepts
+pub lock_due : (s : Setting) (cause : LockWhy) (which : Bank) (at : Story) → ¬ IsFaultLock cause → AreBytes (mine which at) → LockFact s cause which at → IsDue cause which (mine which at) (store at) s.accepts
 lock_due s why.FlashFault which at n bytes p = absurd (n tt)
 lock_due s why.StoreFault which at n bytes p = absurd (n tt)
 lock_due s why.Unprovisioned which at n bytes p = p bytes
