@@ -23,3 +23,4 @@ pub mod StoreLaws
 pub mod EventLaws
 pub mod ProvisionLaws
 pub mod GrowthLaws
+pub mod RunLaws
