@@ -5,12 +5,11 @@ use Rattle.std.proofs.lemmas.List.Elements.{All-take}
 use Rattle.pfr_flash.specs.Bytes.{AreBytes}
 use Rattle.pfr_flash.specs.FlashState.{FlashState}
 use Rattle.pfr_flash.specs.Holding.{WritesBytes, HoldsBytes}
-use Rattle.pfr_flash.specs.Moved.{Moved}
 use Rattle.pfr_flash.specs.Operation.{Operation}
 use Rattle.pfr_flash.specs.declared.names.Device.TheVariants as device
 use Rattle.pfr_flash.proofs.AreBytesLemmas.{AreBytes-play}
 use Rattle.pfr_story.specs.Story.{Past, Story, image_of}
-use Rattle.pfr_story.specs.World.{World, story_of, past_of, AllMoved, AreDevices}
+use Rattle.pfr_story.specs.World.{World, story_of, past_of, AreDevices}
 use Rattle.pfr_story.proofs.Traces.{Begins, Precedes, upto_begins, AreImages}
 
 -- what a device held at first, and what was written since, are bytes; the tears that it is armed with may be anything

@@ -38,7 +38,6 @@ lock_due s why.StoreFault which at n bytes p = absurd (n tt)
 lock_due s why.Unprovisioned which at n bytes p = p bytes
 lock_due s why.SlotsSpent which at n bytes p = p bytes
 lock_due s (why.Layout rule) which at n bytes p = p bytes
-lock_due s why.NotRestored which at n bytes p = p bytes
 lock_due s (why.NoGoodImage active recovery) which at n bytes p = p bytes
 
 module _ (accepts : Acceptance) (e : Event) (old new : World) (t : Turn accepts e old new) where

@@ -188,7 +188,6 @@ fact_later accepts e old new first last before behind (what.Locked b why.StoreFa
 fact_later accepts e old new first last before behind (what.Locked b why.Unprovisioned counts) at f = f
 fact_later accepts e old new first last before behind (what.Locked b why.SlotsSpent counts) at f = f
 fact_later accepts e old new first last before behind (what.Locked b (why.Layout rule) counts) at f = f
-fact_later accepts e old new first last before behind (what.Locked b why.NotRestored counts) at f = f
 fact_later accepts e old new first last before behind (what.Locked b (why.NoGoodImage active recovery) counts) at f = f
 fact_later accepts e old new first last before behind (what.Lost (Some which) counts) at f = (f.0, omega (arith, before.losses which, behind.losses which, f.1))
 fact_later accepts e old new first last before behind (what.Lost None counts) at f = (f.0, tt)

@@ -1,5 +1,5 @@
 -- How spans are kept, move by move.
-use Rattle.std.proofs.Common.{◌≡◌, ◌∙◌, ℕ, ◌+◌, ◌≤◌, refl, sym, ap, subst, arith, List, [], ◌∷◌, ◌++◌, length, take, drop, All, append_assoc, ◌⊎◌, inl, inr, Ok, true, false, Bool, cond, length-append, Some, None}
+use Rattle.std.proofs.Common.{◌≡◌, ◌∙◌, ℕ, ◌+◌, ◌≤◌, refl, sym, ap, subst, arith, List, [], ◌∷◌, ◌++◌, length, take, drop, All, append_assoc, ◌⊎◌, inl, inr, Ok, true, false, Bool, cond, length-append}
 use Rattle.std.proofs.lemmas.List.{append-nil, take-append-le, take_all, take-take, drop-append-le}
 use Rattle.std.proofs.lemmas.List.Elements.{All-push}
 use Rattle.std.proofs.Math.ListN.{drop_of_length-le}
@@ -270,7 +270,7 @@ module _ (accepts : Acceptance) (which : Bank) where
       one_more mine.ops op (count_at which begin) (count_at which here) (count_at which there) p.forth h t in
       let y : between begin.nv there.nv nv.ops ≡ between begin.nv here.nv nv.ops = ap (λ (n : ℕ). between begin.nv n nv.ops) same in
       let grown : SpareTrust accepts which (past_upto mine (count_at which begin)) (past_upto nv begin.nv)
-          (between (count_at which begin) (count_at which here) mine.ops ++ op ∷ []) (between begin.nv here.nv nv.ops) =
+      (between (count_at which begin) (count_at which here) mine.ops ++ op ∷ []) (between begin.nv here.nv nv.ops) =
       record {
         each = λ trust.
             let all = p.spared.each trust in
@@ -300,7 +300,7 @@ module _ (accepts : Acceptance) (which : Bank) where
       let y : between (count_at which begin) (count_at which there) mine.ops ≡ between (count_at which begin) (count_at which here) mine.ops =
       ap (λ (n : ℕ). between (count_at which begin) n mine.ops) same in
       let grown : SpareTrust accepts which (past_upto mine (count_at which begin)) (past_upto nv begin.nv)
-          (between (count_at which begin) (count_at which here) mine.ops) (between begin.nv here.nv nv.ops ++ op ∷ []) =
+      (between (count_at which begin) (count_at which here) mine.ops) (between begin.nv here.nv nv.ops ++ op ∷ []) =
       record {
         each = λ trust.
             let all = p.spared.each trust in

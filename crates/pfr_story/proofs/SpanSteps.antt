@@ -1,5 +1,5 @@
 -- Each step keeps the spans.
-use Rattle.std.proofs.Common.{◌≡◌, ◌∙◌, ℕ, ◌+◌, refl, sym, ap, subst, List, [], ◌∷◌, length, ◌⊎◌, inl, inr, Result, Ok, Err, true, false, Bool, None}
+use Rattle.std.proofs.Common.{◌≡◌, ◌∙◌, ℕ, ◌+◌, refl, sym, ap, subst, List, [], ◌∷◌, length, ◌⊎◌, inl, inr, Result, Ok, Err, true, false, Bool}
 use Rattle.std.proofs.lemmas.Bool.{false≢true}
 use Rattle.pfr_flash.specs.Operation.{Operation, play}
 use Rattle.pfr_flash.specs.declared.layout.LayoutRule.{LayoutRule}
@@ -33,12 +33,12 @@ use Rattle.pfr_report.specs.declared.note.Note.{Note}
 use Rattle.pfr_report.specs.declared.note.What.{What}
 use Rattle.pfr_report.specs.declared.note.What.TheVariants as what
 use Rattle.pfr_story.specs.Guards.{same_bank}
-use Rattle.pfr_story.specs.Story.{Story, Move, Says, Does, Asks, after, moved_by, noted, operated, counts_of, device_of, image_at, called, says, then}
+use Rattle.pfr_story.specs.Story.{Story, Move, Says, Does, Asks, after, moved_by, noted, operated, counts_of, device_of, called, says}
 use Rattle.pfr_story.specs.World.{World, story_of}
 use Rattle.pfr_story.specs.Safety.{Rule, AllGood, AllSafe, Keeps, Both, Leads}
 use Rattle.pfr_story.specs.Spans.{opens_after, opens_from}
 use Rattle.pfr_story.specs.Standing.{standing_of, is_off}
-use Rattle.pfr_story.specs.Plans.{mine, store, asks, ready_in, ready_of, judged_active, judged_recovery, restore_ops, copied, restored, by_second, checked_again, by_recovery, recovered, by_active, tail, by_ready, brought_up, migration_by, migration_in, migrated, provisioned_in, provisioned}
+use Rattle.pfr_story.specs.Plans.{mine, store, asks, ready_in, judged_active, judged_recovery, restore_ops, copied, restored, by_second, checked_again, by_recovery, recovered, by_active, tail, by_ready, brought_up, migration_by, migration_in, migrated, provisioned_in, provisioned}
 use Rattle.pfr_story.specs.Course.{Stretch, Course, Follows}
 use Rattle.pfr_story.specs.Turn.{fault_of, bank_stretch, fuse_stretch, provision_stretch, where_off, ignored, off_course, power_course, provision_course, begun, Turn}
 use Rattle.pfr_story.proofs.WorldLaws.{AllMoved-refl}
@@ -46,7 +46,7 @@ use Rattle.pfr_story.proofs.SafetyLaws.{AllSafe-append, Leads-then, safe_whole, 
 use Rattle.pfr_story.proofs.CallLaws.{notes_operated}
 use Rattle.pfr_story.proofs.RestoreLaws.{image_called}
 use Rattle.pfr_story.proofs.Traces.{Traced, Traced-keeps}
-use Rattle.pfr_story.proofs.StepTraces.{Between, IsGoodStretch, AreGood, AreGood-none, AreGood-next, Follows-good}
+use Rattle.pfr_story.proofs.StepTraces.{IsGoodStretch, AreGood, AreGood-none, AreGood-next, Follows-good}
 use Rattle.pfr_story.proofs.FuseLaws.{profile_migrated, profile_kept, provisioned_refused}
 use Rattle.pfr_story.proofs.SpanLaws.{IsSettled, open_none, open_any, open_map, opens_push, IsOpen, Kept, SparesOpen, KeepsSpans, Kept-moves, none_or_settled}
 
@@ -245,10 +245,13 @@ module _ (accepts : Acceptance) (which : Bank) where
     }
 
     migrated_safe : (story : Story) → Kept accepts which story → AllSafe (KeepsSpans accepts which) (migrated story) story
-    migrated_safe story k = (tt, elim (none_or_settled accepts which story k) [
-      | inl none ↦ idle_safe device.Nv (migration_in (fuses_of (store story))) story none
-      | inr q ↦ subst (λ (ops : List Operation). AllSafe (KeepsSpans accepts which) (called device.Nv ops) story) (sym (settled_none (store story) q)) (tt, tt)
-    ])
+    migrated_safe story k = (
+      tt,
+      elim (none_or_settled accepts which story k) [
+        | inl none ↦ idle_safe device.Nv (migration_in (fuses_of (store story))) story none
+        | inr q ↦ subst (λ (ops : List Operation). AllSafe (KeepsSpans accepts which) (called device.Nv ops) story) (sym (settled_none (store story) q)) (tt, tt)
+      ],
+    )
 
     fuse_kept : IsGoodStretch (KeepsSpans accepts which) first last Any Early fuse_stretch Late
     fuse_kept = record {
@@ -273,10 +276,13 @@ module _ (accepts : Acceptance) (which : Bank) where
     tried_safe root (Err cause) story p = ((tt, tt), tt)
 
     provisioned_safe : (root : RootSlot) (story : Story) → Kept accepts which story → AllSafe (KeepsSpans accepts which) (provisioned root story) story
-    provisioned_safe root story k = (tt, tried_safe root (judge_provision (store story) root (length story.bmc.start) (length story.pch.start)) story (elim (none_or_settled accepts which story k) [
-      | inl none ↦ inl none
-      | inr q ↦ inr (provisioned_refused (store story) root (length story.bmc.start) (length story.pch.start) q.fuses q.provisioned)
-    ]))
+    provisioned_safe root story k = (
+      tt,
+      tried_safe root (judge_provision (store story) root (length story.bmc.start) (length story.pch.start)) story (elim (none_or_settled accepts which story k) [
+        | inl none ↦ inl none
+        | inr q ↦ inr (provisioned_refused (store story) root (length story.bmc.start) (length story.pch.start) q.fuses q.provisioned)
+      ]),
+    )
 
     provision_kept : (root : RootSlot) → IsGoodStretch (KeepsSpans accepts which) first last Any Early (provision_stretch root) Any
     provision_kept root = record {
