@@ -1,5 +1,5 @@
 -- Laws of whole runs.
-use Rattle.std.proofs.Common.{◌≡◌, ◌∙◌, ℕ, ◌+◌, ◌≤◌, ◌<◌, drop, take, length, refl, sym, ap, subst, arith, ◌&&◌, true, cond, List, [], ◌∷◌, ◌++◌, append_assoc, Some, None, ◌⊎◌, inl, inr}
+use Rattle.std.proofs.Common.{◌≡◌, ◌∙◌, ℕ, ◌+◌, ◌≤◌, ◌<◌, drop, take, length, refl, sym, ap, subst, arith, ◌&&◌, true, cond, List, [], ◌∷◌, ◌++◌, append_assoc, Some, None, inl, inr}
 use Rattle.std.specs.Prelude.{slice_index_or}
 use Rattle.std.proofs.lemmas.List.{append-nil, take_more, drop_more}
 use Rattle.std.proofs.lemmas.List.Elements.{All-drop}
@@ -12,7 +12,6 @@ use Rattle.pfr_flash.specs.declared.names.Counts.{Counts}
 use Rattle.pfr_flash.specs.declared.names.Device.{Device}
 use Rattle.pfr_flash.specs.declared.names.Device.TheVariants as device
 use Rattle.pfr_engine.specs.Acceptance.{Acceptance}
-use Rattle.pfr_auth.specs.Trusted.{IsTrusted}
 use Rattle.pfr_script.specs.Arms.{arms_in, is_arm_of, is_counted, IsKnownArm}
 use Rattle.pfr_script.specs.declared.arm.Arm.{Arm}
 use Rattle.pfr_script.specs.declared.arm.ArmWhat.{ArmWhat}
@@ -35,7 +34,7 @@ use Rattle.pfr_story.specs.Causes.{IsTrustedWith, IsDue}
 use Rattle.pfr_story.specs.Promises.{AtCounts, IsFaultLock, IsUndisturbed, ReleasesTrusted, LocksHaveCauses, FaultsHaveCauses, FaultsAreNoted}
 use Rattle.pfr_story.proofs.WorldLaws.{faults_moved, losses_moved, NoneLost-at, NoneFailed-at, NoneFailed-refl, NoneFailed-trans}
 use Rattle.pfr_story.proofs.Courses.{opening}
-use Rattle.pfr_story.proofs.Made.{Made, Steps-made, notes_after, added_said}
+use Rattle.pfr_story.proofs.Made.{Made, Steps-made, notes_after}
 use Rattle.pfr_story.proofs.Traces.{Precedes, Precedes-refl, Precedes-after, Precedes-trans, KnownBefore, noted_append, noted_right}
 use Rattle.pfr_story.proofs.Bytes.{HaveBytes, have_before, images_then}
 use Rattle.pfr_story.proofs.Facts.{Setting, Fact}
