@@ -36,6 +36,17 @@ count_at bank.Pch counts = counts.pch
 abbrev pub AtCounts : (List ℕ → List ℕ → Type 0) → Bank → Counts → World → Type 0
 AtCounts P which at w = P (upto (state_at (device_of which) w) (count_at which at)) (upto w.nv at.nv)
 
+-- no device had done fewer operations at the second of these counts
+pub record NotBefore (first second : Counts) : Type 0 where
+  pub bmc : first.bmc ≤ second.bmc
+  pub pch : first.pch ≤ second.pch
+  pub nv : first.nv ≤ second.nv
+
+-- counts of a moment of the step
+pub record IsMoment (old new : World) (at : Counts) : Type 0 where
+  pub behind : NotBefore (counts_in old) at
+  pub before : NotBefore at (counts_in new)
+
 -- Released is noted of a bank only where it was trusted at the counts of the note, with this security version number.
 abbrev pub ReleasesTrusted : Acceptance → World → World → Type 0
 ReleasesTrusted accepts old new = (which : Bank) (svn : ℕ) (at : Counts) → IsNoted (added old new) (Released which svn at)
@@ -62,17 +73,6 @@ LocksHaveCauses accepts old new = (which : Bank) (cause : LockWhy) (at : Counts)
 abbrev pub DistrustsWithCause : Acceptance → World → World → Type 0
 DistrustsWithCause accepts old new = (which : Bank) (cause : ActiveFail) → IsNoted (added old new) (Untrusted which cause)
     → (at : Counts) × IsMoment old new at × AtCounts (λ image nv. IsAgainst cause which image nv accepts) which at new
-
--- no device had done fewer operations at the second of these counts
-pub record NotBefore (first second : Counts) : Type 0 where
-  pub bmc : first.bmc ≤ second.bmc
-  pub pch : first.pch ≤ second.pch
-  pub nv : first.nv ≤ second.nv
-
--- counts of a moment of the step
-pub record IsMoment (old new : World) (at : Counts) : Type 0 where
-  pub behind : NotBefore (counts_in old) at
-  pub before : NotBefore at (counts_in new)
 
 -- A bank is restored only at level 1, and where its image isn't trusted and a good capsule stands in its recovery area, at a
 -- moment of the step.
