@@ -1,8 +1,4 @@
 pub mod WorldLemmas
-pub mod ReadLemmas
-pub mod WakeLemmas
-pub mod ProvisionLemmas
-pub mod TurnLemmas
-pub mod StoreLemmas
+pub mod DeskLemmas
+pub mod SeatLemmas
 mod VerdictLaw
-pub mod RecoveryLemmas
