@@ -38,15 +38,15 @@ lock_text b (NoGoodImage active recovery) at h = h
 lock_text b _ at h = tt
 
 -- ---- power
+pub powered_as : (old new : FlashState) → new ≡ old → old.powered ≡ true → new ≡ record old { powered = true }
+powered_as old new same on = same ∙ ap (λ on. record old { powered = on }) on
+
 -- what holding a bank does to its device, by how it stood
 pub powered_up : (how : Line) (old new : FlashState) → (how ≡ line.Off → new ≡ record old { powered = true }) → (how ≢ line.Off → new ≡ old) → (how ≢ line.Off → old.powered ≡ true)
     → new ≡ record old { powered = true }
 powered_up line.Off old new off on was = off refl
 powered_up line.Locked old new off on was = powered_as old new (on (λ e. cc)) (was (λ e. cc))
 powered_up line.Running old new off on was = powered_as old new (on (λ e. cc)) (was (λ e. cc))
-
-pub powered_as : (old new : FlashState) → new ≡ old → old.powered ≡ true → new ≡ record old { powered = true }
-powered_as old new same on = same ∙ ap (λ on. record old { powered = on }) on
 
 -- the bank's device and the store get power
 abbrev pub with_power : Bank → World → World
