@@ -1,4 +1,5 @@
 pub mod WorldLemmas
 pub mod DeskLemmas
 pub mod SeatLemmas
+pub mod BringLemmas
 mod VerdictLaw
