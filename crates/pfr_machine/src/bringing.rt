@@ -1,18 +1,20 @@
 // How a bank is brought up.
-ghost use Rattle.std.specs.Prelude.{◌≡◌, ◌≤◌, Ok, Err, IfErr, OnOk, IfOk};
+ghost use Rattle.std.specs.Prelude.{◌≡◌, ◌≤◌, Ok, Err, IfOk, IfErr, IsOk};
 ghost use Rattle.pfr_flash.specs.Answer.{IsFound};
 ghost use Rattle.pfr_flash.specs.FlashState.{now, size_of};
+ghost use Rattle.pfr_flash.specs.Holding.{HoldsBytes};
 ghost use Rattle.pfr_flash.specs.Layout.{IsBankSize, IsValidLayout};
+ghost use Rattle.pfr_flash.specs.declared.flash.FlashFail.TheVariants.{Fault};
 ghost use Rattle.pfr_auth.specs.Answer.{active_failure};
+ghost use Rattle.pfr_copy.specs.Applying.{CanApply};
 ghost use Rattle.pfr_fuses.specs.FusesOf.{fuses_of};
-ghost use Rattle.pfr_fuses.specs.FusesState.{FusesState};
 ghost use Rattle.pfr_fuses.specs.RootSlot.{layout_of};
-ghost use Rattle.pfr_story.specs.Plans.{asks, asks_store, brought_up, by_ready, by_recovery, checked_again, judged_recovery, ready_in, ready_of, tail};
-ghost use Rattle.pfr_story.specs.Story.{then, says, device_of};
+ghost use Rattle.pfr_story.specs.Plans.{asks_store, by_active, by_ready, checked_again, judged_active, judged_recovery, lock_of, ready_in, ready_of, recovered, restored, tail};
+ghost use Rattle.pfr_story.specs.Story.{then, device_of};
 ghost use Rattle.pfr_story.specs.Turn.{bank_stretch, fault_of};
 ghost use Rattle.pfr_story.specs.World.{state_at, story_of};
 ghost use Rattle.pfr_machine.specs.Worlds.{IsAwake};
-ghost use Rattle.pfr_machine.specs.Ready.{Brings, EndsSeated, IsText};
+ghost use Rattle.pfr_machine.specs.Ready.{Brings, Ended, EndsSeated, IsText};
 
 use crate::desk::{Desk, Found, Halt};
 use crate::inner::Inner;
@@ -31,7 +33,7 @@ pub struct Dark<F: Flash> {
 
 // What a fault of a device locks the bank in work with.
 fn fault_of(device: Device) -> LockWhy
-    ensures { result ≡ fault_of device }
+    ensures is { result ≡ fault_of device }
     ensures text { IsText result }
 {
     match device {
@@ -42,7 +44,7 @@ fn fault_of(device: Device) -> LockWhy
 
 // Why a bank is locked that has no fuses.
 fn lock_of(why: FuseFail) -> LockWhy
-    ensures { result ≡ lock_of why }
+    ensures is { result ≡ lock_of why }
     ensures text { IsText result }
 {
     match why {
@@ -71,6 +73,14 @@ fn ready(bank: Bank, size: u32, found: Result<Fuses, FuseFail>) -> Result<Fuses,
 }
 
 impl<F: Flash> Desk<F> {
+    // The bank's device has a bank's size, and all that it holds are bytes. This does nothing.
+    fn known(&self)
+        ensures size { IsBankSize (size_of (state_at (device_of self.now.bank) self.now.world)) }
+        ensures bytes { HoldsBytes (state_at (device_of self.now.bank) self.now.world) }
+    {
+        let _held = &self.held;
+    }
+
     // Checks the restored image, and releases the bank.
     fn check_again<E: Engine>(self, fuses: &Fuses, engine: &E) -> Result<Inner<F>, Halt<F>>
         requires room { 1 ≤ self.world.notes.spare }
@@ -100,6 +110,7 @@ impl<F: Flash> Desk<F> {
         requires can { CanApply (now (state_at (device_of self.bank) self.world)) (layout_of fuses.now.provision self.bank) capsule.now }
         ensures { EndsSeated (then (restored self.bank 1 fuses.now capsule.now) (checked_again (E.accepts engine.now) self.bank fuses.now)) 2 self result }
     {
+        self.known();
         match self.restore(fuses, capsule, 1) {
             Ok(()) => self.check_again(fuses, engine),
             Err(stop) => Err(Halt { stop, desk: self }),
