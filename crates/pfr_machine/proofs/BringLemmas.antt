@@ -1,16 +1,12 @@
 -- How a bank is brought up, part by part.
-use Rattle.std.proofs.Common.{◌≡◌, ◌≢◌, ◌∙◌, refl, sym, ap, subst, ℕ, ◌+◌, ◌≤◌, true, List, [], ◌∷◌, ◌++◌, length, arith, inl, inr, Result, Ok, Err, IsOk}
-use Rattle.pfr_flash.specs.Answer.{IsFound}
+use Rattle.std.proofs.Common.{◌≡◌, ◌≢◌, ◌∙◌, refl, sym, ap, subst, ℕ, ◌+◌, ◌≤◌, List, [], ◌∷◌, length, arith, inl, inr, Result, Ok, Err, IsOk}
 use Rattle.pfr_flash.specs.Bytes.{AreBytes}
 use Rattle.pfr_flash.specs.FlashState.{FlashState, now, size_of}
 use Rattle.pfr_flash.specs.Holding.{HoldsBytes}
 use Rattle.pfr_flash.specs.Layout.{IsBankSize, IsValidLayout}
-use Rattle.pfr_flash.specs.declared.layout.Layout.{Layout}
 use Rattle.pfr_flash.specs.declared.flash.FlashFail.{FlashFail}
-use Rattle.pfr_flash.specs.declared.flash.FlashFail.TheVariants.{Fault, Lost}
 use Rattle.pfr_flash.specs.declared.names.Bank.{Bank}
 use Rattle.pfr_flash.specs.declared.names.Bank.TheVariants as bank
-use Rattle.pfr_flash.specs.declared.names.Device.{Device}
 use Rattle.pfr_flash.proofs.HoldingLemmas.{now_bytes}
 use Rattle.pfr_flash.proofs.RangeLemmas.{length-now}
 use Rattle.pfr_engine.specs.Acceptance.{Acceptance}
@@ -22,24 +18,23 @@ use Rattle.pfr_manifest.specs.declared.manifest.Manifest.{Manifest}
 use Rattle.pfr_capsule.specs.CapsuleState.{CapsuleState}
 use Rattle.pfr_capsule.specs.declared.fail.CapsuleFail.{CapsuleFail}
 use Rattle.pfr_auth.specs.declared.fail.ActiveFail.{ActiveFail}
-use Rattle.pfr_report.specs.NotesState.{NotesState}
 use Rattle.pfr_report.specs.declared.note.LockWhy.{LockWhy}
 use Rattle.pfr_report.specs.declared.note.LockWhy.TheVariants.{NoGoodImage}
 use Rattle.pfr_report.specs.declared.note.What.{What}
 use Rattle.pfr_report.specs.declared.note.What.TheVariants.{Held, Locked, Untrusted}
 use Rattle.pfr_story.specs.Standing.{standing_of, standing_by, Off}
-use Rattle.pfr_story.specs.Story.{Story, Move, Says, Asks, Plan, after, then, says, device_of}
-use Rattle.pfr_story.specs.World.{World, AllMoved, IsDark, story_of, state_at}
+use Rattle.pfr_story.specs.Story.{Story, Move, Says, Plan, after, then, says, device_of}
+use Rattle.pfr_story.specs.World.{World, story_of, state_at}
 use Rattle.pfr_story.specs.Goes.{Ran, Stopped, Goes}
-use Rattle.pfr_story.specs.Plans.{mine, store, asks, asks_store, ready_in, ready_of, judged_active, judged_recovery, restored, by_second, checked_again, by_recovery, recovered, by_active, tail, by_ready, brought_up}
-use Rattle.pfr_story.specs.Course.{CrossesOrFaults, LosesPower, lost}
+use Rattle.pfr_story.specs.Plans.{mine, asks, asks_store, ready_in, ready_of, judged_active, judged_recovery, restored, by_second, checked_again, by_recovery, recovered, by_active, tail, by_ready, brought_up}
+use Rattle.pfr_story.specs.Course.{CrossesOrFaults}
 use Rattle.pfr_story.specs.Turn.{bank_stretch, fault_of}
 use Rattle.pfr_story.specs.declared.line.Line.{Line}
 use Rattle.pfr_story.specs.declared.stop.Stop.{Stop}
 use Rattle.pfr_story.proofs.Sequence.{Ran-append, Stopped-first, Stopped-next}
 use Rattle.pfr_story.proofs.RestoreLaws.{restored_judged}
 use Rattle.pfr_machine.specs.Worlds.{AddsNotes, DeskState, IsAwake, Stays, desk_world, other_of, with_note}
-use Rattle.pfr_machine.specs.Ready.{LeavesSeated, HaltsIn, EndsSeated, ReleasedBy, DistrustedBy, BroughtUp, Brings, Ended}
+use Rattle.pfr_machine.specs.Ready.{LeavesSeated, HaltsIn, EndsSeated, DistrustedBy, BroughtUp, Brings, Ended}
 use Rattle.pfr_machine.specs.declared.board.Board.{Board}
 use Rattle.pfr_machine.specs.declared.bringing.Dark.{Dark}
 use Rattle.pfr_machine.specs.declared.desk.Halt.{Halt}
@@ -144,7 +139,7 @@ module _ (accepts : Acceptance) (fuses : FusesState) where
         judged = judged;
       }) in
       let here : judged_active accepts mid.bank fuses (story_of mid.world) ≡ Ok capsule.manifest =
-          ap (λ (b : Bank). judged_active accepts b fuses (story_of mid.world)) same ∙ (ap (λ (s : Story). judged_active accepts old.bank fuses s) p.is ∙ again) in
+      ap (λ (b : Bank). judged_active accepts b fuses (story_of mid.world)) same ∙ (ap (λ (s : Story). judged_active accepts old.bank fuses s) p.is ∙ again) in
       subst (λ (r : Result Manifest ActiveFail). IsOk r) (sym here) refl
 
   pub restored_ends : {T F : Type 0} (capsule : CapsuleState) (old mid : DeskState) (answer : Result T Stop) (r : Result World (Halt F)) → Ran (restored old.bank 1 fuses capsule (story_of old.world)) old.world mid.world
@@ -280,8 +275,7 @@ module _ (accepts : Acceptance) (which : Bank) (old : World) (held : DeskState) 
       → Ended halt r → Brings (bank_stretch accepts which) which 5 old r
   brought_halted halt (Ok new) h e =
       let notes = AddsNotes-then 1 3 old.notes held.world.notes halt.desk.world.notes n h.stays.notes in
-      let same : halt.desk.bank ≡ which = h.stays.bank ∙ b in
-      (
+      let same : halt.desk.bank ≡ which = h.stays.bank ∙ b in (
         inr (record {
           which = halt.stop.device;
           at = halt.desk.world;
@@ -291,8 +285,7 @@ module _ (accepts : Acceptance) (which : Bank) (old : World) (held : DeskState) 
         brought_most 5 new (omega arith) (leaves_up 4 halt.desk new same h.stays.other notes 1 e.2),
       )
   brought_halted halt (Err dark) h e =
-      let notes = AddsNotes-then 1 3 old.notes held.world.notes halt.desk.world.notes n h.stays.notes in
-      (
+      let notes = AddsNotes-then 1 3 old.notes held.world.notes halt.desk.world.notes n h.stays.notes in (
         record {
           which = halt.stop.device;
           at = halt.desk.world;

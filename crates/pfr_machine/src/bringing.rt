@@ -9,7 +9,8 @@ ghost use Rattle.pfr_auth.specs.Answer.{active_failure};
 ghost use Rattle.pfr_copy.specs.Applying.{CanApply};
 ghost use Rattle.pfr_fuses.specs.FusesOf.{fuses_of};
 ghost use Rattle.pfr_fuses.specs.RootSlot.{layout_of};
-ghost use Rattle.pfr_story.specs.Plans.{asks_store, by_active, by_ready, checked_again, judged_active, judged_recovery, lock_of, ready_in, ready_of, recovered, restored, tail};
+ghost use Rattle.pfr_story.specs.Plans.{asks_store, by_active, by_ready, checked_again, judged_active, judged_recovery};
+ghost use Rattle.pfr_story.specs.Plans.{lock_of, ready_in, ready_of, recovered, restored, tail};
 ghost use Rattle.pfr_story.specs.Story.{then, device_of};
 ghost use Rattle.pfr_story.specs.Turn.{bank_stretch, fault_of};
 ghost use Rattle.pfr_story.specs.World.{state_at, story_of};
@@ -85,7 +86,8 @@ impl<F: Flash> Desk<F> {
     fn check_again<E: Engine>(self, fuses: &Fuses, engine: &E) -> Result<Inner<F>, Halt<F>>
         requires room { 1 ≤ self.world.notes.spare }
         requires on { IsAwake self.bank self.world }
-        requires valid { IsValidLayout (layout_of fuses.now.provision self.bank) (size_of (state_at (device_of self.bank) self.world)) }
+        requires valid { let layout = layout_of fuses.now.provision self.bank in
+            IsValidLayout layout (size_of (state_at (device_of self.bank) self.world)) }
         requires trusted { IsOk (judged_active (E.accepts engine.now) self.bank fuses.now (story_of self.world)) }
         ensures { EndsSeated (checked_again (E.accepts engine.now) self.bank fuses.now) 1 self result }
     {
@@ -105,10 +107,13 @@ impl<F: Flash> Desk<F> {
         requires room { 2 ≤ self.world.notes.spare }
         requires on { IsAwake self.bank self.world }
         requires found { fuses_of (now self.world.nv) ≡ Ok fuses.now }
-        requires valid { IsValidLayout (layout_of fuses.now.provision self.bank) (size_of (state_at (device_of self.bank) self.world)) }
+        requires valid { let layout = layout_of fuses.now.provision self.bank in
+            IsValidLayout layout (size_of (state_at (device_of self.bank) self.world)) }
         requires good { judged_recovery (E.accepts engine.now) self.bank fuses.now (story_of self.world) ≡ Ok capsule.now }
-        requires can { CanApply (now (state_at (device_of self.bank) self.world)) (layout_of fuses.now.provision self.bank) capsule.now }
-        ensures { EndsSeated (then (restored self.bank 1 fuses.now capsule.now) (checked_again (E.accepts engine.now) self.bank fuses.now)) 2 self result }
+        requires can { let layout = layout_of fuses.now.provision self.bank in
+            CanApply (now (state_at (device_of self.bank) self.world)) layout capsule.now }
+        ensures { let again = checked_again (E.accepts engine.now) self.bank fuses.now in
+            EndsSeated (then (restored self.bank 1 fuses.now capsule.now) again) 2 self result }
     {
         self.known();
         match self.restore(fuses, capsule, 1) {
@@ -127,7 +132,8 @@ impl<F: Flash> Desk<F> {
         requires room { 2 ≤ self.world.notes.spare }
         requires on { IsAwake self.bank self.world }
         requires found { fuses_of (now self.world.nv) ≡ Ok fuses.now }
-        requires valid { IsValidLayout (layout_of fuses.now.provision self.bank) (size_of (state_at (device_of self.bank) self.world)) }
+        requires valid { let layout = layout_of fuses.now.provision self.bank in
+            IsValidLayout layout (size_of (state_at (device_of self.bank) self.world)) }
         requires cause { IsFound active_failure why }
         ensures { EndsSeated (recovered (E.accepts engine.now) self.bank fuses.now why) 2 self result }
     {
@@ -148,7 +154,8 @@ impl<F: Flash> Desk<F> {
         requires room { 3 ≤ self.world.notes.spare }
         requires on { IsAwake self.bank self.world }
         requires found { fuses_of (now self.world.nv) ≡ Ok fuses.now }
-        requires valid { IsValidLayout (layout_of fuses.now.provision self.bank) (size_of (state_at (device_of self.bank) self.world)) }
+        requires valid { let layout = layout_of fuses.now.provision self.bank in
+            IsValidLayout layout (size_of (state_at (device_of self.bank) self.world)) }
         requires cause { IsFound active_failure why }
         ensures { EndsSeated (by_active (E.accepts engine.now) self.bank fuses.now (Err why)) 3 self result }
     {
@@ -161,7 +168,8 @@ impl<F: Flash> Desk<F> {
         requires room { 3 ≤ self.world.notes.spare }
         requires on { IsAwake self.bank self.world }
         requires found { fuses_of (now self.world.nv) ≡ Ok fuses.now }
-        requires valid { IsValidLayout (layout_of fuses.now.provision self.bank) (size_of (state_at (device_of self.bank) self.world)) }
+        requires valid { let layout = layout_of fuses.now.provision self.bank in
+            IsValidLayout layout (size_of (state_at (device_of self.bank) self.world)) }
         ensures { EndsSeated (tail (E.accepts engine.now) self.bank fuses.now) 3 self result }
     {
         match self.check(fuses, engine)? {
@@ -191,7 +199,8 @@ impl<F: Flash> Desk<F> {
     fn bring_up<E: Engine>(mut self, engine: &E) -> Result<Inner<F>, Halt<F>>
         requires room { 3 ≤ self.world.notes.spare }
         requires on { IsAwake self.bank self.world }
-        ensures { EndsSeated (then asks_store (λ story. by_ready (E.accepts engine.now) self.bank (ready_of self.bank story) story)) 3 self result }
+        ensures { EndsSeated (then asks_store
+            (λ story. by_ready (E.accepts engine.now) self.bank (ready_of self.bank story) story)) 3 self result }
     {
         match self.load() {
             Ok(found) => self.proceed(found, engine),

@@ -1,8 +1,3 @@
-use Rattle.std.proofs.Common.{◌∙◌, sym, ap}
-use Rattle.pfr_flash.specs.FlashState.{size_of}
-use Rattle.pfr_machine.specs.Worlds.{DeskState}
-use Rattle.pfr_story.specs.Story.{device_of}
-use Rattle.pfr_story.specs.World.{state_at}
 use Rattle.pfr_machine.proofs.BringLemmas.{ready_found, readied, readied_locked}
 use Rattle.pfr_machine.proofs.desk.Desk.proceed.Goals as goal
 
