@@ -1,8 +1,5 @@
-pub mod WorldLemmas
-pub mod ReadLemmas
-pub mod WakeLemmas
+pub mod StandLemmas
+pub mod StoreLemmas
 pub mod ProvisionLemmas
 pub mod TurnLemmas
-pub mod StoreLemmas
 mod VerdictLaw
-pub mod RecoveryLemmas

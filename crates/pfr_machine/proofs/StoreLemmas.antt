@@ -1,0 +1,75 @@
+-- What work on the store alone is to the platform.
+use Rattle.std.proofs.Common.{◌≡◌, ◌∙◌, refl, sym, ap, subst, ℕ, List, [], true, Some, Result, Ok, Err}
+use Rattle.pfr_flash.specs.FlashState.{FlashState, now, size_of}
+use Rattle.pfr_flash.specs.Layout.{IsBankSize}
+use Rattle.pfr_flash.specs.Operation.{Operation}
+use Rattle.pfr_flash.specs.Plan.{Follows}
+use Rattle.pfr_flash.specs.Reading.{EndsAt, failed_by}
+use Rattle.pfr_flash.specs.declared.flash.FlashFail.{FlashFail}
+use Rattle.pfr_flash.specs.declared.flash.FlashFail.TheVariants.{Fault}
+use Rattle.pfr_flash.specs.declared.names.Bank.{Bank}
+use Rattle.pfr_flash.specs.declared.names.Bank.TheVariants as bank
+use Rattle.pfr_flash.specs.declared.names.Device.TheVariants as device
+use Rattle.pfr_flash.proofs.FollowsLemmas.{Follows-none, Follows-reads}
+use Rattle.pfr_fuses.specs.FuseMap.{profile_number}
+use Rattle.pfr_fuses.specs.FusesState.{FusesState}
+use Rattle.pfr_fuses.specs.declared.profile.Profile.{Profile}
+use Rattle.pfr_fuses.specs.declared.profile.Profile.TheVariants.{One, Two}
+use Rattle.pfr_report.specs.Texts.{AllText}
+use Rattle.pfr_story.specs.Goes.{Goes}
+use Rattle.pfr_story.specs.Plans.{migration_by}
+use Rattle.pfr_story.specs.Standing.{standing_of, standing_by}
+use Rattle.pfr_story.specs.Story.{called, device_of}
+use Rattle.pfr_story.specs.World.{World, state_at}
+use Rattle.pfr_story.specs.declared.line.Line.{Line}
+use Rattle.pfr_story.specs.declared.line.Line.TheVariants.{Off}
+use Rattle.pfr_story.specs.declared.stop.Stop.{Stop}
+use Rattle.pfr_story.proofs.Lift.{OnlyAt, Goes-follows, at_device}
+use Rattle.pfr_machine.specs.Worlds.{AddsNotes, with_state}
+use Rattle.pfr_machine.specs.Inside.{AreSeated, IsSeat, IsBoard}
+use Rattle.pfr_machine.specs.Ready.{StaysSeated, StaysFed}
+use Rattle.pfr_machine.proofs.StandLemmas.{AddsNotes-refl}
+
+pub two_by_number : (profile : Profile) (fuses : FusesState) → ¬ (profile_number profile ≡ 1) → migration_by profile fuses ≡ []
+two_by_number One fuses n = absurd (n refl)
+two_by_number Two fuses n = refl
+
+-- nothing is to be done
+pub none_to_do : (plan : List Operation) (d : FlashState) → plan ≡ [] → Follows {A = Unit {0}} plan d d (Ok tt)
+none_to_do plan d e = subst (λ (ops : List Operation). Follows {A = Unit {0}} ops d d (Ok tt)) (sym e) (Follows-none d tt)
+
+-- ---- only the store worked
+module _ (old new : World) (e : new ≡ with_state device.Nv new.nv old) where
+  only_store : OnlyAt device.Nv old new
+  only_store = record {
+    others = (ap (λ (w : World). w.pch) e, ap (λ (w : World). w.bmc) e);
+    item = ap (λ (w : World). w.item) e;
+    notes = ap (λ (w : World). w.notes.list) e;
+    guards = ap (λ (w : World). w.guards) e;
+  }
+
+  pub store_goes : {A : Type 0} (plan : List Operation) (r : Result A FlashFail) → old.nv.powered ≡ true → Follows plan old.nv new.nv r → Goes (λ story. called device.Nv plan) old new (at_device device.Nv r)
+  store_goes plan r on f = Goes-follows device.Nv plan old new r only_store on f
+
+  fed : {A : Type 0} (plan : List Operation) (r : Result A FlashFail) → old.nv.powered ≡ true → Follows plan old.nv new.nv r → StaysFed new (at_device device.Nv r)
+  fed plan (Ok x) on f = f.on ∙ on
+  fed plan (Err fail) on f = λ is. f.still is ∙ on
+
+  pub store_stays : {A : Type 0} (plan : List Operation) (r : Result A FlashFail) → old.nv.powered ≡ true → Follows plan old.nv new.nv r → StaysSeated 0 old new (at_device device.Nv r)
+  store_stays plan r on f = record {
+    stands = λ which. ap (λ (w : World). standing_of which w.notes.list) e;
+    notes = subst (λ (w : World). AddsNotes 0 old.notes w.notes) (sym e) (AddsNotes-refl old.notes);
+    nv = fed plan r on f;
+  }
+
+  seat_kept : (which owner : Bank) (how : Line) → IsSeat which owner how old → IsSeat which owner how new
+  seat_kept bank.Bmc owner how h = subst (λ (w : World). IsSeat bank.Bmc owner how w) (sym e) (record { owner = h.owner; size = h.size; stands = h.stands; on = h.on })
+  seat_kept bank.Pch owner how h = subst (λ (w : World). IsSeat bank.Pch owner how w) (sym e) (record { owner = h.owner; size = h.size; stands = h.stands; on = h.on })
+
+  -- the banks stay seated
+  pub store_seated : (bmc_owner pch_owner : Bank) (bmc pch : Line) → size_of new.nv ≡ size_of old.nv → AreSeated bmc_owner pch_owner bmc pch old → AreSeated bmc_owner pch_owner bmc pch new
+  store_seated bmc_owner pch_owner bmc pch size h = record {
+    bmc = seat_kept bank.Bmc bmc_owner bmc h.bmc;
+    pch = seat_kept bank.Pch pch_owner pch h.pch;
+    board = record { size = size ∙ h.board.size; texts = subst (λ (w : World). AllText w.notes.list) (sym e) h.board.texts };
+  }
