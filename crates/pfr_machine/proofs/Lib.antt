@@ -1,3 +1,5 @@
+pub mod WorldLemmas
+pub mod DeskLemmas
 pub mod StandLemmas
 pub mod StoreLemmas
 pub mod ProvisionLemmas

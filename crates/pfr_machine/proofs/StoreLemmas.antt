@@ -28,7 +28,7 @@ use Rattle.pfr_story.proofs.Lift.{OnlyAt, Goes-follows, at_device}
 use Rattle.pfr_machine.specs.Worlds.{AddsNotes, with_state}
 use Rattle.pfr_machine.specs.Inside.{AreSeated, IsSeat, IsBoard}
 use Rattle.pfr_machine.specs.Ready.{StaysSeated, StaysFed}
-use Rattle.pfr_machine.proofs.StandLemmas.{AddsNotes-refl}
+use Rattle.pfr_machine.proofs.WorldLemmas.{AddsNotes-none}
 
 pub two_by_number : (profile : Profile) (fuses : FusesState) → ¬ (profile_number profile ≡ 1) → migration_by profile fuses ≡ []
 two_by_number One fuses n = absurd (n refl)
@@ -58,7 +58,7 @@ module _ (old new : World) (e : new ≡ with_state device.Nv new.nv old) where
   pub store_stays : {A : Type 0} (plan : List Operation) (r : Result A FlashFail) → old.nv.powered ≡ true → Follows plan old.nv new.nv r → StaysSeated 0 old new (at_device device.Nv r)
   store_stays plan r on f = record {
     stands = λ which. ap (λ (w : World). standing_of which w.notes.list) e;
-    notes = subst (λ (w : World). AddsNotes 0 old.notes w.notes) (sym e) (AddsNotes-refl old.notes);
+    notes = subst (λ (w : World). AddsNotes 0 old.notes w.notes) (sym e) (AddsNotes-none old.notes);
     nv = fed plan r on f;
   }
 

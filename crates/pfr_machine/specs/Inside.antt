@@ -12,7 +12,8 @@ use Rattle.pfr_story.specs.Story.{device_of}
 use Rattle.pfr_story.specs.World.{World, state_at}
 use Rattle.pfr_story.specs.declared.line.Line.{Line}
 use Rattle.pfr_story.specs.declared.line.Line.TheVariants.{Off}
-use Rattle.pfr_machine.specs.Worlds.{other_of}
+use Rattle.pfr_machine.specs.Worlds.{bank_in, line_in, other_of, sides_world}
+use Rattle.pfr_machine.specs.declared.sides.Sides.{Sides}
 
 -- The seat of a bank, which is this one's and stands so: its device has a bank's size, the notes say the same of the bank, and
 -- its device has power, unless the bank is off.
@@ -32,6 +33,15 @@ pub record AreSeated (bmc_owner pch_owner : Bank) (bmc pch : Line) (w : World) :
   pub bmc : IsSeat Bmc bmc_owner bmc w
   pub pch : IsSeat Pch pch_owner pch w
   pub board : IsBoard w
+
+-- the same as one of the banks sees it
+pub record AreBeside (which owner other_owner : Bank) (mine other : Line) (w : World) : Type 0 where
+  pub mine : IsSeat which owner mine w
+  pub other : IsSeat (other_of which) other_owner other w
+  pub board : IsBoard w
+
+abbrev pub AreSides : {F : Type 0} → (F → FlashState) → Sides F → Type 0
+AreSides device sides = AreBeside sides.bank (bank_in sides.mine) (bank_in sides.other) (line_in sides.mine) (line_in sides.other) (sides_world device sides)
 
 -- This bank is in work, and its device is held for this one.
 pub record IsDesk (which owner other_owner : Bank) (other : Line) (w : World) : Type 0 where

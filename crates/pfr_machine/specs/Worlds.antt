@@ -19,6 +19,7 @@ use Rattle.pfr_story.specs.declared.line.Line.{Line}
 use Rattle.pfr_story.specs.declared.line.Line.TheVariants as line
 use Rattle.pfr_story.specs.declared.stop.Stop.{Stop}
 use Rattle.pfr_machine.specs.declared.board.Board.{Board}
+use Rattle.pfr_machine.specs.declared.sides.Sides.{Sides}
 use Rattle.pfr_machine.specs.declared.seat.Seat.{Seat}
 use Rattle.pfr_machine.specs.declared.seat.Seat.TheVariants as seat
 
@@ -47,6 +48,10 @@ world_with bmc pch nv board = record { bmc = bmc; pch = pch; nv = nv; item = boa
 abbrev pub desk_world : {F : Type 0} → Bank → FlashState → FlashState → FlashState → Board F → World
 desk_world bank.Bmc mine other nv board = world_with mine other nv board
 desk_world bank.Pch mine other nv board = world_with other mine nv board
+
+-- the same by both banks' seats
+abbrev pub sides_world : {F : Type 0} → (F → FlashState) → Sides F → World
+sides_world device sides = desk_world sides.bank (device (flash_in sides.mine)) (device (flash_in sides.other)) (device sides.board.nv) sides.board
 
 -- another state of this device
 abbrev pub with_state : Device → FlashState → World → World

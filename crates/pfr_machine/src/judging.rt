@@ -1,4 +1,4 @@
-// What the contents of the devices say of a bank.
+// What the store provisions the platform with.
 ghost use Rattle.std.specs.Prelude.{◌≡◌, Some, IfOk};
 ghost use Rattle.pfr_flash.specs.FlashState.{now, size_of};
 ghost use Rattle.pfr_flash.specs.Reading.{EndsAt, failed_by};

@@ -11,6 +11,7 @@ mod platform;
 mod preparing;
 mod provisioning;
 mod seat;
+mod sides;
 mod turning;
 mod verdicts;
 
