@@ -1,5 +1,7 @@
 pub mod WorldLemmas
 pub mod DeskLemmas
+pub mod SeatLemmas
+pub mod CapsuleLemmas
 pub mod StandLemmas
 pub mod StoreLemmas
 pub mod ProvisionLemmas

@@ -59,6 +59,13 @@ with_state device.Bmc d w = record w { bmc = d }
 with_state device.Pch d w = record w { pch = d }
 with_state device.Nv d w = record w { nv = d }
 
+-- a note is appended, and moves the guards
+abbrev pub pushed : {F : Type 0} → What → Board F → Board F
+pushed what board = record board {
+  notes = record { list = board.notes.list ++ record { item = board.item; what = what } ∷ []; spare = board.notes.spare - 1 };
+  guards = guards_after what board.guards;
+}
+
 -- something was noted
 abbrev pub with_note : What → World → World
 with_note what w = record w {
