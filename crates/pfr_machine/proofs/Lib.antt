@@ -6,4 +6,5 @@ pub mod StandLemmas
 pub mod StoreLemmas
 pub mod ProvisionLemmas
 pub mod TurnLemmas
+pub mod JudgeLemmas
 mod VerdictLaw

@@ -17,8 +17,8 @@ use Rattle.pfr_machine.specs.declared.sides.Sides.{Sides}
 
 -- The seat of a bank, which is this one's and stands so: its device has a bank's size, the notes say the same of the bank, and
 -- its device has power, unless the bank is off.
-pub record IsSeat (which owner : Bank) (how : Line) (w : World) : Type 0 where
-  pub owner : owner ≡ which
+pub record IsSeat (which whose : Bank) (how : Line) (w : World) : Type 0 where
+  pub owner : whose ≡ which
   pub size : IsBankSize (size_of (state_at (device_of which) w))
   pub stands : standing_of which w.notes.list ≡ standing_by how
   pub on : how ≢ Off → (state_at (device_of which) w).powered ≡ true
@@ -29,26 +29,26 @@ pub record IsBoard (w : World) : Type 0 where
   pub texts : AllText w.notes.list
 
 -- No bank is in work.
-pub record AreSeated (bmc_owner pch_owner : Bank) (bmc pch : Line) (w : World) : Type 0 where
-  pub bmc : IsSeat Bmc bmc_owner bmc w
-  pub pch : IsSeat Pch pch_owner pch w
+pub record AreSeated (bmc_whose pch_whose : Bank) (bmc_line pch_line : Line) (w : World) : Type 0 where
+  pub bmc : IsSeat Bmc bmc_whose bmc_line w
+  pub pch : IsSeat Pch pch_whose pch_line w
   pub board : IsBoard w
 
 -- the same as one of the banks sees it
-pub record AreBeside (which owner other_owner : Bank) (mine other : Line) (w : World) : Type 0 where
-  pub mine : IsSeat which owner mine w
-  pub other : IsSeat (other_of which) other_owner other w
+pub record AreBeside (which whose other_whose : Bank) (my_line other_line : Line) (w : World) : Type 0 where
+  pub mine : IsSeat which whose my_line w
+  pub other : IsSeat (other_of which) other_whose other_line w
   pub board : IsBoard w
 
 abbrev pub AreSides : {F : Type 0} → (F → FlashState) → Sides F → Type 0
 AreSides device sides = AreBeside sides.bank (bank_in sides.mine) (bank_in sides.other) (line_in sides.mine) (line_in sides.other) (sides_world device sides)
 
 -- This bank is in work, and its device is held for this one.
-pub record IsDesk (which owner other_owner : Bank) (other : Line) (w : World) : Type 0 where
-  pub owner : owner ≡ which
+pub record IsDesk (which whose other_whose : Bank) (other_line : Line) (w : World) : Type 0 where
+  pub owner : whose ≡ which
   pub size : IsBankSize (size_of (state_at (device_of which) w))
   pub stands : standing_of which w.notes.list ≡ Held
-  pub other : IsSeat (other_of which) other_owner other w
+  pub other : IsSeat (other_of which) other_whose other_line w
   pub board : IsBoard w
 
 -- Between two events both banks are off, or neither is and the store has power; and an item added 64 notes at most.
