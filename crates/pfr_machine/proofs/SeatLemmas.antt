@@ -21,12 +21,13 @@ use Rattle.pfr_story.specs.Goes.{Ran}
 use Rattle.pfr_story.specs.declared.line.Line.{Line}
 use Rattle.pfr_story.specs.declared.line.Line.TheVariants as line
 use Rattle.pfr_story.proofs.Lift.{Ran-uncalled}
-use Rattle.pfr_machine.specs.Inside.{AreBeside, AreSeated, IsBoard, IsDesk, IsSeat}
+use Rattle.pfr_machine.specs.Inside.{AreBeside, AreSides, IsBoard, IsDesk, IsSeat}
 use Rattle.pfr_machine.specs.Ready.{IsText}
-use Rattle.pfr_machine.specs.Worlds.{AddsNotes, IsAwake, desk_world, flash_in, other_of, pushed, sides_world, with_note, with_state, world_with}
+use Rattle.pfr_machine.specs.Worlds.{AddsNotes, IsAwake, bank_in, desk_world, flash_in, line_in, other_of, pushed, sides_world, with_note}
 use Rattle.pfr_machine.specs.declared.board.Board.{Board}
 use Rattle.pfr_machine.specs.declared.sides.Sides.{Sides}
-use Rattle.pfr_machine.proofs.WorldLemmas.{AddsNotes-noted, standing_noted, seat_noted, board_noted}
+use Rattle.pfr_machine.proofs.DeskLemmas.{state_mine, state_other}
+use Rattle.pfr_machine.proofs.WorldLemmas.{AddsNotes-noted, after_locked, other_locked, standing_noted, seat_noted, board_noted}
 
 -- a note of this item
 abbrev note_in : World → What → Note
@@ -38,15 +39,15 @@ lock_text b (NoGoodImage active recovery) at h = h
 lock_text b _ at h = tt
 
 -- ---- power
+pub powered_as : (old new : FlashState) → new ≡ old → old.powered ≡ true → new ≡ record old { powered = true }
+powered_as old new same on = same ∙ ap (λ on. record old { powered = on }) on
+
 -- what holding a bank does to its device, by how it stood
 pub powered_up : (how : Line) (old new : FlashState) → (how ≡ line.Off → new ≡ record old { powered = true }) → (how ≢ line.Off → new ≡ old) → (how ≢ line.Off → old.powered ≡ true)
     → new ≡ record old { powered = true }
 powered_up line.Off old new off on was = off refl
 powered_up line.Locked old new off on was = powered_as old new (on (λ e. cc)) (was (λ e. cc))
 powered_up line.Running old new off on was = powered_as old new (on (λ e. cc)) (was (λ e. cc))
-
-pub powered_as : (old new : FlashState) → new ≡ old → old.powered ≡ true → new ≡ record old { powered = true }
-powered_as old new same on = same ∙ ap (λ on. record old { powered = on }) on
 
 -- the bank's device and the store get power
 abbrev pub with_power : Bank → World → World
@@ -227,3 +228,97 @@ module _ {F : Type 0} (dev : F → FlashState) where
       ∙ (ap (λ (d : FlashState). desk_world b (record mine { powered = false }) d (dev store) (record (pushed what board) { nv = store })) o
       ∙ (ap (λ (d : FlashState). desk_world b (record mine { powered = false }) (record other { powered = false }) d (record (pushed what board) { nv = store })) s
       ∙ dark_by b what mine other nv board store)))
+
+-- ---- the seats of both banks, of which this one is held or locked
+module _ {F : Type 0} (dev : F → FlashState) (s : Sides F) (seated : AreSides dev s) (flash : FlashState)
+    (off : line_in s.mine ≡ line.Off → flash ≡ record (dev (flash_in s.mine)) { powered = true }) (on : line_in s.mine ≢ line.Off → flash ≡ dev (flash_in s.mine)) where
+  flash_up : flash ≡ record (dev (flash_in s.mine)) { powered = true }
+  flash_up =
+      powered_up (line_in s.mine) (dev (flash_in s.mine)) flash off on
+      (λ some. subst (λ (d : FlashState). d.powered ≡ true) (state_mine s.bank (dev (flash_in s.mine)) (dev (flash_in s.other)) (dev s.board.nv) s.board) (seated.mine.on some))
+
+  pub held_sides : (what : What) (store : F) (next : Board F) → dev store ≡ record (dev s.board.nv) { powered = true } → next ≡ pushed what (record s.board { nv = store })
+      → desk_world s.bank flash (dev (flash_in s.other)) (dev next.nv) next ≡ with_note what (with_power s.bank (sides_world dev s))
+  held_sides what store next up e = held_world dev s.bank what (dev (flash_in s.mine)) flash (dev (flash_in s.other)) (dev s.board.nv) s.board next store flash_up up e
+
+  pub held_is_desk : (at : Counts) (whose : Bank) (store : F) (next : Board F) → whose ≡ bank_in s.mine → dev store ≡ record (dev s.board.nv) { powered = true }
+      → next ≡ pushed (Held s.bank at) (record s.board { nv = store })
+      → IsDesk s.bank whose (bank_in s.other) (line_in s.other) (desk_world s.bank flash (dev (flash_in s.other)) (dev next.nv) next)
+  held_is_desk at whose store next owned up e =
+      subst (λ (x : Bank). IsDesk s.bank x (bank_in s.other) (line_in s.other) (desk_world s.bank flash (dev (flash_in s.other)) (dev next.nv) next)) (sym owned)
+      (subst (λ (w : World). IsDesk s.bank (bank_in s.mine) (bank_in s.other) (line_in s.other) w) (sym (held_sides (Held s.bank at) store next up e))
+      (held_desk s.bank (bank_in s.mine) (bank_in s.other) (line_in s.mine) (line_in s.other) at (sides_world dev s) seated))
+
+  pub held_says : (b : Bank) (at : Counts) (self : World) (store : F) (next : Board F) → s.bank ≡ b → sides_world dev s ≡ self → at ≡ counts_in self
+      → dev store ≡ record (dev s.board.nv) { powered = true } → next ≡ pushed (Held s.bank at) (record s.board { nv = store })
+      → Ran (Says (Held b) ∷ []) self (desk_world s.bank flash (dev (flash_in s.other)) (dev next.nv) next)
+  held_says b at self store next is same counts up e =
+      subst (λ (x : Bank). Ran (Says (Held x) ∷ []) self (desk_world s.bank flash (dev (flash_in s.other)) (dev next.nv) next)) is
+      (subst (λ (w : World). Ran (Says (Held s.bank) ∷ []) w (desk_world s.bank flash (dev (flash_in s.other)) (dev next.nv) next)) same
+      (held_ran s.bank at (sides_world dev s) (desk_world s.bank flash (dev (flash_in s.other)) (dev next.nv) next) (counts ∙ ap counts_in (sym same)) (held_sides (Held s.bank at) store next up e)))
+
+  pub locked_sides : (what : What) (next : Board F) → next ≡ pushed what s.board
+      → desk_world s.bank flash (dev (flash_in s.other)) (dev next.nv) next ≡ with_note what (with_mine s.bank (sides_world dev s))
+  locked_sides what next e = noted_world dev s.bank what (dev (flash_in s.mine)) flash (dev (flash_in s.other)) s.board next flash_up e
+
+  pub locked_are_beside : (why : LockWhy) (at : Counts) (whose : Bank) (next : Board F) → whose ≡ bank_in s.mine → IsText why → next ≡ pushed (Locked s.bank why at) s.board
+      → AreBeside s.bank whose (bank_in s.other) line.Locked (line_in s.other) (desk_world s.bank flash (dev (flash_in s.other)) (dev next.nv) next)
+  locked_are_beside why at whose next owned text e =
+      subst (λ (w : World). AreBeside s.bank whose (bank_in s.other) line.Locked (line_in s.other) w) (sym (locked_sides (Locked s.bank why at) next e))
+      (stands_beside s.bank whose (bank_in s.other) line.Locked (line_in s.other) (Locked s.bank why at) (sides_world dev s)
+      (after_locked s.bank why at (standing_of s.bank (sides_world dev s).notes.list))
+      (other_locked s.bank why at (standing_of (other_of s.bank) (sides_world dev s).notes.list) ∙ seated.other.stands)
+      (lock_text s.bank why at text) (owned ∙ seated.mine.owner) seated.mine.size seated.other seated.board)
+
+  pub locked_says : (b : Bank) (why : LockWhy) (at : Counts) (self : World) (next : Board F) → s.bank ≡ b → sides_world dev s ≡ self → at ≡ counts_in self
+      → next ≡ pushed (Locked s.bank why at) s.board → Ran (Says (Locked b why) ∷ []) self (desk_world s.bank flash (dev (flash_in s.other)) (dev next.nv) next)
+  locked_says b why at self next is same counts e =
+      subst (λ (x : Bank). Ran (Says (Locked x why) ∷ []) self (desk_world s.bank flash (dev (flash_in s.other)) (dev next.nv) next)) is
+      (subst (λ (w : World). Ran (Says (Locked s.bank why) ∷ []) w (desk_world s.bank flash (dev (flash_in s.other)) (dev next.nv) next)) same
+      (locked_ran s.bank why at (sides_world dev s) (desk_world s.bank flash (dev (flash_in s.other)) (dev next.nv) next) (counts ∙ ap counts_in (sym same)) (locked_sides (Locked s.bank why at) next e)))
+
+  pub locked_adds : (what : What) (self : World) (next : Board F) → sides_world dev s ≡ self → 1 ≤ self.notes.spare → next ≡ pushed what s.board
+      → AddsNotes 1 self.notes (desk_world s.bank flash (dev (flash_in s.other)) (dev next.nv) next).notes
+  locked_adds what self next same room e =
+      let before : 1 ≤ (sides_world dev s).notes.spare = subst (λ (w : World). 1 ≤ w.notes.spare) (sym same) room in
+      subst (λ (w : World). AddsNotes 1 w.notes (desk_world s.bank flash (dev (flash_in s.other)) (dev next.nv) next).notes) same
+      (subst (λ (w : World). AddsNotes 1 (sides_world dev s).notes w.notes) (sym (locked_sides what next e)) (locked_notes s.bank what (sides_world dev s) before))
+
+-- ---- a desk's bank stands otherwise, whose device has power
+module _ {F : Type 0} (dev : F → FlashState) (b whose other_whose : Bank) (how : Line) (mine later other : FlashState) (board : Board F)
+    (desk : IsDesk b whose other_whose how (desk_world b mine other (dev board.nv) board)) (on : mine.powered ≡ true) (same : later ≡ mine) where
+  later_up : later ≡ record mine { powered = true }
+  later_up = powered_as mine later same on
+
+  my_power : (state_at (device_of b) (desk_world b mine other (dev board.nv) board)).powered ≡ true
+  my_power = subst (λ (d : FlashState). d.powered ≡ true) (sym (state_mine b mine other (dev board.nv) board)) on
+
+  pub desk_noted_is : (what : What) (next : Board F) → next ≡ pushed what board → desk_world b later other (dev next.nv) next ≡ with_note what (desk_world b mine other (dev board.nv) board)
+  desk_noted_is what next e = noted_world dev b what mine later other board next later_up e ∙ with_mine_on b what (desk_world b mine other (dev board.nv) board) my_power
+
+  pub desk_beside : (later_line : Line) (what : What) (later_whose : Bank) (next : Board F) → later_whose ≡ whose → next ≡ pushed what board → HasText what
+      → ((s : Standing) → standing_after b what s ≡ standing_by later_line) → ((s : Standing) → standing_after (other_of b) what s ≡ s)
+      → AreBeside b later_whose other_whose later_line how (desk_world b later other (dev next.nv) next)
+  desk_beside later_line what later_whose next owned e text after others =
+      subst (λ (w : World). AreBeside b later_whose other_whose later_line how w) (sym (noted_world dev b what mine later other board next later_up e))
+      (stands_beside b later_whose other_whose later_line how what (desk_world b mine other (dev board.nv) board) (after (standing_of b (desk_world b mine other (dev board.nv) board).notes.list))
+      (others (standing_of (other_of b) (desk_world b mine other (dev board.nv) board).notes.list) ∙ desk.other.stands) text (owned ∙ desk.owner) desk.size desk.other desk.board)
+
+-- ---- the power goes from a desk
+module _ {F : Type 0} (dev : F → FlashState) (b : Bank) (mine dark other dark_other : FlashState) (board next : Board F) (store : F) (device : Option Device) (at : Counts)
+    (m : dark ≡ record mine { powered = false }) (o : dark_other ≡ record other { powered = false }) (n : dev store ≡ record (dev next.nv) { powered = false })
+    (e : next ≡ pushed (Lost device at) board) where
+  pub dark_is : desk_world b dark dark_other (dev store) (record next { nv = store }) ≡ with_note (Lost device at) (darkened (desk_world b mine other (dev board.nv) board))
+  dark_is = dark_world dev b (Lost device at) mine dark other dark_other (dev board.nv) board next store m o (n ∙ ap (λ (x : Board F). record (dev x.nv) { powered = false }) e) e
+
+  pub dark_beside : (whose other_whose : Bank) → whose ≡ b → IsBankSize (size_of mine) → other_whose ≡ other_of b → IsBankSize (size_of other) → IsBoard (desk_world b mine other (dev board.nv) board)
+      → AreBeside b whose other_whose line.Off line.Off (desk_world b dark dark_other (dev store) (record next { nv = store }))
+  dark_beside whose other_whose owned size others other_size is_board =
+      subst (λ (w : World). AreBeside b whose other_whose line.Off line.Off w) (sym dark_is)
+      (lost_beside b whose other_whose device at (desk_world b mine other (dev board.nv) board) owned
+      (subst (λ (d : FlashState). IsBankSize (size_of d)) (sym (state_mine b mine other (dev board.nv) board)) size) others
+      (subst (λ (d : FlashState). IsBankSize (size_of d)) (sym (state_other b mine other (dev board.nv) board)) other_size) is_board)
+
+  pub dark_says : at ≡ counts_in (desk_world b mine other (dev board.nv) board)
+      → Ran (Says (Lost device) ∷ []) (desk_world b mine other (dev board.nv) board) (desk_world b dark dark_other (dev store) (record next { nv = store }))
+  dark_says counts = lost_ran device at (desk_world b mine other (dev board.nv) board) (desk_world b dark dark_other (dev store) (record next { nv = store })) counts dark_is

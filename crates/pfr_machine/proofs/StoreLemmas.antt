@@ -13,13 +13,15 @@ use Rattle.pfr_flash.specs.declared.names.Device.TheVariants as device
 use Rattle.pfr_flash.proofs.FollowsLemmas.{Follows-none, Follows-reads}
 use Rattle.pfr_fuses.specs.FuseMap.{profile_number}
 use Rattle.pfr_fuses.specs.FusesState.{FusesState}
+use Rattle.pfr_fuses.specs.FusesOf.{fuses_of}
+use Rattle.pfr_fuses.specs.declared.fuse_fail.FuseFail.{FuseFail}
 use Rattle.pfr_fuses.specs.declared.profile.Profile.{Profile}
 use Rattle.pfr_fuses.specs.declared.profile.Profile.TheVariants.{One, Two}
 use Rattle.pfr_report.specs.Texts.{AllText}
 use Rattle.pfr_story.specs.Goes.{Goes}
-use Rattle.pfr_story.specs.Plans.{migration_by}
+use Rattle.pfr_story.specs.Plans.{migration_by, migration_in, store}
 use Rattle.pfr_story.specs.Standing.{standing_of, standing_by}
-use Rattle.pfr_story.specs.Story.{called, device_of}
+use Rattle.pfr_story.specs.Story.{Plan, called, device_of}
 use Rattle.pfr_story.specs.World.{World, state_at}
 use Rattle.pfr_story.specs.declared.line.Line.{Line}
 use Rattle.pfr_story.specs.declared.line.Line.TheVariants.{Off}
@@ -38,6 +40,10 @@ two_by_number Two fuses n = refl
 pub none_to_do : (plan : List Operation) (d : FlashState) → plan ≡ [] → Follows {A = Unit {0}} plan d d (Ok tt)
 none_to_do plan d e = subst (λ (ops : List Operation). Follows {A = Unit {0}} ops d d (Ok tt)) (sym e) (Follows-none d tt)
 
+-- the fuses are migrated where they are of profile 1
+abbrev pub migrates : Plan
+migrates story = called device.Nv (migration_in (fuses_of (store story)))
+
 -- ---- only the store worked
 module _ (old new : World) (e : new ≡ with_state device.Nv new.nv old) where
   only_store : OnlyAt device.Nv old new
@@ -50,6 +56,11 @@ module _ (old new : World) (e : new ≡ with_state device.Nv new.nv old) where
 
   pub store_goes : {A : Type 0} (plan : List Operation) (r : Result A FlashFail) → old.nv.powered ≡ true → Follows plan old.nv new.nv r → Goes (λ story. called device.Nv plan) old new (at_device device.Nv r)
   store_goes plan r on f = Goes-follows device.Nv plan old new r only_store on f
+
+  pub migration_goes : (found : Result FusesState FuseFail) → found ≡ fuses_of (now old.nv) → (r : Result (Unit {0}) FlashFail) → old.nv.powered ≡ true → Follows (migration_in found) old.nv new.nv r
+      → Goes migrates old new (at_device device.Nv r)
+  migration_goes found e r on f =
+      store_goes (migration_in (fuses_of (now old.nv))) r on (subst (λ (x : Result FusesState FuseFail). Follows (migration_in x) old.nv new.nv r) e f)
 
   fed : {A : Type 0} (plan : List Operation) (r : Result A FlashFail) → old.nv.powered ≡ true → Follows plan old.nv new.nv r → StaysFed new (at_device device.Nv r)
   fed plan (Ok x) on f = f.on ∙ on

@@ -109,10 +109,10 @@ impl<F: Flash, E: Engine + Drop> Platform<F, E> {
 
         // A bank with a good capsule in its recovery area has one after each note and at the end, whatever was cut or torn; and a
         // power-on in which no call fails releases it.
-        ensures recoverable { let can = λ bank image nv. HasGoodRecovery bank image nv (E.accepts self.old.engine) in
-            OnOk result (StaysRecoverable can self.old.world self.new.world) }
-        ensures powers { let can = λ bank image nv. HasGoodRecovery bank image nv (E.accepts self.old.engine) in
-            OnOk result (PowerReleases can event.now self.old.world self.new.world) }
+        ensures recoverable { OnOk result
+            (StaysRecoverable (λ bank image nv. HasGoodRecovery bank image nv (E.accepts self.old.engine)) self.old.world self.new.world) }
+        ensures powers { OnOk result
+            (PowerReleases (λ bank image nv. HasGoodRecovery bank image nv (E.accepts self.old.engine)) event.now self.old.world self.new.world) }
 
         // A fault is noted only where it was counted, and a loss of power exactly where it was.
         ensures faults { OnOk result (FaultsHaveCauses self.old.world self.new.world) }
