@@ -1,5 +1,5 @@
 -- What work on the store alone is to the platform.
-use Rattle.std.proofs.Common.{◌≡◌, ◌∙◌, refl, sym, ap, subst, ℕ, List, [], true, Some, Result, Ok, Err}
+use Rattle.std.proofs.Common.{◌≡◌, ◌∙◌, ◌≤◌, refl, sym, ap, subst, ℕ, List, [], true, Some, Result, Ok, Err}
 use Rattle.pfr_flash.specs.FlashState.{FlashState, now, size_of}
 use Rattle.pfr_flash.specs.Layout.{IsBankSize}
 use Rattle.pfr_flash.specs.Operation.{Operation}
@@ -18,19 +18,21 @@ use Rattle.pfr_fuses.specs.declared.fuse_fail.FuseFail.{FuseFail}
 use Rattle.pfr_fuses.specs.declared.profile.Profile.{Profile}
 use Rattle.pfr_fuses.specs.declared.profile.Profile.TheVariants.{One, Two}
 use Rattle.pfr_report.specs.Texts.{AllText}
+use Rattle.pfr_report.specs.declared.note.What.{What}
 use Rattle.pfr_story.specs.Goes.{Goes}
 use Rattle.pfr_story.specs.Plans.{migration_by, migration_in, store}
-use Rattle.pfr_story.specs.Standing.{standing_of, standing_by}
+use Rattle.pfr_story.specs.Standing.{Standing, standing_after, standing_of, standing_by}
 use Rattle.pfr_story.specs.Story.{Plan, called, device_of}
 use Rattle.pfr_story.specs.World.{World, state_at}
 use Rattle.pfr_story.specs.declared.line.Line.{Line}
 use Rattle.pfr_story.specs.declared.line.Line.TheVariants.{Off}
 use Rattle.pfr_story.specs.declared.stop.Stop.{Stop}
 use Rattle.pfr_story.proofs.Lift.{OnlyAt, Goes-follows, at_device}
-use Rattle.pfr_machine.specs.Worlds.{AddsNotes, with_state}
+use Rattle.pfr_machine.specs.Worlds.{AddsNotes, with_note, with_state}
 use Rattle.pfr_machine.specs.Inside.{AreSeated, IsSeat, IsBoard}
 use Rattle.pfr_machine.specs.Ready.{StaysSeated, StaysFed}
-use Rattle.pfr_machine.proofs.WorldLemmas.{AddsNotes-none}
+use Rattle.pfr_machine.proofs.WorldLemmas.{AddsNotes-none, AddsNotes-then}
+use Rattle.pfr_machine.proofs.StandLemmas.{still_stands, noted_adds}
 
 pub two_by_number : (profile : Profile) (fuses : FusesState) → ¬ (profile_number profile ≡ 1) → migration_by profile fuses ≡ []
 two_by_number One fuses n = absurd (n refl)
@@ -84,3 +86,15 @@ module _ (old new : World) (e : new ≡ with_state device.Nv new.nv old) where
     pch = seat_kept bank.Pch pch_owner pch h.pch;
     board = record { size = size ∙ h.board.size; texts = subst (λ (w : World). AllText w.notes.list) (sym e) h.board.texts };
   }
+
+  pub spare_kept : 1 ≤ old.notes.spare → 1 ≤ new.notes.spare
+  spare_kept room = subst (λ (w : World). 1 ≤ w.notes.spare) (sym e) room
+
+-- something was noted behind it, by which no bank stands otherwise
+pub noted_stays : {A : Type 0} (what : What) (old mid new : World) {x : A} → StaysSeated 0 old mid (Ok x) → ((which : Bank) (s : Standing) → standing_after which what s ≡ s) → new ≡ with_note what mid
+    → 1 ≤ mid.notes.spare → StaysSeated {T = Unit {0}} 1 old new (Ok tt)
+noted_stays what old mid new h still e room = record {
+  stands = λ which. still_stands what mid new still e which ∙ h.stands which;
+  notes = AddsNotes-then 0 1 old.notes mid.notes new.notes h.notes (noted_adds what mid new e room);
+  nv = ap (λ (w : World). w.nv.powered) e ∙ h.nv;
+}

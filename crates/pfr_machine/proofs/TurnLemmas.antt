@@ -30,7 +30,9 @@ use Rattle.pfr_story.proofs.Lift.{Uncalled, Ran-uncalled}
 use Rattle.pfr_story.proofs.Sequence.{Ran-refl, Ran-append}
 use Rattle.pfr_machine.specs.Worlds.{AddsNotes, with_note, with_state}
 use Rattle.pfr_machine.specs.Inside.{AreLit, IsWhole}
-use Rattle.pfr_machine.specs.Ready.{IsTaken, LeavesWhole}
+use Rattle.pfr_machine.specs.Ready.{Brings, BringsBoth, BroughtUp, IsTaken, LeavesWhole}
+use Rattle.pfr_machine.specs.declared.bringing.Dark.{Dark}
+use Rattle.pfr_machine.proofs.WorldLemmas.{AddsNotes-then}
 
 -- a step that only notes something
 pub only_noted : (moves : List Move) (old new : World) → Ran moves old new → Follows (record { first = moves; stretches = [] }) old new
@@ -54,15 +56,30 @@ course_item c old new (mid, p, q) =
     ap (λ (s : Story). s.item) m.is ∙ item_after m.trace (story_of mid) ∙ ap (λ (s : Story). s.item) p.is ∙ item_after c.first (story_of old)
 
 -- ---- both banks are brought up
-pub both_brought : (first second : Stretch) (old mid new : World) → first.goes_on ≡ true → second.goes_on ≡ true → CrossesOrFaults first old mid → CrossesOrFaults second mid new
+pub both_steps : (first second : Stretch) (old mid new : World) → first.goes_on ≡ true → second.goes_on ≡ true → CrossesOrFaults first old mid → CrossesOrFaults second mid new
     → Steps (first ∷ second ∷ []) old new
-both_brought first second old mid new a b p q = Steps-next first (second ∷ []) old mid new a p (Steps-next second [] mid new new b q (Ran-refl new))
+both_steps first second old mid new a b p q = Steps-next first (second ∷ []) old mid new a p (Steps-next second [] mid new new b q (Ran-refl new))
 
 pub first_lost : (first second : Stretch) (old new : World) → LosesPower first old new → Steps (first ∷ second ∷ []) old new
 first_lost first second old new p = inr (inr p)
 
 pub second_lost : (first second : Stretch) (old mid new : World) → first.goes_on ≡ true → CrossesOrFaults first old mid → LosesPower second mid new → Steps (first ∷ second ∷ []) old new
 second_lost first second old mid new a p q = Steps-next first (second ∷ []) old mid new a p (inr (inr q))
+
+-- where the second bank's work leads, once the first one was brought up
+pub both_brought : {F : Type 0} (first second : Stretch) (old mid : World) (r : Result World (Dark F)) → first.goes_on ≡ true → second.goes_on ≡ true
+    → CrossesOrFaults first old mid × BroughtUp bank.Bmc 5 old mid → Brings second bank.Pch 5 mid r → BringsBoth (first ∷ second ∷ []) 10 old r
+both_brought first second old mid (Ok new) a b p q = (
+  both_steps first second old mid new a b p.0 q.0,
+  record {
+    bmc = λ e. p.1.mine (sym q.1.other ∙ e);
+    pch = q.1.mine;
+    notes = AddsNotes-then 5 5 old.notes mid.notes new.notes p.1.notes q.1.notes;
+    nv = q.1.nv;
+  },
+)
+both_brought first second old mid (Err dark) a b p q =
+    (second_lost first second old mid dark.inner a p.0 q.0, q.1, AddsNotes-then 5 5 old.notes mid.notes dark.inner.notes p.1.notes q.2)
 
 -- ---- the power comes on
 stopped_as : (moves : List Move) (which : Device) (found end : FlashFail) (old new : World) → found ≡ end → Stopped moves which found old new → Stopped moves which end old new
@@ -188,6 +205,9 @@ module _ (old next : World) (b : Begun old next) where
       let item = ap (λ (w : World). w.item) b.is in
       let list : length next.notes.list ≡ length old.notes.list = ap (λ (l : List Note). length l) b.list in
       omega (arith, h.few, n.few, item, list, same)
+
+  pub still_whole : (c : Course) (new : World) → IsWhole old → Follows c next new → LeavesWhole 64 next new → IsWhole new
+  still_whole c new h f l = record { together = l.together; apart = l.apart; on = l.on; few = still_few c new h f l.notes }
 
 -- ---- what holds of a step that was done
 pub by_turn : {A B : Type 0} {T U : Type 0} (r : Result T U) → OnOk r A → (A → B) → OnOk r B

@@ -1,12 +1,13 @@
 // What is done at each event.
 ghost use Rattle.std.specs.Prelude.{◌≡◌, ◌≢◌, ◌*◌, ◌<◌, ◌≤◌, ◌∷◌, [], length, true, OnOk, OnErr};
 ghost use Rattle.pfr_flash.specs.declared.names.Bank.TheVariants.{Bmc, Pch};
+ghost use Rattle.pfr_fuses.specs.RootSlot.{IsSlot};
 ghost use Rattle.pfr_report.specs.Texts.{AllText};
 ghost use Rattle.pfr_story.specs.Course.{Follows, Steps};
 ghost use Rattle.pfr_story.specs.Goes.{Ran};
 ghost use Rattle.pfr_story.specs.Promises.{IsKnownSlot, IsPower};
 ghost use Rattle.pfr_story.specs.Standing.{standing_of, is_off, Off};
-ghost use Rattle.pfr_story.specs.Turn.{bank_stretch, begun, fuse_stretch, unreadable, ignored, power_course, course};
+ghost use Rattle.pfr_story.specs.Turn.{bank_stretch, begun, fuse_stretch, unreadable, ignored, off_course, power_course, provision_course, where_off, course};
 ghost use Rattle.pfr_story.specs.World.{AreDevices, IsDark, SameDevices, story_of};
 ghost use Rattle.pfr_machine.specs.Inside.{AreLit, HasSizes, IsWhole};
 ghost use Rattle.pfr_machine.specs.Ready.{BringsBoth, IsTaken, LeavesWhole};
@@ -15,6 +16,7 @@ use crate::bringing::Dark;
 use crate::inner::Inner;
 use pfr_chain::Engine;
 use pfr_flash::{Bank, Flash, FlashFail, NoMemory};
+use pfr_fuses::RootSlot;
 use pfr_report::{LockWhy, What};
 use pfr_script::Event;
 use pfr_story::Line;
@@ -122,8 +124,43 @@ impl<F: Flash> Inner<F> {
         }
     }
 
+    // The power goes off, unless it is off already.
+    fn off(mut self) -> Inner<F>
+        requires room { 64 ≤ self.notes.spare }
+        requires whole { IsWhole self }
+        ensures follows { Follows (where_off (is_off (standing_of Bmc self.notes.list)) ignored off_course) self result }
+        ensures leaves { LeavesWhole 64 self result }
+        ensures dark { standing_of Bmc self.notes.list ≢ Off → IsDark result }
+        ensures untouched { standing_of Bmc self.notes.list ≡ Off → SameDevices self result }
+    {
+        if self.is_off() {
+            self.ignore();
+            self
+        } else {
+            self.lose(None)
+        }
+    }
+
+    // Provisions the platform, unless the power is off.
+    fn provision_unless_off(mut self, what: &RootSlot) -> Inner<F>
+        requires room { 64 ≤ self.notes.spare }
+        requires whole { IsWhole self }
+        ensures follows { Follows (where_off (is_off (standing_of Bmc self.notes.list)) ignored (provision_course what.now)) self result }
+        ensures leaves { LeavesWhole 64 self result }
+        ensures dark { standing_of Bmc self.notes.list ≢ Off → standing_of Bmc result.notes.list ≡ Off → IsDark result }
+        ensures untouched { standing_of Bmc self.notes.list ≡ Off → SameDevices self result }
+        ensures spelled { standing_of Bmc self.notes.list ≢ Off → IsSlot what.now }
+    {
+        if self.is_off() {
+            self.ignore();
+            self
+        } else {
+            self.provision(what)
+        }
+    }
+
     /// Does an event, as the banks stand.
-    pub fn turn<E: Engine>(mut self, event: &Event, engine: &E) -> Inner<F>
+    pub fn turn<E: Engine>(self, event: &Event, engine: &E) -> Inner<F>
         requires room { 64 ≤ self.notes.spare }
         requires whole { IsWhole self }
         ensures follows { Follows (course (E.accepts engine.now) event.now (story_of self)) self result }
@@ -134,12 +171,8 @@ impl<F: Flash> Inner<F> {
     {
         match event {
             Event::Power => self.power(engine),
-            Event::Off | Event::Provision(_) if self.is_off() => {
-                self.ignore();
-                self
-            }
-            Event::Off => self.lose(None),
-            Event::Provision(what) => self.provision(what),
+            Event::Off => self.off(),
+            Event::Provision(what) => self.provision_unless_off(what),
         }
     }
 }
