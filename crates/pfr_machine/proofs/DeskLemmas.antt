@@ -1,38 +1,40 @@
 -- What calls and notes do to a platform, one of whose banks is in work.
-use Rattle.std.proofs.Common.{◌≡◌, ◌≢◌, ◌∙◌, refl, sym, ap, subst, ℕ, ◌≤◌, ◌+◌, ◌*◌, ◌/◌, ◌%◌, true, false, List, [], ◌∷◌, ◌++◌, length, arith, inl, Option, Some, None, Result, Ok, Err}
+use Rattle.std.proofs.Common.{◌≡◌, ◌≢◌, ◌∙◌, refl, sym, ap, subst, ℕ, true, List, [], length, Option, Some, None, Result, Ok, Err}
 use Rattle.pfr_flash.specs.FlashState.{FlashState, now, size_of}
-use Rattle.pfr_flash.specs.Layout.{IsBankSize, IsValidLayout}
+use Rattle.pfr_flash.specs.Layout.{IsBankSize}
 use Rattle.pfr_flash.specs.Plan.{Follows}
 use Rattle.pfr_flash.specs.Operation.{Operation}
 use Rattle.pfr_flash.specs.Reading.{EndsAt}
 use Rattle.pfr_flash.specs.declared.flash.FlashFail.{FlashFail}
-use Rattle.pfr_flash.specs.declared.flash.FlashFail.TheVariants.{Fault, Lost}
 use Rattle.pfr_flash.specs.declared.names.Bank.{Bank}
 use Rattle.pfr_flash.specs.declared.names.Bank.TheVariants as bank
-use Rattle.pfr_flash.specs.declared.names.Counts.{Counts}
 use Rattle.pfr_flash.specs.declared.names.Device.{Device}
 use Rattle.pfr_flash.specs.declared.names.Device.TheVariants as device
-use Rattle.pfr_flash.proofs.EndsLemmas.{ends_reads, ends_content}
-use Rattle.pfr_flash.proofs.RangeLemmas.{length-now}
+use Rattle.pfr_flash.proofs.EndsLemmas.{ends_reads}
+use Rattle.pfr_fuses.specs.FusesState.{FusesState}
+use Rattle.pfr_fuses.specs.RootSlot.{layout_of}
+use Rattle.pfr_flash.specs.declared.layout.Layout.{Layout}
+use Rattle.pfr_capsule.specs.CapsuleState.{CapsuleState}
+use Rattle.pfr_report.specs.NotesState.{NotesState}
 use Rattle.pfr_report.specs.Texts.{HasText}
 use Rattle.pfr_report.specs.declared.note.Note.{Note}
 use Rattle.pfr_report.specs.declared.note.What.{What}
-use Rattle.pfr_report.specs.declared.note.What.TheVariants.{Held, Released, Locked, Lost as LostNote}
 use Rattle.pfr_story.specs.Standing as standing
 use Rattle.pfr_story.specs.Standing.{Standing, standing_after, standing_by, standing_of}
-use Rattle.pfr_story.specs.Story.{Says, called, device_of, image_at}
-use Rattle.pfr_story.specs.World.{World, counts_in, state_at, story_of}
+use Rattle.pfr_story.specs.Story.{Move, Plan, called, device_of, image_at}
+use Rattle.pfr_story.specs.World.{World, state_at, story_of}
 use Rattle.pfr_story.specs.Goes.{Goes, Ran, Stopped}
-use Rattle.pfr_story.specs.Plans.{asks, asks_store}
+use Rattle.pfr_story.specs.Plans.{copied, restore_ops}
 use Rattle.pfr_story.specs.declared.line.Line.{Line}
 use Rattle.pfr_story.specs.declared.line.Line.TheVariants as line
 use Rattle.pfr_story.specs.declared.stop.Stop.{Stop}
-use Rattle.pfr_story.proofs.Lift.{OnlyAt, Goes-follows, Goes-reads, Ran-uncalled, at_device}
-use Rattle.pfr_machine.specs.Inside.{AreBeside, AreSeated, AreSides, IsBoard, IsDesk, IsSeat}
-use Rattle.pfr_machine.specs.Worlds.{AddsNotes, DeskState, IsAwake, Stays, StaysAwake, bank_in, desk_world, flash_in, line_in, other_of, sides_world, with_note, world_with}
+use Rattle.pfr_story.proofs.Lift.{OnlyAt, Goes-follows, Goes-reads, at_device}
+use Rattle.pfr_machine.specs.Inside.{AreBeside, AreSeated, AreSides, IsDesk, IsSeat}
+use Rattle.pfr_machine.specs.Worlds.{AddsNotes, IsAwake, Stays, StaysAwake, bank_in, desk_world, flash_in, line_in, other_of, pushed, with_note, world_with}
+use Rattle.pfr_machine.specs.Ready.{LeavesSeated}
 use Rattle.pfr_machine.specs.declared.board.Board.{Board}
 use Rattle.pfr_machine.specs.declared.sides.Sides.{Sides}
-use Rattle.pfr_machine.proofs.WorldLemmas.{AddsNotes-none, standing_noted, seat_noted, seat_stays, board_noted, board_stays}
+use Rattle.pfr_machine.proofs.WorldLemmas.{AddsNotes-same, standing_noted, seat_noted, seat_stays, board_noted, board_stays}
 
 -- ---- the devices of a desk
 module _ {F : Type 0} where
@@ -178,3 +180,92 @@ module _ {F : Type 0} (dev : F → FlashState) (sides : Sides F) where
   seated_pch e h =
       let k : beside_as bank.Pch = subst (λ (b : Bank). beside_as b) e h in
       record { bmc = k.other; pch = k.mine; board = k.board }
+
+-- ---- what a desk is left as
+note_by : {F : Type 0} (b : Bank) (what : What) (mine other nv : FlashState) (board : Board F) → desk_world b mine other nv (pushed what board) ≡ with_note what (desk_world b mine other nv board)
+note_by bank.Bmc what mine other nv board = refl
+note_by bank.Pch what mine other nv board = refl
+
+module _ {F : Type 0} (dev : F → FlashState) where
+  -- a note by which no bank stands otherwise was appended
+  pub seated_pushed : (what : What) (bmc_whose pch_whose : Bank) (bmc_line pch_line : Line) (bmc pch : FlashState) (board next : Board F) → next ≡ pushed what board
+      → HasText what → ((which : Bank) (s : Standing) → standing_after which what s ≡ s)
+      → AreSeated bmc_whose pch_whose bmc_line pch_line (world_with bmc pch (dev board.nv) board) → AreSeated bmc_whose pch_whose bmc_line pch_line (world_with bmc pch (dev next.nv) next)
+  seated_pushed what bmc_whose pch_whose bmc_line pch_line bmc pch board next e text still h =
+      subst (λ (x : Board F). AreSeated bmc_whose pch_whose bmc_line pch_line (world_with bmc pch (dev x.nv) x)) (sym e)
+      (seated_noted bmc_whose pch_whose bmc_line pch_line what (world_with bmc pch (dev board.nv) board) text still h)
+
+  pub desk_pushed : (what : What) (b whose other_whose : Bank) (how : Line) (mine other : FlashState) (board next : Board F) → next ≡ pushed what board
+      → HasText what → ((which : Bank) (s : Standing) → standing_after which what s ≡ s)
+      → IsDesk b whose other_whose how (desk_world b mine other (dev board.nv) board) → IsDesk b whose other_whose how (desk_world b mine other (dev next.nv) next)
+  desk_pushed what b whose other_whose how mine other board next e text still h =
+      subst (λ (x : Board F). IsDesk b whose other_whose how (desk_world b mine other (dev x.nv) x)) (sym e)
+      (subst (λ (w : World). IsDesk b whose other_whose how w) (sym (note_by b what mine other (dev board.nv) board))
+      (desk_noted b whose other_whose how what (desk_world b mine other (dev board.nv) board) text still h))
+
+-- the bank's device worked
+pub desk_worked : {F : Type 0} (b whose later_whose other_whose : Bank) (how : Line) (mine later other nv : FlashState) (board : Board F) → later_whose ≡ whose → size_of later ≡ size_of mine
+    → IsDesk b whose other_whose how (desk_world b mine other nv board) → IsDesk b later_whose other_whose how (desk_world b later other nv board)
+desk_worked {F} b whose later_whose other_whose how mine later other nv board owned size h =
+    subst (λ (x : Bank). IsDesk b x other_whose how (desk_world b later other nv board)) (sym owned)
+    (desk_stays b whose other_whose how (desk_world b mine other nv board) (desk_world b later other nv board)
+    (ap size_of (state_mine b later other nv board) ∙ (size ∙ sym (ap size_of (state_mine b mine other nv board))))
+    (ap size_of (state_store b later other nv board) ∙ sym (ap size_of (state_store b mine other nv board)))
+    (state_other b later other nv board ∙ sym (state_other b mine other nv board))
+    (ap (λ (n : NotesState). n.list) (desk_notes b later other nv board ∙ sym (desk_notes b mine other nv board))) h)
+
+-- it is left so by calls that only read
+pub read_size : (failed : Option FlashFail) (old new : FlashState) → EndsAt failed old new → size_of new ≡ size_of old
+read_size failed old new h = ap (λ (bytes : List ℕ). length bytes) (ends_reads h).start
+
+pub read_on : (failed : Option FlashFail) (old new : FlashState) → EndsAt failed old new → old.powered ≡ true → new.powered ≡ true
+read_on failed old new h on = (ends_reads h).powered ∙ on
+
+-- ---- calls by plans
+pub Goes-as : {T : Type 0} (a b : Plan) (old new : World) (r : Result T Stop) → a (story_of old) ≡ b (story_of old) → Goes a old new r → Goes b old new r
+Goes-as a b old new (Ok x) e h = subst (λ (moves : List Move). Ran moves old new) e h
+Goes-as a b old new (Err stop) e h = subst (λ (moves : List Move). Stopped moves stop.device stop.fail old new) e h
+
+module _ {F : Type 0} (b : Bank) (mine later other nv : FlashState) (board : Board F) (level : ℕ) (fuses : FusesState) (capsule : CapsuleState) (layout : Layout) (on : mine.powered ≡ true)
+    (is : layout ≡ layout_of fuses.provision b) where
+  same_plan : called (device_of b) (restore_ops level (now mine) capsule layout) ≡ copied b level fuses capsule (story_of (desk_world b mine other nv board))
+  same_plan =
+      ap (λ (image : List ℕ). called (device_of b) (restore_ops level image capsule layout)) (sym (image_mine b mine other nv board))
+      ∙ ap (λ (l : Layout). called (device_of b) (restore_ops level (image_at (device_of b) (story_of (desk_world b mine other nv board))) capsule l)) is
+
+  pub copied_goes : (r : Result (Unit {0}) FlashFail) → Follows (restore_ops level (now mine) capsule layout) mine later r
+      → Goes (copied b level fuses capsule) (desk_world b mine other nv board) (desk_world b later other nv board) (at_device (device_of b) r)
+  copied_goes r h =
+      Goes-as (λ _. called (device_of b) (restore_ops level (now mine) capsule layout)) (copied b level fuses capsule) (desk_world b mine other nv board) (desk_world b later other nv board) (at_device (device_of b) r)
+      same_plan (mine_follows b mine later other nv board on (restore_ops level (now mine) capsule layout) r h)
+
+-- ---- who stands how
+pub seat_stands : (which whose : Bank) (how : Line) (w : World) → how ≢ line.Off → IsSeat which whose how w → standing_of which w.notes.list ≢ standing.Off
+seat_stands which whose line.Off w n h = absurd (n refl)
+seat_stands which whose line.Locked w n h = λ e. let k = h.stands in cc
+seat_stands which whose line.Running w n h = λ e. let k = h.stands in cc
+
+pub leaves_seated : (b whose other_whose : Bank) (my_line how : Line) (most : ℕ) (old new : World) → my_line ≢ line.Off → AreBeside b whose other_whose my_line how new
+    → AddsNotes most old.notes new.notes → new.nv.powered ≡ true → LeavesSeated most (record { bank = b; other = how; world = old }) new
+leaves_seated b whose other_whose my_line how most old new some h notes on = record { mine = seat_stands b whose my_line new some h.mine; other = h.other.stands; notes = notes; nv = on }
+
+pub stays_here : {T F : Type 0} (b : Bank) (how : Line) (mine later other nv : FlashState) (board : Board F) (answer : Result T Stop) → later.powered ≡ true → nv.powered ≡ true
+    → Stays {T = T} 0 (record { bank = b; other = how; world = desk_world b mine other nv board }) (record { bank = b; other = how; world = desk_world b later other nv board }) answer
+stays_here {T} {F} b how mine later other nv board answer on fed = record {
+  bank = refl;
+  other = refl;
+  notes = AddsNotes-same (desk_world b mine other nv board).notes (desk_world b later other nv board).notes (desk_notes b later other nv board ∙ sym (desk_notes b mine other nv board));
+  awake = awake_still b (desk_world b later other nv board) answer (awake_at b later other nv board on fed);
+}
+
+-- ---- sizes
+module _ {F : Type 0} (b whose other_whose : Bank) (how : Line) (mine other nv : FlashState) (board : Board F) (h : IsDesk b whose other_whose how (desk_world b mine other nv board)) where
+  pub my_size : IsBankSize (size_of mine)
+  my_size = subst (λ (d : FlashState). IsBankSize (size_of d)) (state_mine b mine other nv board) h.size
+
+  pub other_size : IsBankSize (size_of other)
+  other_size = subst (λ (d : FlashState). IsBankSize (size_of d)) (state_other b mine other nv board) h.other.size
+
+-- as the BMC sees its seat and the other one
+pub beside_seated : (bmc_whose pch_whose : Bank) (bmc_line pch_line : Line) (w : World) → AreBeside bank.Bmc bmc_whose pch_whose bmc_line pch_line w → AreSeated bmc_whose pch_whose bmc_line pch_line w
+beside_seated bmc_whose pch_whose bmc_line pch_line w h = record { bmc = h.mine; pch = h.other; board = h.board }

@@ -7,4 +7,5 @@ pub mod StoreLemmas
 pub mod ProvisionLemmas
 pub mod TurnLemmas
 pub mod JudgeLemmas
+pub mod CheckLemmas
 mod VerdictLaw

@@ -6,14 +6,12 @@ use Rattle.pfr_flash.specs.declared.names.Bank.{Bank}
 use Rattle.pfr_flash.specs.declared.names.Bank.TheVariants as bank
 use Rattle.pfr_flash.specs.declared.names.Counts.{Counts}
 use Rattle.pfr_flash.specs.declared.names.Device.{Device}
-use Rattle.pfr_report.specs.NotesState.{NotesState}
 use Rattle.pfr_report.specs.Texts.{HasText}
 use Rattle.pfr_report.specs.declared.note.LockWhy.{LockWhy}
 use Rattle.pfr_report.specs.declared.note.LockWhy.TheVariants.{NoGoodImage}
 use Rattle.pfr_report.specs.declared.note.Note.{Note}
 use Rattle.pfr_report.specs.declared.note.What.{What}
 use Rattle.pfr_report.specs.declared.note.What.TheVariants.{Held, Released, Locked, Lost}
-use Rattle.pfr_story.specs.Standing as standing
 use Rattle.pfr_story.specs.Standing.{Standing, standing_after, standing_by, standing_of}
 use Rattle.pfr_story.specs.Story.{Says, device_of}
 use Rattle.pfr_story.specs.World.{World, IsDark, counts_in, state_at}
@@ -22,12 +20,12 @@ use Rattle.pfr_story.specs.declared.line.Line.{Line}
 use Rattle.pfr_story.specs.declared.line.Line.TheVariants as line
 use Rattle.pfr_story.proofs.Lift.{Ran-uncalled}
 use Rattle.pfr_machine.specs.Inside.{AreBeside, AreSides, IsBoard, IsDesk, IsSeat}
-use Rattle.pfr_machine.specs.Ready.{IsText}
+use Rattle.pfr_machine.specs.Ready.{IsText, LeavesSeated}
 use Rattle.pfr_machine.specs.Worlds.{AddsNotes, IsAwake, bank_in, desk_world, flash_in, line_in, other_of, pushed, sides_world, with_note}
 use Rattle.pfr_machine.specs.declared.board.Board.{Board}
 use Rattle.pfr_machine.specs.declared.sides.Sides.{Sides}
-use Rattle.pfr_machine.proofs.DeskLemmas.{state_mine, state_other}
-use Rattle.pfr_machine.proofs.WorldLemmas.{AddsNotes-noted, after_locked, other_locked, standing_noted, seat_noted, board_noted}
+use Rattle.pfr_machine.proofs.DeskLemmas.{leaves_seated, state_mine, state_other, state_store}
+use Rattle.pfr_machine.proofs.WorldLemmas.{AddsNotes-noted, after_locked, after_released, other_locked, other_released, standing_noted, seat_noted, board_noted}
 
 -- a note of this item
 abbrev note_in : World → What → Note
@@ -304,6 +302,32 @@ module _ {F : Type 0} (dev : F → FlashState) (b whose other_whose : Bank) (how
       (stands_beside b later_whose other_whose later_line how what (desk_world b mine other (dev board.nv) board) (after (standing_of b (desk_world b mine other (dev board.nv) board).notes.list))
       (others (standing_of (other_of b) (desk_world b mine other (dev board.nv) board).notes.list) ∙ desk.other.stands) text (owned ∙ desk.owner) desk.size desk.other desk.board)
 
+  pub desk_locks : (why : LockWhy) (at : Counts) (next : Board F) → at ≡ counts_in (desk_world b mine other (dev board.nv) board) → next ≡ pushed (Locked b why at) board
+      → Ran (Says (Locked b why) ∷ []) (desk_world b mine other (dev board.nv) board) (desk_world b later other (dev next.nv) next)
+  desk_locks why at next counts e =
+      locked_ran b why at (desk_world b mine other (dev board.nv) board) (desk_world b later other (dev next.nv) next) counts (noted_world dev b (Locked b why at) mine later other board next later_up e)
+
+  pub desk_leaves : (later_line : Line) (what : What) (next : Board F) → 1 ≤ (desk_world b mine other (dev board.nv) board).notes.spare → (dev board.nv).powered ≡ true
+      → next ≡ pushed what board → HasText what → later_line ≢ line.Off
+      → ((s : Standing) → standing_after b what s ≡ standing_by later_line) → ((s : Standing) → standing_after (other_of b) what s ≡ s)
+      → LeavesSeated 1 (record { bank = b; other = how; world = desk_world b mine other (dev board.nv) board }) (desk_world b later other (dev next.nv) next)
+  desk_leaves later_line what next room fed e text some after others =
+      leaves_seated b whose other_whose later_line how 1 (desk_world b mine other (dev board.nv) board) (desk_world b later other (dev next.nv) next) some
+      (desk_beside later_line what whose next refl e text after others)
+      (subst (λ (w : World). AddsNotes 1 (desk_world b mine other (dev board.nv) board).notes w.notes) (sym (desk_noted_is what next e)) (AddsNotes-noted what (desk_world b mine other (dev board.nv) board) room))
+      (ap (λ (w : World). w.nv.powered) (desk_noted_is what next e) ∙ (ap (λ (d : FlashState). d.powered) (state_store b mine other (dev board.nv) board) ∙ fed))
+
+-- it was released
+pub released_leaves : {F : Type 0} (dev : F → FlashState) (b whose other_whose : Bank) (how : Line) (mine other : FlashState) (board : Board F)
+    → IsDesk b whose other_whose how (desk_world b mine other (dev board.nv) board) → mine.powered ≡ true → (svn : ℕ) (at : Counts)
+    → 1 ≤ (desk_world b mine other (dev board.nv) board).notes.spare → (dev board.nv).powered ≡ true
+    → LeavesSeated 1 (record { bank = b; other = how; world = desk_world b mine other (dev board.nv) board }) (with_note (Released b svn at) (desk_world b mine other (dev board.nv) board))
+released_leaves dev b whose other_whose how mine other board desk on svn at room fed =
+    let what : What = Released b svn at in
+    subst (λ (w : World). LeavesSeated 1 (record { bank = b; other = how; world = desk_world b mine other (dev board.nv) board }) w)
+    (desk_noted_is dev b whose other_whose how mine mine other board desk on refl what (pushed what board) refl)
+    (desk_leaves dev b whose other_whose how mine mine other board desk on refl line.Running what (pushed what board) room fed refl tt (λ e. cc) (after_released b svn at) (other_released b svn at))
+
 -- ---- the power goes from a desk
 module _ {F : Type 0} (dev : F → FlashState) (b : Bank) (mine dark other dark_other : FlashState) (board next : Board F) (store : F) (device : Option Device) (at : Counts)
     (m : dark ≡ record mine { powered = false }) (o : dark_other ≡ record other { powered = false }) (n : dev store ≡ record (dev next.nv) { powered = false })
@@ -322,3 +346,8 @@ module _ {F : Type 0} (dev : F → FlashState) (b : Bank) (mine dark other dark_
   pub dark_says : at ≡ counts_in (desk_world b mine other (dev board.nv) board)
       → Ran (Says (Lost device) ∷ []) (desk_world b mine other (dev board.nv) board) (desk_world b dark dark_other (dev store) (record next { nv = store }))
   dark_says counts = lost_ran device at (desk_world b mine other (dev board.nv) board) (desk_world b dark dark_other (dev store) (record next { nv = store })) counts dark_is
+
+  pub dark_adds : 1 ≤ (desk_world b mine other (dev board.nv) board).notes.spare
+      → AddsNotes 1 (desk_world b mine other (dev board.nv) board).notes (desk_world b dark dark_other (dev store) (record next { nv = store })).notes
+  dark_adds room =
+      subst (λ (w : World). AddsNotes 1 (desk_world b mine other (dev board.nv) board).notes w.notes) (sym dark_is) (lost_notes (Lost device at) (desk_world b mine other (dev board.nv) board) room)

@@ -1,7 +1,7 @@
 -- What notes and devices do to the platform.
-use Rattle.std.proofs.Common.{◌≡◌, ◌≢◌, ◌∙◌, refl, sym, ap, subst, ℕ, ◌≤◌, ◌+◌, ◌-◌, true, List, [], ◌∷◌, ◌++◌, length, arith}
+use Rattle.std.proofs.Common.{◌≡◌, ◌≢◌, ◌∙◌, refl, sym, ap, subst, ℕ, ◌≤◌, ◌+◌, true, List, [], ◌∷◌, ◌++◌, arith}
 use Rattle.std.proofs.lemmas.List.{length-append}
-use Rattle.pfr_flash.specs.FlashState.{FlashState, size_of}
+use Rattle.pfr_flash.specs.FlashState.{size_of}
 use Rattle.pfr_flash.specs.Layout.{IsBankSize}
 use Rattle.pfr_flash.specs.declared.names.Bank.{Bank}
 use Rattle.pfr_flash.specs.declared.names.Bank.TheVariants as bank
@@ -10,17 +10,17 @@ use Rattle.pfr_report.specs.NotesState.{NotesState}
 use Rattle.pfr_report.specs.Texts.{AllText, HasText}
 use Rattle.pfr_report.specs.declared.note.Note.{Note}
 use Rattle.pfr_report.specs.declared.note.What.{What}
-use Rattle.pfr_report.specs.declared.note.What.TheVariants.{Held, Released, Locked, Lost}
+use Rattle.pfr_report.specs.declared.note.What.TheVariants.{Held, Released, Locked}
 use Rattle.pfr_report.specs.declared.note.LockWhy.{LockWhy}
 use Rattle.pfr_report.proofs.NotedLemmas.{AllText-append}
 use Rattle.pfr_story.specs.Standing as standing
 use Rattle.pfr_story.specs.Standing.{Standing, standing_from, standing_after, standing_by, standing_of}
 use Rattle.pfr_story.specs.Story.{Says, device_of}
-use Rattle.pfr_story.specs.World.{World, counts_in, state_at, story_of}
+use Rattle.pfr_story.specs.World.{World, counts_in, state_at}
 use Rattle.pfr_story.specs.Goes.{Ran}
 use Rattle.pfr_story.specs.declared.line.Line.{Line}
 use Rattle.pfr_story.specs.declared.line.Line.TheVariants as line
-use Rattle.pfr_story.proofs.Lift.{Ran-says, Ran-uncalled}
+use Rattle.pfr_story.proofs.Lift.{Ran-says}
 use Rattle.pfr_machine.specs.Inside.{IsSeat, IsBoard}
 use Rattle.pfr_machine.specs.Worlds.{AddsNotes, other_of, with_note}
 

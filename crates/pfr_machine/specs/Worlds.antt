@@ -1,20 +1,16 @@
 -- The platform as contracts see it: between two events, and while a bank is in work.
-use Rattle.std.specs.Prelude.{◌≡◌, ◌≢◌, ℕ, ◌+◌, ◌-◌, ◌≤◌, Bool, true, List, [], ◌∷◌, ◌++◌, length, Option, Some, None, Result, Ok, Err}
-use Rattle.pfr_flash.specs.FlashState.{FlashState, size_of}
-use Rattle.pfr_flash.specs.Layout.{IsBankSize}
+use Rattle.std.specs.Prelude.{◌≡◌, ℕ, ◌+◌, ◌-◌, ◌≤◌, true, [], ◌∷◌, ◌++◌, length, Result, Ok, Err}
+use Rattle.pfr_flash.specs.FlashState.{FlashState}
 use Rattle.pfr_flash.specs.declared.flash.FlashFail.TheVariants.{Fault}
 use Rattle.pfr_flash.specs.declared.names.Bank.{Bank}
 use Rattle.pfr_flash.specs.declared.names.Bank.TheVariants as bank
 use Rattle.pfr_flash.specs.declared.names.Device.{Device}
 use Rattle.pfr_flash.specs.declared.names.Device.TheVariants as device
-use Rattle.pfr_bank.specs.Seats.{JudgedState}
 use Rattle.pfr_report.specs.NotesState.{NotesState}
 use Rattle.pfr_report.specs.declared.note.What.{What}
-use Rattle.pfr_story.specs.Guards.{guards_after, first_guards}
+use Rattle.pfr_story.specs.Guards.{guards_after}
 use Rattle.pfr_story.specs.Story.{device_of}
-use Rattle.pfr_story.specs.World.{World, state_at, story_of}
-use Rattle.pfr_story.specs.Goes.{Ran, Stopped}
-use Rattle.pfr_story.specs.Story.{Plan}
+use Rattle.pfr_story.specs.World.{World, state_at}
 use Rattle.pfr_story.specs.declared.line.Line.{Line}
 use Rattle.pfr_story.specs.declared.line.Line.TheVariants as line
 use Rattle.pfr_story.specs.declared.stop.Stop.{Stop}

@@ -97,9 +97,11 @@ fn release<F: Flash>(
     counts: Counts,
 ) -> Inner<F>
     requires room { 1 ≤ board.notes.spare }
-    requires desk { IsDesk bank checked.bank (bank_in other) (line_in other) (desk_world bank (F.device checked.flash) (F.device (flash_in other)) (F.device board.nv) board) }
+    requires desk { IsDesk bank checked.bank (bank_in other) (line_in other)
+        (desk_world bank (F.device checked.flash) (F.device (flash_in other)) (F.device board.nv) board) }
     requires on { (F.device checked.flash).powered ≡ true }
-    ensures { result ≡ with_note (Released bank checked.manifest.svn counts) (desk_world bank (F.device checked.flash) (F.device (flash_in other)) (F.device board.nv) board) }
+    ensures { result ≡ with_note (Released bank checked.manifest.svn counts)
+        (desk_world bank (F.device checked.flash) (F.device (flash_in other)) (F.device board.nv) board) }
 {
     let running = checked.release();
     let svn = running.manifest().svn;
@@ -157,16 +159,25 @@ impl<F: Flash> Desk<F> {
         engine: &E,
     ) -> Result<Result<Capsule, CapsuleFail>, Stop>
         requires on { IsAwake self.old.bank self.old.world }
-        requires valid { IsValidLayout (layout_of fuses.now.provision self.old.bank) (size_of (state_at (device_of self.old.bank) self.old.world)) }
+        requires valid { IsValidLayout (layout_of fuses.now.provision self.old.bank)
+            (size_of (state_at (device_of self.old.bank) self.old.world)) }
         ensures goes { Goes (asks self.old.bank) self.old.world self.new.world result }
-        ensures is { IfOk result (λ found. found ≡ judged_recovery (E.accepts engine.now) self.old.bank fuses.now (story_of self.old.world)) }
+        ensures is { IfOk result
+            (λ found. found ≡ judged_recovery (E.accepts engine.now) self.old.bank fuses.now (story_of self.old.world)) }
         ensures cause { IfOk result (λ found. IfErr found (IsFound capsule_failure)) }
         ensures can { let layout = layout_of fuses.now.provision self.old.bank in
             IfOk result (λ found. IfOk found (CanApply (now (state_at (device_of self.old.bank) self.new.world)) layout)) }
         ensures stays { Stays 0 self.old self.new result }
     {
         let layout = fuses.provision().layout(self.bank);
-        match capsule_at(self.held.flash(), Area::Recovery, self.bank, layout, fuses, engine) {
+        match capsule_at(
+            self.held.flash(),
+            Area::Recovery,
+            self.bank,
+            layout,
+            fuses,
+            engine,
+        ) {
             Ok(capsule) => Ok(Ok(capsule)),
             Err(why) => match why.failure() {
                 Some(fail) => Err(Stop {
@@ -181,12 +192,18 @@ impl<F: Flash> Desk<F> {
     // Applies the capsule in the recovery area to the active image.
     fn copy(&mut self, fuses: &Fuses, capsule: &Capsule, level: u8) -> Result<(), Stop>
         requires on { IsAwake self.old.bank self.old.world }
-        requires can { CanApply (now (state_at (device_of self.old.bank) self.old.world)) (layout_of fuses.now.provision self.old.bank) capsule.now }
+        requires can { CanApply (now (state_at (device_of self.old.bank) self.old.world))
+            (layout_of fuses.now.provision self.old.bank) capsule.now }
         ensures goes { Goes (copied self.old.bank level fuses.now capsule.now) self.old.world self.new.world result }
         ensures stays { Stays 0 self.old self.new result }
     {
         let layout = fuses.provision().layout(self.bank);
-        match apply(&mut self.held, capsule, layout, JobKind::ActiveFromRecovery { level }) {
+        match apply(
+            &mut self.held,
+            capsule,
+            layout,
+            JobKind::ActiveFromRecovery { level },
+        ) {
             Ok(()) => Ok(()),
             Err(fail) => Err(Stop {
                 device: device_of(self.bank),
@@ -209,7 +226,8 @@ impl<F: Flash> Desk<F> {
     pub fn restore(&mut self, fuses: &Fuses, capsule: &Capsule, level: u8) -> Result<(), Stop>
         requires room { 1 ≤ self.old.world.notes.spare }
         requires on { IsAwake self.old.bank self.old.world }
-        requires can { CanApply (now (state_at (device_of self.old.bank) self.old.world)) (layout_of fuses.now.provision self.old.bank) capsule.now }
+        requires can { CanApply (now (state_at (device_of self.old.bank) self.old.world))
+            (layout_of fuses.now.provision self.old.bank) capsule.now }
         ensures goes { Goes (restored self.old.bank level fuses.now capsule.now) self.old.world self.new.world result }
         ensures stays { Stays 1 self.old self.new result }
     {
@@ -235,7 +253,8 @@ impl<F: Flash> Desk<F> {
     pub fn check<E: Engine>(self, fuses: &Fuses, engine: &E) -> Result<Found<F>, Halt<F>>
         requires room { 1 ≤ self.world.notes.spare }
         requires on { IsAwake self.bank self.world }
-        requires valid { IsValidLayout (layout_of fuses.now.provision self.bank) (size_of (state_at (device_of self.bank) self.world)) }
+        requires valid { IsValidLayout (layout_of fuses.now.provision self.bank)
+            (size_of (state_at (device_of self.bank) self.world)) }
         ensures checks { Checks (E.accepts engine.now) fuses.now self result }
     {
         let counts = self.counts();

@@ -142,7 +142,11 @@ impl<F: Flash> Inner<F> {
         ensures notes { AddsNotes 1 self.notes result.notes }
     {
         let counts = self.counts();
-        let Inner { bmc, pch, mut board } = self;
+        let Inner {
+            bmc,
+            pch,
+            mut board,
+        } = self;
         board.push(What::Lost { device, counts });
         board.nv.power_down();
         Inner {

@@ -9,7 +9,7 @@ use Rattle.pfr_flash.specs.declared.names.Device.{Device}
 use Rattle.pfr_flash.specs.declared.names.Device.TheVariants as device
 use Rattle.pfr_report.specs.Words.{rule_word, active_text, capsule_text, AreFound}
 use Rattle.pfr_report.specs.declared.note.LockWhy.{LockWhy}
-use Rattle.pfr_report.specs.declared.note.LockWhy.TheVariants.{Unprovisioned, SlotsSpent, Layout, FlashFault, StoreFault, NotRestored, NoGoodImage}
+use Rattle.pfr_report.specs.declared.note.LockWhy.TheVariants.{Unprovisioned, SlotsSpent, Layout, FlashFault, StoreFault, NoGoodImage}
 use Rattle.pfr_report.specs.declared.note.ProvisionWhy.{ProvisionWhy}
 use Rattle.pfr_report.specs.declared.note.ProvisionWhy.TheVariants as provision
 use Rattle.pfr_report.specs.declared.note.What.{What}
@@ -26,7 +26,6 @@ lock_word SlotsSpent = codes "slots-spent"
 lock_word (Layout rule) = codes "layout " ++ rule_word rule
 lock_word FlashFault = codes "flash-fault"
 lock_word StoreFault = codes "store-fault"
-lock_word NotRestored = codes "not-restored"
 lock_word (NoGoodImage active recovery) = codes "no-good-image " ++ (active_text active ++ (codes " " ++ capsule_text recovery))
 
 -- a lock without causes in the bank's images

@@ -43,7 +43,6 @@ pub fn lock_word(why: LockWhy) -> &'static [u8]
         LockWhy::Layout(LayoutRule::Overlap) => b"layout overlap",
         LockWhy::FlashFault => b"flash-fault",
         LockWhy::StoreFault => b"store-fault",
-        LockWhy::NotRestored => b"not-restored",
         LockWhy::NoGoodImage(_, _) => unreachable!(),
     }
 }

@@ -17,9 +17,7 @@ pub enum LockWhy {
     FlashFault,
     /// The store failed while the bank was in work.
     StoreFault,
-    /// The active image isn't trusted, and was not restored from the good image in the recovery area.
-    NotRestored,
-    /// The active image isn't trusted, and what is in the recovery area is no good image either.
+    /// The active image isn't trusted, and what is in the recovery area is no good image.
     NoGoodImage(ActiveFail, CapsuleFail),
 }
 

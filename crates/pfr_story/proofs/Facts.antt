@@ -1,5 +1,5 @@
 -- What is true of a note where it is made, and that a bank that is brought up makes only such notes.
-use Rattle.std.proofs.Common.{◌≡◌, refl, sym, ap, subst, ℕ, ◌<◌, List, length, ◌⊎◌, inl, inr, Some, None, Result, Ok, Err}
+use Rattle.std.proofs.Common.{◌≡◌, ◌∙◌, refl, sym, ap, subst, ℕ, ◌<◌, List, [], ◌∷◌, length, ◌⊎◌, inl, inr, Some, None, Result, Ok, Err}
 use Rattle.pfr_flash.specs.Bytes.{AreBytes}
 use Rattle.pfr_flash.specs.FlashState.{Rose}
 use Rattle.pfr_flash.specs.Judging.{◌>>◌, told_as}
@@ -13,6 +13,7 @@ use Rattle.pfr_flash.specs.declared.names.Counts.{Counts}
 use Rattle.pfr_flash.specs.declared.names.Device.{Device}
 use Rattle.pfr_flash.specs.declared.names.Device.TheVariants as device
 use Rattle.pfr_flash.proofs.LayoutLemmas.{judged_valid}
+use Rattle.pfr_flash.proofs.PlayLemmas.{length-applied}
 use Rattle.pfr_engine.specs.Acceptance.{Acceptance}
 use Rattle.pfr_fuses.specs.FusesState.{FusesState}
 use Rattle.pfr_fuses.specs.FusesOf.{fuses_of}
@@ -33,13 +34,15 @@ use Rattle.pfr_report.specs.declared.note.LockWhy.{LockWhy}
 use Rattle.pfr_report.specs.declared.note.LockWhy.TheVariants as why
 use Rattle.pfr_report.specs.declared.note.What.{What}
 use Rattle.pfr_report.specs.declared.note.What.TheVariants as what
-use Rattle.pfr_story.specs.Story.{Story, Says, Does, Asks, noted, counts_of, device_of, called}
+use Rattle.pfr_story.specs.Story.{Story, Says, Does, Asks, after, noted, operated, counts_of, device_of, then, says, called}
 use Rattle.pfr_story.specs.World.{World, state_at}
-use Rattle.pfr_story.specs.Safety.{Rule, AllSafe, AllMake}
-use Rattle.pfr_story.specs.Plans.{mine, store, ready_in, ready_of, judged_active, judged_recovery, by_recovery, by_active, by_ready, brought_up}
-use Rattle.pfr_story.specs.Causes.{IsTrustedWith, IsNotTrusted, IsAgainst, IsDue}
+use Rattle.pfr_story.specs.Safety.{Rule, AllSafe, AllMake, Leads}
+use Rattle.pfr_story.specs.Plans.{mine, store, ready_in, ready_of, judged_active, judged_recovery, restore_ops, copied, restored, by_second, checked_again, by_recovery, by_active, by_ready, brought_up}
+use Rattle.pfr_story.specs.Causes.{IsTrustedWith, IsNotTrusted, IsAgainst, IsRestorable, IsDue}
 use Rattle.pfr_story.specs.Turn.{fault_of}
-use Rattle.pfr_story.proofs.CallLaws.{image_noted, called_safe}
+use Rattle.pfr_story.proofs.SafetyLaws.{Leads-then}
+use Rattle.pfr_story.proofs.CallLaws.{image_noted, image_operated, called_safe, AllMake-append, AllMake-called}
+use Rattle.pfr_story.proofs.Traces.{Precedes, Precedes-refl, Precedes-after}
 
 -- What is looked at: the worlds at the two ends, the engine, and where the power is switched off.
 pub record Setting : Type 1 where
@@ -53,6 +56,12 @@ LockFact s why.FlashFault b story = Rose (state_at (device_of b) s.first).faults
 LockFact s why.StoreFault b story = Rose s.first.nv.faults s.last.nv.faults
 LockFact s cause b story = AreBytes (mine b story) → IsDue cause b (mine b story) (store story) s.accepts
 
+-- a moment before at which the bank was to be restored
+pub record WasRestorable (s : Setting) (b : Bank) (story : Story) : Type 0 where
+  pub at : Story
+  pub before : Precedes at story
+  pub was : AreBytes (mine b at) → IsRestorable b (mine b at) (store at) s.accepts
+
 -- that a bank's image is trusted or good is said of devices that hold bytes
 abbrev pub Fact : Setting → What → Story → Type 0
 Fact s (what.Held b at) story = at ≡ counts_of story
@@ -61,6 +70,7 @@ Fact s (what.Locked b cause at) story = (at ≡ counts_of story) × LockFact s c
 Fact s (what.Lost (Some which) at) story = (at ≡ counts_of story) × ((state_at which s.first).losses < (state_at which s.last).losses)
 Fact s (what.Lost None at) story = (at ≡ counts_of story) × s.IsSwitched
 Fact s (what.Untrusted b cause) story = IsAgainst cause b (mine b story) (store story) s.accepts
+Fact s (what.Restored b level) story = (level ≡ 1) × WasRestorable s b story
 Fact s _ story = Unit {0}
 
 -- Each note is true.
@@ -84,6 +94,24 @@ ready_noted b fuses w story r =
     let same : mine b story ≡ mine b (noted w story) = sym (image_noted (device_of b) w story) in
     record { provisioned = r.provisioned; layout = subst (λ (image : List ℕ). IsValidLayout (layout_of fuses.provision b) (length image)) same r.layout }
 
+store_stays : (b : Bank) (op : Operation) (story : Story) → store (operated (device_of b) op story) ≡ store story
+store_stays bank.Bmc op story = refl
+store_stays bank.Pch op story = refl
+
+ready_operated : (b : Bank) (fuses : FusesState) (op : Operation) (story : Story) → IsReady b fuses story → IsReady b fuses (operated (device_of b) op story)
+ready_operated b fuses op story r =
+    let same : length (mine b (operated (device_of b) op story)) ≡ length (mine b story) =
+    ap (λ (image : List ℕ). length image) (image_operated (device_of b) op story) ∙ length-applied (mine b story) op in
+    record {
+      provisioned = subst (λ (nv : List ℕ). fuses_of nv ≡ Ok fuses) (sym (store_stays b op story)) r.provisioned;
+      layout = subst (λ (n : ℕ). IsValidLayout (layout_of fuses.provision b) n) (sym same) r.layout;
+    }
+
+-- a call of its device leaves it so
+ready_called : (b : Bank) (fuses : FusesState) (ops : List Operation) (story : Story) → IsReady b fuses story → IsReady b fuses (after (called (device_of b) ops) story)
+ready_called b fuses [] story r = r
+ready_called b fuses (op ∷ ops) story r = ready_called b fuses ops (operated (device_of b) op story) (ready_operated b fuses op story r)
+
 not_trusted : (cause : ActiveFail) (b : Bank) (image nv : List ℕ) (accepts : Acceptance) → IsAgainst cause b image nv accepts → IsNotTrusted b image nv accepts
 not_trusted cause b image nv accepts a = record {
   fuses = a.fuses;
@@ -103,17 +131,62 @@ module _ (s : Setting) (b : Bank) where
         good = (judged_good (mine b story) (store story) layout.recovery_at layout.area_len b s.accepts fuses capsule stands r.layout bytes j).0;
       }
 
+  -- what is released by a check is trusted
+  trusted_with : (fuses : FusesState) (m : Manifest) (story : Story) → IsReady b fuses story → judged_active s.accepts b fuses story ≡ Ok m
+      → AreBytes (mine b story) → IsTrustedWith m.svn (mine b story) (store story) b s.accepts
+  trusted_with fuses m story r j bytes =
+      let t = judged_trusted (mine b story) (store story) b s.accepts fuses m (stands_whole (store story) fuses b r.provisioned) r.layout bytes j in
+      (t.0, ap (λ (manifest : Manifest). manifest.svn) t.1)
+
+  second_true : (fuses : FusesState) (judged : Result Manifest ActiveFail) (story : Story) → IsReady b fuses story → judged_active s.accepts b fuses story ≡ judged
+      → AllSafe (IsTrue s) (by_second b judged story) story
+  second_true fuses (Ok m) story r j = ((refl, trusted_with fuses m story r j), tt)
+  second_true fuses (Err cause) story r j = tt
+
+  abbrev AnyStory : Story → Type 0
+  AnyStory story = Unit {0}
+
+  abbrev CanRestore : FusesState → Story → Type 0
+  CanRestore fuses story = IsReady b fuses story × WasRestorable s b story
+
+  was_later : (fuses : FusesState) (ops : List Operation) (story : Story) → WasRestorable s b story → WasRestorable s b (after (called (device_of b) ops) story)
+  was_later fuses ops story p = record { at = p.at; before = Precedes-after p.at story (called (device_of b) ops) p.before; was = p.was }
+
+  -- it is restored, and checked again
+  copied_true : (fuses : FusesState) (capsule : CapsuleState) → Leads (IsTrue s) (CanRestore fuses) (copied b 1 fuses capsule) (CanRestore fuses)
+  copied_true fuses capsule = record {
+    safe = λ story p. call_true s (device_of b) (restore_ops 1 (mine b story) capsule (layout_of fuses.provision b)) story;
+    ends = λ story p.
+        let ops : List Operation = restore_ops 1 (mine b story) capsule (layout_of fuses.provision b) in
+        (ready_called b fuses ops story p.0, was_later fuses ops story p.1);
+  }
+
+  told_true : (fuses : FusesState) → Leads (IsTrue s) (CanRestore fuses) (says (λ _. what.Restored b 1)) (IsReady b fuses)
+  told_true fuses = record { safe = λ story p. ((refl, p.1), tt); ends = λ story p. ready_noted b fuses (λ _. what.Restored b 1) story p.0 }
+
+  again_true : (fuses : FusesState) → Leads (IsTrue s) (IsReady b fuses) (checked_again s.accepts b fuses) AnyStory
+  again_true fuses = record { safe = λ story r. (tt, second_true fuses (judged_active s.accepts b fuses story) story r refl); ends = λ story r. tt }
+
+  restored_true : (fuses : FusesState) (capsule : CapsuleState) → Leads (IsTrue s) (CanRestore fuses) (then (restored b 1 fuses capsule) (checked_again s.accepts b fuses)) AnyStory
+  restored_true fuses capsule =
+      Leads-then (IsTrue s) (CanRestore fuses) (IsReady b fuses) AnyStory (restored b 1 fuses capsule) (checked_again s.accepts b fuses)
+      (Leads-then (IsTrue s) (CanRestore fuses) (CanRestore fuses) (IsReady b fuses) (copied b 1 fuses capsule) (says (λ _. what.Restored b 1)) (copied_true fuses capsule) (told_true fuses))
+      (again_true fuses)
+
   recovery_true : (cause : ActiveFail) (fuses : FusesState) (judged : Result CapsuleState CapsuleFail) (story : Story) → IsReady b fuses story
-      → IsAgainst cause b (mine b story) (store story) s.accepts → judged_recovery s.accepts b fuses story ≡ judged → AllSafe (IsTrue s) (by_recovery b cause judged story) story
-  recovery_true cause fuses (Ok capsule) story r a j = ((refl, λ bytes. (not_trusted cause b (mine b story) (store story) s.accepts a, good_recovery fuses capsule story r bytes j)), tt)
+      → IsAgainst cause b (mine b story) (store story) s.accepts → judged_recovery s.accepts b fuses story ≡ judged → AllSafe (IsTrue s) (by_recovery s.accepts b fuses cause judged story) story
+  recovery_true cause fuses (Ok capsule) story r a j =
+      let here : WasRestorable s b story = record {
+        at = story;
+        before = Precedes-refl story;
+        was = λ bytes. (not_trusted cause b (mine b story) (store story) s.accepts a, good_recovery fuses capsule story r bytes j);
+      } in
+      (restored_true fuses capsule).safe story (r, here)
   recovery_true cause fuses (Err other) story r a j = ((refl, λ bytes. (a, record { fuses = fuses; provisioned = r.provisioned; judged = j })), tt)
 
   active_true : (fuses : FusesState) (judged : Result Manifest ActiveFail) (story : Story) → IsReady b fuses story → judged_active s.accepts b fuses story ≡ judged
       → AllSafe (IsTrue s) (by_active s.accepts b fuses judged story) story
-  active_true fuses (Ok m) story r j =
-      let trusted : AreBytes (mine b story) → IsTrustedWith m.svn (mine b story) (store story) b s.accepts =
-      λ bytes. let t = judged_trusted (mine b story) (store story) b s.accepts fuses m (stands_whole (store story) fuses b r.provisioned) r.layout bytes j in (t.0, ap (λ (manifest : Manifest). manifest.svn) t.1) in
-      ((refl, trusted), tt)
+  active_true fuses (Ok m) story r j = ((refl, trusted_with fuses m story r j), tt)
   active_true fuses (Err cause) story r j =
       let against : IsAgainst cause b (mine b story) (store story) s.accepts = record { fuses = fuses; provisioned = r.provisioned; layout = r.layout; judged = j } in
       let told : Story = noted (λ _. what.Untrusted b cause) story in
@@ -153,15 +226,28 @@ abbrev pub IsNoLoss : (Counts → What) → Type 0
 IsNoLoss w = (at : Counts) → ¬ IsLoss (w at)
 
 module _ (accepts : Acceptance) (b : Bank) where
-  recovery_makes : (cause : ActiveFail) (judged : Result CapsuleState CapsuleFail) (story : Story) → AllMake (IsOwn b) IsNoLoss (by_recovery b cause judged story)
-  recovery_makes cause (Ok capsule) story = ((λ at loss. loss), tt)
-  recovery_makes cause (Err other) story = ((λ at loss. loss), tt)
+  second_makes : (judged : Result Manifest ActiveFail) (story : Story) → AllMake (IsOwn b) IsNoLoss (by_second b judged story)
+  second_makes (Ok m) story = ((λ at loss. loss), tt)
+  second_makes (Err cause) story = tt
+
+  restored_makes : (fuses : FusesState) (capsule : CapsuleState) (story : Story) → AllMake (IsOwn b) IsNoLoss (restored b 1 fuses capsule story)
+  restored_makes fuses capsule story =
+      let ops : List Operation = restore_ops 1 (mine b story) capsule (layout_of fuses.provision b) in
+      AllMake-append (IsOwn b) IsNoLoss (called (device_of b) ops) (Says (λ _. what.Restored b 1) ∷ [])
+      (AllMake-called (IsOwn b) IsNoLoss (device_of b) ops (inl refl)) ((λ at loss. loss), tt)
+
+  recovery_makes : (fuses : FusesState) (cause : ActiveFail) (judged : Result CapsuleState CapsuleFail) (story : Story) → AllMake (IsOwn b) IsNoLoss (by_recovery accepts b fuses cause judged story)
+  recovery_makes fuses cause (Ok capsule) story =
+      let behind : Story = after (restored b 1 fuses capsule story) story in
+      AllMake-append (IsOwn b) IsNoLoss (restored b 1 fuses capsule story) (checked_again accepts b fuses behind) (restored_makes fuses capsule story)
+      (inl refl, second_makes (judged_active accepts b fuses behind) behind)
+  recovery_makes fuses cause (Err other) story = ((λ at loss. loss), tt)
 
   active_makes : (fuses : FusesState) (judged : Result Manifest ActiveFail) (story : Story) → AllMake (IsOwn b) IsNoLoss (by_active accepts b fuses judged story)
   active_makes fuses (Ok m) story = ((λ at loss. loss), tt)
   active_makes fuses (Err cause) story =
       let told : Story = noted (λ _. what.Untrusted b cause) story in
-      ((λ at loss. loss), (inl refl, recovery_makes cause (judged_recovery accepts b fuses told) told))
+      ((λ at loss. loss), (inl refl, recovery_makes fuses cause (judged_recovery accepts b fuses told) told))
 
   ready_makes : (ready : Result FusesState LockWhy) (story : Story) → AllMake (IsOwn b) IsNoLoss (by_ready accepts b ready story)
   ready_makes (Ok fuses) story = (inl refl, active_makes fuses (judged_active accepts b fuses story) story)

@@ -214,8 +214,8 @@ quiet_added old new q other at n =
     no_loss (what.Lost other at) tt q.made.trace (story_of old) q.quiet (subst (λ (notes : List Note). IsNoted notes (what.Lost other at)) (added_said old new q.made) n)
 
 -- Lost ends the step.
-pub Turn-lost_ends : (accepts : Acceptance) (e : Event) (old new : World) → Turn accepts e old new → LostEnds old new
-Turn-lost_ends accepts e old new t other at n = by_end (Turn-ends accepts e old new t)
+pub Turn-lost : (accepts : Acceptance) (e : Event) (old new : World) → Turn accepts e old new → LostEnds old new
+Turn-lost accepts e old new t other at n = by_end (Turn-ends accepts e old new t)
   where
     by_end : EndsSo (begun old) new → IsLast other at new
     by_end (inl q) = absurd (quiet_added (begun old) new q other at n)
@@ -241,8 +241,8 @@ fell_counted which old new (Some other) l fell = elim (each_at other which) [
 fell_counted which old new None l fell = absurd (omega (arith, NoneLost-at which old new l, fell))
 
 -- A loss is noted exactly of a device whose count of losses rose.
-pub Turn-losses_noted : (accepts : Acceptance) (e : Event) (old new : World) → Turn accepts e old new → LossesAreNoted old new
-Turn-losses_noted accepts e old new t which = by_end (Turn-ends accepts e old new t)
+pub Turn-losses : (accepts : Acceptance) (e : Event) (old new : World) → Turn accepts e old new → LossesAreNoted old new
+Turn-losses accepts e old new t which = by_end (Turn-ends accepts e old new t)
   where
     by_end : EndsSo (begun old) new → (HasLost which (added old new) ↔ ((state_at which old).losses < (state_at which new).losses))
     by_end (inl q) = (

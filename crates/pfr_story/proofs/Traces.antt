@@ -85,6 +85,20 @@ Precedes-move a b (Does device.Pch op) p = record { bmc = p.bmc; pch = Begins-op
 Precedes-move a b (Does device.Nv op) p = record { bmc = p.bmc; pch = p.pch; nv = Begins-op a.nv b.nv op p.nv }
 Precedes-move a b (Asks which) p = p
 
+pub Precedes-after : (a b : Story) (moves : List Move) → Precedes a b → Precedes a (after moves b)
+Precedes-after a b [] p = p
+Precedes-after a b (move ∷ moves) p = Precedes-after a (moved_by move b) moves (Precedes-move a b move p)
+
+begins_trans : (a b c : Past) → Begins a b → Begins b c → Begins a c
+begins_trans a b c p q = record {
+  start = q.start ∙ p.start;
+  more = p.more ++ q.more;
+  ops = q.ops ∙ ap (λ (ops : List Operation). ops ++ q.more) p.ops ∙ append_assoc a.ops p.more q.more;
+}
+
+pub Precedes-trans : (a b c : Story) → Precedes a b → Precedes b c → Precedes a c
+Precedes-trans a b c p q = record { bmc = begins_trans a.bmc b.bmc c.bmc p.bmc q.bmc; pch = begins_trans a.pch b.pch c.pch p.pch q.pch; nv = begins_trans a.nv b.nv c.nv p.nv q.nv }
+
 -- what a device held at a moment, by its count then
 pub upto_begins : (a b : Past) → Begins a b → play_first (length a.ops) b.start b.ops ≡ image_of a
 upto_begins a b p =

@@ -16,17 +16,17 @@ use Rattle.pfr_report.specs.Texts.{IsNoted}
 use Rattle.pfr_report.specs.declared.note.What.{What}
 use Rattle.pfr_report.specs.declared.note.What.TheVariants as what
 use Rattle.pfr_story.specs.Story.{Story, Says, called, after}
-use Rattle.pfr_story.specs.World.{World, story_of, state_at, NoneLost, NoneRose, added}
+use Rattle.pfr_story.specs.World.{World, story_of, state_at, AllMoved, NoneLost, NoneRose, added}
 use Rattle.pfr_story.specs.Safety.{AllGood, AllSafe, AllMake}
 use Rattle.pfr_story.specs.Course.{Stretch, Course, Follows, Calm}
 use Rattle.pfr_story.specs.Standing.{standing_of, is_off}
 use Rattle.pfr_story.specs.Plans.{store, migrated, provisioned, provisioned_in, migration_in}
 use Rattle.pfr_story.specs.Turn.{bank_stretch, fuse_stretch, provision_stretch, where_off, ignored, power_course, off_course, provision_course, course, begun, Turn}
 use Rattle.pfr_story.specs.Promises.{IsSwitchedOff}
-use Rattle.pfr_story.proofs.WorldLaws.{AllMoved-refl}
+use Rattle.pfr_story.proofs.WorldLaws.{AllMoved-refl, AllMoved-trans}
 use Rattle.pfr_story.proofs.SafetyLaws.{AllSafe-append}
 use Rattle.pfr_story.proofs.CallLaws.{AllMake-append, AllMake-called, cut_makes}
-use Rattle.pfr_story.proofs.Courses.{Follows-calm}
+use Rattle.pfr_story.proofs.Courses.{Steps-moved, Follows-calm}
 use Rattle.pfr_story.proofs.Traces.{Traced, Traced-known, KnownBefore}
 use Rattle.pfr_story.proofs.StepTraces.{Between, AllowsLosses, IsGoodStretch, AreGood, AreGood-none, AreGood-next, Follows-good}
 use Rattle.pfr_story.proofs.Facts.{Setting, Fact, IsTrue, call_true, brought_true, IsOwn, IsNoLoss, brought_makes, lock_true}
@@ -40,6 +40,10 @@ Turn-calm accepts e old new t lost rose = Follows-calm (course accepts e (story_
     by_device device.Pch = rose device.Pch
     by_device device.Nv = rose device.Nv
 
+-- Of each device the work of a step is what its calls do.
+pub Turn-moved : (accepts : Acceptance) (e : Event) (old new : World) → Turn accepts e old new → AllMoved (begun old) new
+Turn-moved accepts e old new (mid, first, rest) = AllMoved-trans (begun old) mid new first.moved (Steps-moved (course accepts e (story_of old)).stretches mid new rest)
+
 abbrev pub Any : Story → Type 0
 Any story = Unit {0}
 
@@ -48,7 +52,7 @@ abbrev pub IsStore : Device → Type 0
 IsStore which = which ≡ device.Nv
 
 pub migrated_makes : (story : Story) → AllMake IsStore IsNoLoss (migrated story)
-migrated_makes story = AllMake-called IsStore IsNoLoss device.Nv (migration_in (fuses_of (store story))) refl
+migrated_makes story = (refl, AllMake-called IsStore IsNoLoss device.Nv (migration_in (fuses_of (store story))) refl)
 
 tried_makes : (root : RootSlot) (judged : Result ℕ FuseFail) (story : Story) → AllMake IsStore IsNoLoss (provisioned_in root judged story)
 tried_makes root (Ok number) story =
@@ -74,7 +78,7 @@ module _ (s : Setting) where
 
   fuse_true : IsTrueStretch fuse_stretch
   fuse_true = record {
-    plan = record { safe = λ story p. call_true s device.Nv (migration_in (fuses_of (store story))) story; ends = λ story p. tt };
+    plan = record { safe = λ story p. (tt, call_true s device.Nv (migration_in (fuses_of (store story))) story); ends = λ story p. tt };
     noted = λ which story trace p cut rose.
         let nv = store_rose which (cut_makes IsStore IsNoLoss which _ trace story (migrated_makes story) cut).0 rose in
         (refl, ((refl, nv), (refl, ((refl, nv), tt))));

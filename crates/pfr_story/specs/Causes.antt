@@ -57,7 +57,6 @@ abbrev pub IsDue : LockWhy → Bank → List ℕ → List ℕ → Acceptance →
 IsDue why.Unprovisioned which image nv accepts = IsUnset nv × HasBlank nv
 IsDue why.SlotsSpent which image nv accepts = IsUnset nv × ¬ HasBlank nv
 IsDue (why.Layout rule) which image nv accepts = IsMisplaced rule which image nv
-IsDue why.NotRestored which image nv accepts = ⊥
 IsDue (why.NoGoodImage active recovery) which image nv accepts = IsAgainst active which image nv accepts × HasBadRecovery recovery which image nv accepts
 IsDue why.FlashFault which image nv accepts = ⊥
 IsDue why.StoreFault which image nv accepts = ⊥

@@ -21,8 +21,8 @@ use Rattle.pfr_report.specs.declared.note.Note.{Note}
 use Rattle.pfr_report.specs.declared.note.What.TheVariants.{Released, Locked, Lost, Untrusted, Restored, Provisioned, ProvisionRefused, Ignored}
 use Rattle.pfr_report.specs.declared.note.ProvisionWhy.{ProvisionWhy}
 use Rattle.pfr_report.specs.declared.note.What.{What}
-use Rattle.pfr_story.specs.Story.{counts_of, device_of}
-use Rattle.pfr_story.specs.World.{World, story_of, counts_in, state_at, NoneFailed, IsOn, IsDark, SameDevices, added}
+use Rattle.pfr_story.specs.Story.{device_of}
+use Rattle.pfr_story.specs.World.{World, counts_in, state_at, NoneFailed, IsOn, IsDark, SameDevices, added}
 use Rattle.pfr_story.specs.Standing.{standing_of, is_off, Off}
 use Rattle.pfr_story.specs.Plans.{refusal_of}
 use Rattle.pfr_story.specs.Causes.{IsTrustedWith, IsRestorable, IsAgainst, IsDue}

@@ -1,0 +1,166 @@
+-- Fuses are never taken back, and a provision never changes.
+use Rattle.std.proofs.Common.{◌≡◌, ◌∙◌, refl, sym, ap, subst, ℕ, ◌≤◌, arith, Bool, true, false, List, [], length, take, length-append, Result, Ok, Err, inr}
+use Rattle.std.proofs.lemmas.Bool.{false≢true}
+use Rattle.std.proofs.lemmas.List.{append-nil}
+use Rattle.std.proofs.lemmas.List.Elements.{All-take}
+use Rattle.pfr_flash.specs.Bytes.{AreBytes, bytes_at, continued}
+use Rattle.pfr_flash.specs.FlashState.{FlashState, now, upto, size_of, op_count_of}
+use Rattle.pfr_flash.specs.Holding.{WritesBytes, HoldsBytes}
+use Rattle.pfr_flash.specs.Operation.{Operation, play}
+use Rattle.pfr_flash.specs.Plan.{IsPart, DoesPart}
+use Rattle.pfr_flash.specs.Range.{AllWithin}
+use Rattle.pfr_flash.specs.declared.names.Bank.TheVariants as bank
+use Rattle.pfr_flash.proofs.AreBytesLemmas.{AreBytes-append, AreBytes-bytes_at, AreBytes-continued, AreBytes-play}
+use Rattle.pfr_flash.proofs.CutLemmas.{at_each}
+use Rattle.pfr_flash.proofs.PlayLemmas.{length-play}
+use Rattle.pfr_engine.specs.Acceptance.{Acceptance}
+use Rattle.pfr_fuses.specs.Changes.{migration, migrated, AreRows}
+use Rattle.pfr_fuses.specs.FusesState.{FusesState}
+use Rattle.pfr_fuses.specs.FusesOf.{fuses_of, fuses_with, floor_fuses, row_fuses}
+use Rattle.pfr_fuses.specs.Growth.{NeverGoesBack, KeepsProvision}
+use Rattle.pfr_fuses.specs.Provisioning.{judge_provision, provision_plan}
+use Rattle.pfr_fuses.specs.RootSlot.{IsSlot}
+use Rattle.pfr_fuses.specs.Slots.{slot_at}
+use Rattle.pfr_fuses.specs.declared.fuse_fail.FuseFail.{FuseFail}
+use Rattle.pfr_fuses.specs.declared.profile.Profile.{Profile}
+use Rattle.pfr_fuses.specs.declared.profile.Profile.TheVariants.{One, Two}
+use Rattle.pfr_fuses.specs.declared.root_slot.RootSlot.{RootSlot}
+use Rattle.pfr_fuses.proofs.BlankLemmas.{judged-ok}
+use Rattle.pfr_fuses.proofs.GrowthLemmas.{KeepsProvision-plan, KeepsProvision-none, NeverGoesBack-programs}
+use Rattle.pfr_fuses.proofs.MigrationLemmas.{Holds, migration_within, migration-part, first_holds, Grows-holds}
+use Rattle.pfr_fuses.proofs.ProvisionLemmas.{KeepsProvision-slot}
+use Rattle.pfr_fuses.proofs.RootSlotLemmas.{length-slot}
+use Rattle.pfr_fuses.proofs.StandsLemmas.{fuses_of-ok, fuses_of-stands}
+use Rattle.pfr_script.specs.declared.event.Event.{Event}
+use Rattle.pfr_script.specs.declared.event.Event.TheVariants as event
+use Rattle.pfr_story.specs.Story.{Story}
+use Rattle.pfr_story.specs.World.{World, past_of, story_of, AreDevices}
+use Rattle.pfr_story.specs.Plans.{migration_in, migration_by}
+use Rattle.pfr_story.specs.Course.{Follows}
+use Rattle.pfr_story.specs.Standing.{standing_of, is_off}
+use Rattle.pfr_story.specs.Promises.{AreOff, IsKnownSlot}
+use Rattle.pfr_story.specs.Turn.{ignored, provision_course, where_off, begun, Turn}
+use Rattle.pfr_story.proofs.Traces.{upto_begins}
+use Rattle.pfr_story.proofs.FuseLaws.{profile_kept, rows_kept}
+use Rattle.pfr_story.proofs.StoreLaws.{Stored, operations_in, judged_here, Turn-stored}
+
+-- ---- a step
+did_part : (plan : List Operation) (old new : World) → Stored plan (past_of old.nv) (past_of new.nv) → DoesPart plan old.nv new.nv
+did_part plan old new p = record { added = p.added; is = p.is; part = p.part }
+
+-- the store held bytes before
+store_bytes : (plan : List Operation) (old new : World) → Stored plan (past_of old.nv) (past_of new.nv) → HoldsBytes new.nv → AreBytes (now old.nv)
+store_bytes plan old new p h =
+    let count : ℕ = op_count_of old.nv in
+    subst AreBytes (upto_begins (past_of old.nv) (past_of new.nv) (record { start = p.start; more = p.added; ops = p.is }))
+    (AreBytes-play new.nv.start (take count new.nv.ops) h.start (All-take WritesBytes count new.nv.ops h.ops))
+
+-- where the banks are off nothing is done
+ignored_store : (old new : World) → Follows ignored (begun old) new → new.nv.ops ≡ old.nv.ops
+ignored_store old new (mid, first, rest) = ap (λ (s : Story). s.nv.ops) (rest.is ∙ first.is)
+
+-- ---- a provision stays
+by_within : (p : Profile) (fuses : FusesState) → AreRows fuses → AllWithin 2048 30720 (migration_by p fuses)
+by_within One fuses rows = migration_within fuses rows
+by_within Two fuses rows = tt
+
+in_within : (nv : List ℕ) (read : Result FusesState FuseFail) → fuses_of nv ≡ read → AllWithin 2048 30720 (migration_in read)
+in_within nv (Ok fuses) f = by_within fuses.profile fuses (rows_kept nv fuses f)
+in_within nv (Err cause) f = tt
+
+provision_keeps : (root : RootSlot) (old new : FlashState) (m n : ℕ) (r : Result ℕ FuseFail) → judge_provision (now old) root m n ≡ r → size_of old ≡ 32768 → new.start ≡ old.start → IsSlot root
+    → DoesPart (operations_in root r) old new → KeepsProvision old new
+provision_keeps root old new m n (Ok number) j size start slot did =
+    let can = judged-ok (now old) root m n number j in KeepsProvision-slot old new root number size start slot can.unset can.slot did
+provision_keeps root old new m n (Err cause) j size start slot did = KeepsProvision-plan 2048 0 [] old new size start did (omega arith) tt
+
+-- A slot that provisions the platform at one moment of a step does so at each later one, with the same bytes.
+pub Turn-keeps : (accepts : Acceptance) (e : Event) (old new : World) → size_of old.nv ≡ 32768 → (¬ AreOff old → IsKnownSlot e) → Turn accepts e old new → KeepsProvision old.nv new.nv
+Turn-keeps accepts event.Power old new size slot t =
+    let did = Turn-stored accepts event.Power old new t in
+    let plan : List Operation = migration_in (fuses_of (now old.nv)) in
+    KeepsProvision-plan 2048 30720 plan old.nv new.nv size did.start (did_part plan old new did) (omega arith) (in_within (now old.nv) (fuses_of (now old.nv)) refl)
+Turn-keeps accepts event.Off old new size slot t =
+    let did = Turn-stored accepts event.Off old new t in KeepsProvision-plan 2048 0 [] old.nv new.nv size did.start (did_part [] old new did) (omega arith) tt
+Turn-keeps accepts (event.Provision root) old new size slot t = by_off (is_off (standing_of bank.Bmc old.notes.list)) refl t
+  where
+    by_off : (b : Bool) → is_off (standing_of bank.Bmc old.notes.list) ≡ b → Follows (where_off b ignored (provision_course root)) (begun old) new → KeepsProvision old.nv new.nv
+    by_off true off u = KeepsProvision-none old.nv new.nv (ignored_store old new u)
+    by_off false on u =
+        let did = Turn-stored accepts (event.Provision root) old new t in
+        provision_keeps root old.nv new.nv (length old.bmc.start) (length old.pch.start) (judged_here root (story_of old)) refl size did.start
+        (slot (λ (off : AreOff old). false≢true (sym on ∙ off)))
+        (did_part (operations_in root (judged_here root (story_of old))) old new did)
+
+-- ---- fuses that are bytes
+bytes_row : (nv : List ℕ) (at count n : ℕ) → AreBytes nv → AreBytes (continued (bytes_at nv at count) n)
+bytes_row nv at count n p = AreBytes-continued (bytes_at nv at count) n (AreBytes-bytes_at nv at count p)
+
+bytes_with : (nv slot : List ℕ) → AreBytes nv → AreBytes (migrated (fuses_with nv slot))
+unfolding floor_fuses row_fuses
+bytes_with nv slot p =
+    AreBytes-append _ _ (bytes_row nv _ _ 16 p) (AreBytes-append _ _ (bytes_row nv _ _ 16 p) (AreBytes-append _ _ (bytes_row nv _ _ 32 p)
+    (AreBytes-append _ _ (bytes_row nv _ _ 32 p) (AreBytes-append _ _ (bytes_row nv _ _ 32 p) (bytes_row nv _ _ 32 p)))))
+
+bytes_migrated : (nv : List ℕ) (fuses : FusesState) → fuses_of nv ≡ Ok fuses → AreBytes nv → AreBytes (migrated fuses)
+bytes_migrated nv fuses f p = let found = fuses_of-ok nv fuses f in subst (λ (x : FusesState). AreBytes (migrated x)) (sym found.2) (bytes_with nv (slot_at nv found.0) p)
+
+-- ---- fuses are never taken back
+migrated_grows : (old new : FlashState) (fuses : FusesState) → size_of old ≡ 32768 → new.start ≡ old.start → fuses_of (now old) ≡ Ok fuses → fuses.profile ≡ One → AreBytes (now old)
+    → DoesPart (migration fuses) old new → NeverGoesBack old new
+migrated_grows old new fuses size start f one bytes did =
+    let nv = now old in
+    let nv_size : length nv ≡ 32768 = length-play old.start old.ops ∙ size in
+    let stands = fuses_of-stands nv fuses nv_size f in
+    let rows = rows_kept nv fuses f in
+    let length_is : length (migrated fuses) ≡ 160 = simp (length-append, rows.bmc_floor, rows.pch_floor, rows.pch_manifest, rows.pch_capsule, rows.bmc_manifest, rows.bmc_capsule) (omega arith) in
+    let are = bytes_migrated nv fuses f bytes in
+    let each : (added : List Operation) → IsPart nv (migration fuses) added → Holds nv fuses (play nv added) =
+    λ added h. migration-part nv fuses nv_size (sym (profile_kept nv fuses f) ∙ one) rows (λ i below. are i) (first_holds nv fuses stands) added h in
+    let at : (n : ℕ) → op_count_of old ≤ n → Holds nv fuses (upto new n) = λ n le. at_each (Holds nv fuses) (migration fuses) old new start did each n le in
+    record { grows = λ m n low order high. Grows-holds nv fuses (upto new m) (upto new n) (at m low) (at n (omega arith)) }
+
+nothing_grows : (old new : FlashState) → size_of old ≡ 32768 → new.start ≡ old.start → DoesPart [] old new → NeverGoesBack old new
+nothing_grows old new size start did = NeverGoesBack-programs 0 0 [] old new size start did tt tt (inr (omega arith))
+
+by_grows : (old new : FlashState) (fuses : FusesState) (p : Profile) → size_of old ≡ 32768 → new.start ≡ old.start → fuses_of (now old) ≡ Ok fuses → fuses.profile ≡ p → AreBytes (now old)
+    → DoesPart (migration_by p fuses) old new → NeverGoesBack old new
+by_grows old new fuses One size start f e bytes did = migrated_grows old new fuses size start f e bytes did
+by_grows old new fuses Two size start f e bytes did = nothing_grows old new size start did
+
+in_grows : (old new : FlashState) (read : Result FusesState FuseFail) → size_of old ≡ 32768 → new.start ≡ old.start → fuses_of (now old) ≡ read → AreBytes (now old)
+    → DoesPart (migration_in read) old new → NeverGoesBack old new
+in_grows old new (Ok fuses) size start f bytes did = by_grows old new fuses fuses.profile size start f refl bytes did
+in_grows old new (Err cause) size start f bytes did = nothing_grows old new size start did
+
+provision_grows : (root : RootSlot) (old new : FlashState) (m n : ℕ) (r : Result ℕ FuseFail) → judge_provision (now old) root m n ≡ r → size_of old ≡ 32768 → new.start ≡ old.start → IsSlot root
+    → DoesPart (operations_in root r) old new → NeverGoesBack old new
+provision_grows root old new m n (Ok number) j size start slot did =
+    let can = judged-ok (now old) root m n number j in
+    let below = can.slot.within in
+    let long = length-slot root slot in
+    NeverGoesBack-programs 0 2048 (provision_plan number root) old new size start did
+    (omega (arith, long, below), (omega (arith, below), tt))
+    (record { low = omega arith; high = omega (arith, long, below) }, (record { low = omega arith; high = omega (arith, below) }, tt))
+    (inr (omega arith))
+provision_grows root old new m n (Err cause) j size start slot did = nothing_grows old new size start did
+
+-- Fuses are never taken back in a step of devices that hold bytes.
+pub Turn-grows : (accepts : Acceptance) (e : Event) (old new : World) → size_of old.nv ≡ 32768 → AreDevices new → (¬ AreOff old → IsKnownSlot e) → Turn accepts e old new → NeverGoesBack old.nv new.nv
+Turn-grows accepts event.Power old new size held slot t =
+    let did = Turn-stored accepts event.Power old new t in
+    let plan : List Operation = migration_in (fuses_of (now old.nv)) in
+    in_grows old.nv new.nv (fuses_of (now old.nv)) size did.start refl (store_bytes plan old new did held.nv) (did_part plan old new did)
+Turn-grows accepts event.Off old new size held slot t =
+    let did = Turn-stored accepts event.Off old new t in nothing_grows old.nv new.nv size did.start (did_part [] old new did)
+Turn-grows accepts (event.Provision root) old new size held slot t = by_off (is_off (standing_of bank.Bmc old.notes.list)) refl t
+  where
+    by_off : (b : Bool) → is_off (standing_of bank.Bmc old.notes.list) ≡ b → Follows (where_off b ignored (provision_course root)) (begun old) new → NeverGoesBack old.nv new.nv
+    by_off true off u =
+        let did = Turn-stored accepts (event.Provision root) old new t in
+        nothing_grows old.nv new.nv size did.start (record { added = []; is = ignored_store old new u ∙ sym (append-nil old.nv.ops); part = tt })
+    by_off false on u =
+        let did = Turn-stored accepts (event.Provision root) old new t in
+        provision_grows root old.nv new.nv (length old.bmc.start) (length old.pch.start) (judged_here root (story_of old)) refl size did.start
+        (slot (λ (off : AreOff old). false≢true (sym on ∙ off)))
+        (did_part (operations_in root (judged_here root (story_of old))) old new did)

@@ -1,0 +1,452 @@
+-- How spans are kept, move by move.
+use Rattle.std.proofs.Common.{◌≡◌, ◌∙◌, ℕ, ◌+◌, ◌≤◌, refl, sym, ap, subst, arith, List, [], ◌∷◌, ◌++◌, length, take, drop, All, append_assoc, ◌⊎◌, inl, inr, Ok, true, false, Bool, cond, length-append}
+use Rattle.std.proofs.lemmas.List.{append-nil, take-append-le, take_all, take-take, drop-append-le}
+use Rattle.std.proofs.lemmas.List.Elements.{All-push}
+use Rattle.std.proofs.Math.ListN.{drop_of_length-le}
+use Rattle.pfr_flash.specs.Operation.{Operation, play, play_first}
+use Rattle.pfr_flash.specs.Range.{Leaves}
+use Rattle.pfr_flash.specs.declared.names.Bank.{Bank}
+use Rattle.pfr_flash.specs.declared.names.Bank.TheVariants as bank
+use Rattle.pfr_flash.specs.declared.names.Counts.{Counts}
+use Rattle.pfr_flash.specs.declared.names.Device.{Device}
+use Rattle.pfr_flash.specs.declared.names.Device.TheVariants as device
+use Rattle.pfr_engine.specs.Acceptance.{Acceptance}
+use Rattle.pfr_fuses.specs.FusesState.{FusesState}
+use Rattle.pfr_fuses.specs.FusesOf.{fuses_of}
+use Rattle.pfr_fuses.specs.RootSlot.{layout_of}
+use Rattle.pfr_fuses.specs.declared.profile.Profile.TheVariants.{Two}
+use Rattle.pfr_manifest.specs.declared.manifest.Manifest.{Manifest}
+use Rattle.pfr_auth.specs.Leaving.{LeavesImage, LeavesStore}
+use Rattle.pfr_auth.specs.Throughout.{between}
+use Rattle.pfr_auth.specs.Trusted.{IsTrusted}
+use Rattle.pfr_auth.proofs.LeavingLaw.{trusted_between}
+use Rattle.pfr_report.specs.Texts.{IsNoted}
+use Rattle.pfr_report.specs.declared.note.Note.{Note}
+use Rattle.pfr_report.specs.declared.note.What.{What}
+use Rattle.pfr_report.specs.declared.note.What.TheVariants as what
+use Rattle.pfr_story.specs.Guards.{same_bank}
+use Rattle.pfr_story.specs.Story.{Past, Story, Says, Does, Asks, counts_of, past_at, device_of, with_op, operated, noted, image_at}
+use Rattle.pfr_story.specs.Safety.{Rule, Keeps}
+use Rattle.pfr_story.specs.Promises.{count_at}
+use Rattle.pfr_story.specs.Spans.{opens_after, closes, ended, opens_from, ended_from, IsSpan, AllSpans, ReleasedSpans}
+
+-- ---- what is left where a span is open
+-- what a device held at a count
+abbrev pub past_upto : Past → ℕ → List ℕ
+past_upto past count = play_first count past.start past.ops
+
+-- a bank's own operation touches neither what its trust reads nor its recovery area
+pub record LeavesBank (which : Bank) (fuses : FusesState) (manifest : Manifest) (op : Operation) : Type 0 where
+  pub image : LeavesImage (layout_of fuses.provision which) manifest op
+  pub recovery : Leaves (layout_of fuses.provision which).recovery_at (layout_of fuses.provision which).area_len op
+
+-- an operation of a device, by the ranges that it leaves
+abbrev pub Spares : Bank → Device → FusesState → Manifest → Operation → Type 0
+Spares bank.Bmc device.Bmc fuses manifest op = LeavesBank bank.Bmc fuses manifest op
+Spares bank.Bmc device.Pch fuses manifest op = Unit {0}
+Spares bank.Bmc device.Nv fuses manifest op = LeavesStore fuses bank.Bmc op
+Spares bank.Pch device.Bmc fuses manifest op = Unit {0}
+Spares bank.Pch device.Pch fuses manifest op = LeavesBank bank.Pch fuses manifest op
+Spares bank.Pch device.Nv fuses manifest op = LeavesStore fuses bank.Pch op
+
+-- a bank's operations and the store's, one by one
+pub record AreSpared (which : Bank) (fuses : FusesState) (manifest : Manifest) (ops nv_ops : List Operation) : Type 0 where
+  pub image : All (LeavesImage (layout_of fuses.provision which) manifest) ops
+  pub recovery : All (Leaves (layout_of fuses.provision which).recovery_at (layout_of fuses.provision which).area_len) ops
+  pub store : All (LeavesStore fuses which) nv_ops
+
+-- from bytes where the bank is trusted
+pub record SpareTrust (accepts : Acceptance) (which : Bank) (image nv : List ℕ) (ops nv_ops : List Operation) : Type 0 where
+  pub each : (t : IsTrusted image nv which accepts) → AreSpared which t.fuses t.manifest ops nv_ops
+
+-- a span, but for the trust where it begins
+pub record IsKept (accepts : Acceptance) (which : Bank) (mine nv : Past) (begin end : Counts) : Type 0 where
+  pub forth : count_at which begin ≤ count_at which end
+  pub forth_store : begin.nv ≤ end.nv
+  pub done : count_at which end ≤ length mine.ops
+  pub done_store : end.nv ≤ length nv.ops
+  pub spared : SpareTrust accepts which (past_upto mine (count_at which begin)) (past_upto nv begin.nv)
+      (between (count_at which begin) (count_at which end) mine.ops) (between begin.nv end.nv nv.ops)
+
+abbrev pub IsTrustedAt : Acceptance → Bank → Past → Past → Counts → Type 0
+IsTrustedAt accepts which mine nv at = IsTrusted (past_upto mine (count_at which at)) (past_upto nv at.nv) which accepts
+
+-- the store is provisioned, and of profile 2
+pub record IsSettled (nv : List ℕ) : Type 0 where
+  pub fuses : FusesState
+  pub provisioned : fuses_of nv ≡ Ok fuses
+  pub two : fuses.profile ≡ Two
+
+-- ---- of all open spans, and of all that ended
+abbrev pub AllOpen : (Counts → Type 0) → List Counts → Type 0
+AllOpen P [] = Unit {0}
+AllOpen P (begin ∷ begins) = P begin × AllOpen P begins
+
+abbrev pub AllEnded : (Counts → Counts → Type 0) → List (Counts × Counts) → Type 0
+AllEnded P [] = Unit {0}
+AllEnded P (span ∷ spans) = P span.0 span.1 × AllEnded P spans
+
+pub open_none : (P : Counts → Type 0) (opens : List Counts) → opens ≡ [] → AllOpen P opens
+open_none P opens e = subst (λ (begins : List Counts). AllOpen P begins) (sym e) tt
+
+pub open_any : (P : Counts → Type 0) → ((begin : Counts) → P begin) → (opens : List Counts) → AllOpen P opens
+open_any P f [] = tt
+open_any P f (begin ∷ begins) = (f begin, open_any P f begins)
+
+open_both : (P Q R : Counts → Type 0) → ((begin : Counts) → P begin → Q begin → R begin) → (opens : List Counts) → AllOpen P opens → AllOpen Q opens → AllOpen R opens
+open_both P Q R f [] p q = tt
+open_both P Q R f (begin ∷ begins) p q = (f begin p.0 q.0, open_both P Q R f begins p.1 q.1)
+
+ended_map : (P Q : Counts → Counts → Type 0) → ((begin end : Counts) → P begin end → Q begin end) → (spans : List (Counts × Counts)) → AllEnded P spans → AllEnded Q spans
+ended_map P Q f [] p = tt
+ended_map P Q f (span ∷ spans) p = (f span.0 span.1 p.0, ended_map P Q f spans p.1)
+
+ended_append : (P : Counts → Counts → Type 0) (spans more : List (Counts × Counts)) → AllEnded P spans → AllEnded P more → AllEnded P (spans ++ more)
+ended_append P [] more p q = q
+ended_append P (span ∷ spans) more p q = (p.0, ended_append P spans more p.1 q)
+
+ended_closes : (P : Counts → Counts → Type 0) (end : Counts) (opens : List Counts) → AllOpen (λ begin. P begin end) opens → AllEnded P (closes end opens)
+ended_closes P end [] p = tt
+ended_closes P end (begin ∷ begins) p = (p.0, ended_closes P end begins p.1)
+
+pub open_map : (P Q : Counts → Type 0) → ((begin : Counts) → P begin → Q begin) → (opens : List Counts) → AllOpen P opens → AllOpen Q opens
+open_map P Q f [] p = tt
+open_map P Q f (begin ∷ begins) p = (f begin p.0, open_map P Q f begins p.1)
+
+-- ---- one note more
+pub opens_push : (which : Bank) (opens : List Counts) (notes : List Note) (note : Note)
+    → opens_from which opens (notes ++ note ∷ []) ≡ opens_after which note.what (opens_from which opens notes)
+opens_push which opens [] note = refl
+opens_push which opens (n ∷ notes) note = opens_push which (opens_after which n.what opens) notes note
+
+ended_push : (which : Bank) (opens : List Counts) (notes : List Note) (note : Note)
+    → ended_from which opens (notes ++ note ∷ []) ≡ ended_from which opens notes ++ ended which note.what (opens_from which opens notes)
+ended_push which opens [] note = append-nil (ended which note.what opens)
+ended_push which opens (n ∷ notes) note =
+    ap (λ (xs : List (Counts × Counts)). ended which n.what opens ++ xs) (ended_push which (opens_after which n.what opens) notes note)
+    ∙ sym (append_assoc (ended which n.what opens) (ended_from which (opens_after which n.what opens) notes) _)
+
+same_one : (which b : Bank) → same_bank which b ≡ true → b ≡ which
+same_one bank.Bmc bank.Bmc e = refl
+same_one bank.Bmc bank.Pch e = absurd cc
+same_one bank.Pch bank.Bmc e = absurd cc
+same_one bank.Pch bank.Pch e = refl
+
+-- its counts are these
+abbrev pub IsTimely : What → Counts → Type 0
+IsTimely (what.Held b counts) here = counts ≡ here
+IsTimely (what.Released b svn counts) here = counts ≡ here
+IsTimely (what.Locked b cause counts) here = counts ≡ here
+IsTimely (what.Lost which counts) here = counts ≡ here
+IsTimely that here = Unit {0}
+
+-- a bank is released only where the store is settled
+abbrev pub IsSettledWhere : What → List ℕ → Type 0
+IsSettledWhere (what.Released b svn counts) nv = IsSettled nv
+IsSettledWhere that nv = Unit {0}
+
+-- P holds of spans that ended, and Q of those that are open here
+module _ (which : Bank) (P : Counts → Counts → Type 0) (Q : Counts → Type 0) (here : Counts) (ends : (begin : Counts) → Q begin → P begin here) where
+  abbrev AreAll : List (Counts × Counts) → List Counts → Type 0
+  AreAll spans opens = AllEnded P spans × AllOpen Q opens
+
+  closing : (counts : Counts) (spans : List (Counts × Counts)) (opens : List Counts) → counts ≡ here → AreAll spans opens → AreAll (spans ++ closes counts opens) []
+  closing counts spans opens e p =
+      let now : AllEnded P (closes here opens) = ended_closes P here opens (open_map Q (λ begin. P begin here) ends opens p.1) in
+      (ended_append P spans (closes counts opens) p.0 (subst (λ (end : Counts). AllEnded P (closes end opens)) (sym e) now), tt)
+
+  staying : (spans : List (Counts × Counts)) (opens : List Counts) → AreAll spans opens → AreAll (spans ++ []) opens
+  staying spans opens p = (ended_append P spans [] p.0 tt, p.1)
+
+  closing_if : (same : Bool) (counts : Counts) (spans : List (Counts × Counts)) (opens : List Counts) → counts ≡ here → AreAll spans opens
+      → AreAll (spans ++ (cond same (closes counts opens) [])) (cond same [] opens)
+  closing_if true counts spans opens e p = closing counts spans opens e p
+  closing_if false counts spans opens e p = staying spans opens p
+
+  opening_if : (same : Bool) (counts : Counts) (spans : List (Counts × Counts)) (opens : List Counts) → counts ≡ here → Q here → AreAll spans opens
+      → AreAll (spans ++ []) (cond same (counts ∷ opens) opens)
+  opening_if true counts spans opens e q p = ((staying spans opens p).0, (subst Q (sym e) q, p.1))
+  opening_if false counts spans opens e q p = staying spans opens p
+
+  noted_all : (w : What) (nv : List ℕ) → IsTimely w here → IsSettledWhere w nv → (IsSettled nv → Q here) → (spans : List (Counts × Counts)) (opens : List Counts) → AreAll spans opens
+      → AreAll (spans ++ ended which w opens) (opens_after which w opens)
+  noted_all (what.Held b counts) nv e s q spans opens p = closing_if (same_bank which b) counts spans opens e p
+  noted_all (what.Locked b cause counts) nv e s q spans opens p = closing_if (same_bank which b) counts spans opens e p
+  noted_all (what.Lost which counts) nv e s q spans opens p = closing counts spans opens e p
+  noted_all (what.Released b svn counts) nv e s q spans opens p = opening_if (same_bank which b) counts spans opens e (q s) p
+  noted_all _ nv e s q spans opens p = staying spans opens p
+
+-- where a span begins a release is noted
+module _ (which : Bank) (P : Counts → Type 0) where
+  abbrev Begin : List (Counts × Counts) → List Counts → Type 0
+  Begin spans opens = AllEnded (λ begin end. P begin) spans × AllOpen P opens
+
+  begin_if : (same : Bool) (counts : Counts) (opens : List Counts) → AllOpen P opens → Begin (cond same (closes counts opens) []) (cond same [] opens)
+  begin_if true counts opens p = (ended_closes (λ begin end. P begin) counts opens p, tt)
+  begin_if false counts opens p = (tt, p)
+
+  begin_more : (same : Bool) (counts : Counts) (opens : List Counts) → (same ≡ true → P counts) → AllOpen P opens → AllOpen P (cond same (counts ∷ opens) opens)
+  begin_more true counts opens f p = (f refl, p)
+  begin_more false counts opens f p = p
+
+  begin_note : (w : What) (opens : List Counts) → AllOpen P opens → ((svn : ℕ) (at : Counts) → w ≡ what.Released which svn at → P at)
+      → Begin (ended which w opens) (opens_after which w opens)
+  begin_note (what.Held b counts) opens p f = begin_if (same_bank which b) counts opens p
+  begin_note (what.Locked b cause counts) opens p f = begin_if (same_bank which b) counts opens p
+  begin_note (what.Lost device counts) opens p f = (ended_closes (λ begin end. P begin) counts opens p, tt)
+  begin_note (what.Released b svn counts) opens p f =
+      (tt, begin_more (same_bank which b) counts opens (λ e. f svn counts (ap (λ (x : Bank). what.Released x svn counts) (same_one which b e))) p)
+  begin_note _ opens p f = (tt, p)
+
+  begins : (opens : List Counts) (notes : List Note) → AllOpen P opens → ((svn : ℕ) (at : Counts) → IsNoted notes (what.Released which svn at) → P at)
+      → Begin (ended_from which opens notes) (opens_from which opens notes)
+  begins opens [] p f = (tt, p)
+  begins opens (note ∷ notes) p f =
+      let now = begin_note note.what opens p (λ svn at e. f svn at (inl e)) in
+      let rest = begins (opens_after which note.what opens) notes now.1 (λ svn at n. f svn at (inr n)) in
+      (ended_append (λ begin end. P begin) (ended which note.what opens) (ended_from which (opens_after which note.what opens) notes) now.0 rest.0, rest.1)
+
+module _ (accepts : Acceptance) (which : Bank) where
+  -- ---- what is done behind a span leaves it
+  module _ (mine more nv later : Past) (begin end : Counts) where
+    same_kept : more.start ≡ mine.start → later.start ≡ nv.start
+        → take (count_at which end) more.ops ≡ take (count_at which end) mine.ops → take end.nv later.ops ≡ take end.nv nv.ops
+        → length mine.ops ≤ length more.ops → length nv.ops ≤ length later.ops
+        → IsKept accepts which mine nv begin end → IsKept accepts which more later begin end
+    same_kept s t e f m n p =
+        let b : take (count_at which begin) more.ops ≡ take (count_at which begin) mine.ops =
+        sym (take-take (count_at which begin) (count_at which end) more.ops p.forth)
+        ∙ ap (λ (ops : List Operation). take (count_at which begin) ops) e
+        ∙ take-take (count_at which begin) (count_at which end) mine.ops p.forth in
+        let c : take begin.nv later.ops ≡ take begin.nv nv.ops =
+        sym (take-take begin.nv end.nv later.ops p.forth_store)
+        ∙ ap (λ (ops : List Operation). take begin.nv ops) f
+        ∙ take-take begin.nv end.nv nv.ops p.forth_store in
+        let u : past_upto more (count_at which begin) ≡ past_upto mine (count_at which begin) =
+        ap (λ (xs : List ℕ). play xs (take (count_at which begin) more.ops)) s ∙ ap (λ (ops : List Operation). play mine.start ops) b in
+        let v : past_upto later begin.nv ≡ past_upto nv begin.nv =
+        ap (λ (xs : List ℕ). play xs (take begin.nv later.ops)) t ∙ ap (λ (ops : List Operation). play nv.start ops) c in
+        let x : between (count_at which begin) (count_at which end) more.ops ≡ between (count_at which begin) (count_at which end) mine.ops =
+        ap (λ (ops : List Operation). drop (count_at which begin) ops) e in
+        let y : between begin.nv end.nv later.ops ≡ between begin.nv end.nv nv.ops = ap (λ (ops : List Operation). drop begin.nv ops) f in
+        record {
+          forth = p.forth;
+          forth_store = p.forth_store;
+          done = omega (arith, p.done, m);
+          done_store = omega (arith, p.done_store, n);
+          spared = rw (u, v, x, y) p.spared;
+        }
+
+  longer : (past : Past) (op : Operation) → length past.ops ≤ length (with_op past op).ops
+  longer past op = omega (arith, length-append past.ops (op ∷ []))
+
+  later_mine : (mine nv : Past) (op : Operation) (begin end : Counts) → IsKept accepts which mine nv begin end → IsKept accepts which (with_op mine op) nv begin end
+  later_mine mine nv op begin end p =
+      same_kept mine (with_op mine op) nv nv begin end refl refl
+      (take-append-le (count_at which end) mine.ops (op ∷ []) p.done) refl (longer mine op) (omega arith) p
+
+  later_store : (mine nv : Past) (op : Operation) (begin end : Counts) → IsKept accepts which mine nv begin end → IsKept accepts which mine (with_op nv op) begin end
+  later_store mine nv op begin end p =
+      same_kept mine mine nv (with_op nv op) begin end refl refl
+      refl (take-append-le end.nv nv.ops (op ∷ []) p.done_store) (omega arith) (longer nv op) p
+
+  -- ---- a span that is open goes on
+  -- the operations from a count on, with one more
+  one_more : (ops : List Operation) (op : Operation) (begin here there : ℕ) → begin ≤ here → here ≡ length ops → there ≡ length (ops ++ op ∷ [])
+      → between begin there (ops ++ op ∷ []) ≡ between begin here ops ++ op ∷ []
+  one_more ops op begin here there forth h t =
+      ap (λ (xs : List Operation). drop begin xs) (take_all there (ops ++ op ∷ []) (omega (arith, t)))
+      ∙ drop-append-le begin ops (op ∷ []) (omega (arith, forth, h))
+      ∙ ap (λ (xs : List Operation). drop begin xs ++ op ∷ []) (sym (take_all here ops (omega (arith, h))))
+
+  grown_mine : (mine nv : Past) (op : Operation) (begin here there : Counts) → count_at which here ≡ length mine.ops → count_at which there ≡ length (with_op mine op).ops → there.nv ≡ here.nv
+      → ((t : IsTrustedAt accepts which mine nv begin) → LeavesBank which t.fuses t.manifest op) → IsKept accepts which mine nv begin here → IsKept accepts which (with_op mine op) nv begin there
+  grown_mine mine nv op begin here there h t same spares p =
+      let more : length (with_op mine op).ops ≡ length mine.ops + 1 = length-append mine.ops (op ∷ []) in
+      let within : count_at which begin ≤ length mine.ops = omega (arith, p.forth, h) in
+      let u : past_upto (with_op mine op) (count_at which begin) ≡ past_upto mine (count_at which begin) =
+      ap (λ (ops : List Operation). play mine.start ops) (take-append-le (count_at which begin) mine.ops (op ∷ []) within) in
+      let x : between (count_at which begin) (count_at which there) (with_op mine op).ops ≡ between (count_at which begin) (count_at which here) mine.ops ++ op ∷ [] =
+      one_more mine.ops op (count_at which begin) (count_at which here) (count_at which there) p.forth h t in
+      let y : between begin.nv there.nv nv.ops ≡ between begin.nv here.nv nv.ops = ap (λ (n : ℕ). between begin.nv n nv.ops) same in
+      let grown : SpareTrust accepts which (past_upto mine (count_at which begin)) (past_upto nv begin.nv)
+      (between (count_at which begin) (count_at which here) mine.ops ++ op ∷ []) (between begin.nv here.nv nv.ops) =
+      record {
+        each = λ trust.
+            let all = p.spared.each trust in
+            let one = spares trust in
+            record {
+              image = All-push (LeavesImage (layout_of trust.fuses.provision which) trust.manifest) _ op all.image one.image;
+              recovery = All-push (Leaves (layout_of trust.fuses.provision which).recovery_at (layout_of trust.fuses.provision which).area_len) _ op all.recovery one.recovery;
+              store = all.store;
+            };
+      } in
+      record {
+        forth = omega (arith, p.forth, h, t, more);
+        forth_store = omega (arith, p.forth_store, same);
+        done = omega (arith, t);
+        done_store = omega (arith, p.done_store, same);
+        spared = rw (u, x, y) grown;
+      }
+
+  grown_store : (mine nv : Past) (op : Operation) (begin here there : Counts) → here.nv ≡ length nv.ops → there.nv ≡ length (with_op nv op).ops → count_at which there ≡ count_at which here
+      → ((t : IsTrustedAt accepts which mine nv begin) → LeavesStore t.fuses which op) → IsKept accepts which mine nv begin here → IsKept accepts which mine (with_op nv op) begin there
+  grown_store mine nv op begin here there h t same spares p =
+      let more : length (with_op nv op).ops ≡ length nv.ops + 1 = length-append nv.ops (op ∷ []) in
+      let within : begin.nv ≤ length nv.ops = omega (arith, p.forth_store, h) in
+      let u : past_upto (with_op nv op) begin.nv ≡ past_upto nv begin.nv =
+      ap (λ (ops : List Operation). play nv.start ops) (take-append-le begin.nv nv.ops (op ∷ []) within) in
+      let x : between begin.nv there.nv (with_op nv op).ops ≡ between begin.nv here.nv nv.ops ++ op ∷ [] = one_more nv.ops op begin.nv here.nv there.nv p.forth_store h t in
+      let y : between (count_at which begin) (count_at which there) mine.ops ≡ between (count_at which begin) (count_at which here) mine.ops =
+      ap (λ (n : ℕ). between (count_at which begin) n mine.ops) same in
+      let grown : SpareTrust accepts which (past_upto mine (count_at which begin)) (past_upto nv begin.nv)
+      (between (count_at which begin) (count_at which here) mine.ops) (between begin.nv here.nv nv.ops ++ op ∷ []) =
+      record {
+        each = λ trust.
+            let all = p.spared.each trust in
+            record { image = all.image; recovery = all.recovery; store = All-push (LeavesStore trust.fuses which) _ op all.store (spares trust) };
+      } in
+      record {
+        forth = omega (arith, p.forth, same);
+        forth_store = omega (arith, p.forth_store, h, t, more);
+        done = omega (arith, p.done, same);
+        done_store = omega (arith, t);
+        spared = rw (u, x, y) grown;
+      }
+
+  -- one that begins now
+  begins_now : (mine nv : Past) (here : Counts) → count_at which here ≡ length mine.ops → here.nv ≡ length nv.ops → IsKept accepts which mine nv here here
+  begins_now mine nv here m n =
+      let c : between (count_at which here) (count_at which here) mine.ops ≡ [] =
+      ap (λ (ops : List Operation). drop (count_at which here) ops) (take_all (count_at which here) mine.ops (omega (arith, m))) ∙ drop_of_length-le mine.ops (omega (arith, m)) in
+      let d : between here.nv here.nv nv.ops ≡ [] =
+      ap (λ (ops : List Operation). drop here.nv ops) (take_all here.nv nv.ops (omega (arith, n))) ∙ drop_of_length-le nv.ops (omega (arith, n)) in
+      let none : SpareTrust accepts which (past_upto mine (count_at which here)) (past_upto nv here.nv) [] [] =
+      record {
+        each = λ trust. record { image = λ k x h. absurd (omega (arith, h)); recovery = λ k x h. absurd (omega (arith, h)); store = λ k x h. absurd (omega (arith, h)) };
+      } in
+      record {
+        forth = omega arith;
+        forth_store = omega arith;
+        done = omega (arith, m);
+        done_store = omega (arith, n);
+        spared = rw (c, d) none;
+      }
+
+  -- ---- the spans of a story
+  -- the bank's span that began here is open, in a store that is settled
+  pub record IsOpen (story : Story) (begin : Counts) : Type 0 where
+    pub kept : IsKept accepts which (past_at (device_of which) story) story.nv begin (counts_of story)
+    pub settled : IsSettled (image_at device.Nv story)
+
+  pub record Kept (story : Story) : Type 0 where
+    pub closed : AllEnded (IsKept accepts which (past_at (device_of which) story) story.nv) (ended_from which [] story.notes)
+    pub opened : AllOpen (IsOpen story) (opens_from which [] story.notes)
+
+  -- What an operation has to leave of a span that is open.
+  pub record SparesOpen (at : Device) (op : Operation) (story : Story) (begin : Counts) : Type 0 where
+    pub spares : (t : IsTrustedAt accepts which (past_at (device_of which) story) story.nv begin) → Spares which at t.fuses t.manifest op
+    pub settled : IsSettled (image_at device.Nv (operated at op story))
+
+  -- A move that keeps the bank's spans.
+  abbrev pub KeepsSpans : Rule
+  KeepsSpans (Says w) story = IsTimely (w (counts_of story)) (counts_of story) × IsSettledWhere (w (counts_of story)) (image_at device.Nv story)
+  KeepsSpans (Does at op) story = AllOpen (SparesOpen at op story) (opens_from which [] story.notes)
+  KeepsSpans (Asks at) story = Unit {0}
+
+  -- spans that are kept are spans, where the bank is trusted at each begin
+  is_span : (mine nv : Past) (begin end : Counts) → IsKept accepts which mine nv begin end → IsTrustedAt accepts which mine nv begin → IsSpan accepts which mine nv begin end
+  is_span mine nv begin end k t =
+      let all = k.spared.each t in
+      record {
+        forth = k.forth;
+        forth_store = k.forth_store;
+        done = k.done;
+        done_store = k.done_store;
+        trusted = t;
+        image = all.image;
+        recovery = all.recovery;
+        store = all.store;
+        throughout = trusted_between accepts which mine.start nv.start mine.ops nv.ops (count_at which begin) (count_at which end) begin.nv end.nv t all.image all.store;
+      }
+
+  are_spans : (mine nv : Past) (spans : List (Counts × Counts)) → AllEnded (IsKept accepts which mine nv) spans → AllEnded (λ begin end. IsTrustedAt accepts which mine nv begin) spans
+      → AllSpans accepts which mine nv spans
+  are_spans mine nv [] k t = tt
+  are_spans mine nv (span ∷ spans) k t = (is_span mine nv span.0 span.1 k.0 t.0, are_spans mine nv spans k.1 t.1)
+
+  pub ReleasedSpans-kept : (story : Story) → Kept story
+      → ((svn : ℕ) (at : Counts) → IsNoted story.notes (what.Released which svn at) → IsTrustedAt accepts which (past_at (device_of which) story) story.nv at) → ReleasedSpans accepts which story
+  ReleasedSpans-kept story k trusts =
+      let mine : Past = past_at (device_of which) story in
+      let here : Counts = counts_of story in
+      let opens : List Counts = opens_from which [] story.notes in
+      let P : Counts → Type 0 = IsTrustedAt accepts which mine story.nv in
+      let b = begins which (IsTrustedAt accepts which mine story.nv) [] story.notes tt trusts in
+      are_spans mine story.nv (ended_from which [] story.notes ++ closes here opens)
+      (ended_append (IsKept accepts which mine story.nv) (ended_from which [] story.notes) (closes here opens) k.closed
+      (ended_closes (IsKept accepts which mine story.nv) here opens (open_map (IsOpen story) (λ begin. IsKept accepts which mine story.nv begin here) (λ begin o. o.kept) opens k.opened)))
+      (ended_append (λ begin end. IsTrustedAt accepts which mine story.nv begin) (ended_from which [] story.notes) (closes here opens) b.0
+      (ended_closes (λ begin end. IsTrustedAt accepts which mine story.nv begin) here opens b.1))
+
+  -- either no span of the bank is open, or the store is settled
+  pub none_or_settled : (story : Story) → Kept story → (opens_from which [] story.notes ≡ []) ⊎ IsSettled (image_at device.Nv story)
+  none_or_settled story k = by_opens (opens_from which [] story.notes) k.opened
+    where
+      by_opens : (opens : List Counts) → AllOpen (IsOpen story) opens → (opens ≡ []) ⊎ IsSettled (image_at device.Nv story)
+      by_opens [] p = inl refl
+      by_opens (begin ∷ begins) p = inr p.0.settled
+
+-- ---- moves that keep spans keep them
+module _ (accepts : Acceptance) where
+  -- what a note leaves, by the spans and the open ones before
+  noted_kept : (which : Bank) (w : Counts → What) (story : Story) → count_at which (counts_of story) ≡ length (past_at (device_of which) story).ops → KeepsSpans accepts which (Says w) story
+      → Kept accepts which story
+      → AllEnded (IsKept accepts which (past_at (device_of which) story) story.nv) (ended_from which [] (noted w story).notes) × AllOpen (IsOpen accepts which story) (opens_from which [] (noted w story).notes)
+  noted_kept which w story same g k =
+      let here : Counts = counts_of story in
+      let mine : Past = past_at (device_of which) story in
+      let note : Note = record { item = story.item; what = w here } in
+      let q = noted_all which (IsKept accepts which mine story.nv) (IsOpen accepts which story) here (λ begin o. o.kept) (w here) (image_at device.Nv story) g.0 g.1
+      (λ settled. record { kept = begins_now accepts which mine story.nv here same refl; settled = settled })
+      (ended_from which [] story.notes) (opens_from which [] story.notes) (k.closed, k.opened) in
+      rw (ended_push which [] story.notes note, opens_push which [] story.notes note) q
+
+  pub Kept-moves : (which : Bank) → Keeps (KeepsSpans accepts which) (Kept accepts which)
+  Kept-moves bank.Bmc (Says w) story g k =
+      let q = noted_kept bank.Bmc w story refl g k in
+      record { closed = q.0; opened = open_map (IsOpen accepts bank.Bmc story) (IsOpen accepts bank.Bmc (noted w story)) (λ begin o. record { kept = o.kept; settled = o.settled }) _ q.1 }
+  Kept-moves bank.Pch (Says w) story g k =
+      let q = noted_kept bank.Pch w story refl g k in
+      record { closed = q.0; opened = open_map (IsOpen accepts bank.Pch story) (IsOpen accepts bank.Pch (noted w story)) (λ begin o. record { kept = o.kept; settled = o.settled }) _ q.1 }
+  Kept-moves bank.Bmc (Does device.Bmc op) story g k = record {
+    closed = ended_map _ _ (λ begin end p. later_mine accepts bank.Bmc story.bmc story.nv op begin end p) _ k.closed;
+    opened = open_both _ _ _ (λ begin o s. record { kept = grown_mine accepts bank.Bmc story.bmc story.nv op begin _ _ refl refl refl s.spares o.kept; settled = s.settled }) _ k.opened g;
+  }
+  Kept-moves bank.Pch (Does device.Pch op) story g k = record {
+    closed = ended_map _ _ (λ begin end p. later_mine accepts bank.Pch story.pch story.nv op begin end p) _ k.closed;
+    opened = open_both _ _ _ (λ begin o s. record { kept = grown_mine accepts bank.Pch story.pch story.nv op begin _ _ refl refl refl s.spares o.kept; settled = s.settled }) _ k.opened g;
+  }
+  Kept-moves bank.Bmc (Does device.Nv op) story g k = record {
+    closed = ended_map _ _ (λ begin end p. later_store accepts bank.Bmc story.bmc story.nv op begin end p) _ k.closed;
+    opened = open_both _ _ _ (λ begin o s. record { kept = grown_store accepts bank.Bmc story.bmc story.nv op begin _ _ refl refl refl s.spares o.kept; settled = s.settled }) _ k.opened g;
+  }
+  Kept-moves bank.Pch (Does device.Nv op) story g k = record {
+    closed = ended_map _ _ (λ begin end p. later_store accepts bank.Pch story.pch story.nv op begin end p) _ k.closed;
+    opened = open_both _ _ _ (λ begin o s. record { kept = grown_store accepts bank.Pch story.pch story.nv op begin _ _ refl refl refl s.spares o.kept; settled = s.settled }) _ k.opened g;
+  }
+  Kept-moves bank.Bmc (Does device.Pch op) story g k = record {
+    closed = k.closed;
+    opened = open_both _ _ _ (λ begin o s. record { kept = elsewhere bank.Bmc begin o.kept; settled = s.settled }) _ k.opened g;
+  }
+    where
+      elsewhere : (which : Bank) (begin : Counts) → IsKept accepts bank.Bmc story.bmc story.nv begin (counts_of story) → IsKept accepts bank.Bmc story.bmc story.nv begin (counts_of (operated device.Pch op story))
+      elsewhere which begin p = record { forth = p.forth; forth_store = p.forth_store; done = p.done; done_store = p.done_store; spared = p.spared }
+  Kept-moves bank.Pch (Does device.Bmc op) story g k = record {
+    closed = k.closed;
+    opened = open_both _ _ _ (λ begin o s. record { kept = elsewhere begin o.kept; settled = s.settled }) _ k.opened g;
+  }
+    where
+      elsewhere : (begin : Counts) → IsKept accepts bank.Pch story.pch story.nv begin (counts_of story) → IsKept accepts bank.Pch story.pch story.nv begin (counts_of (operated device.Bmc op story))
+      elsewhere begin p = record { forth = p.forth; forth_store = p.forth_store; done = p.done; done_store = p.done_store; spared = p.spared }
+  Kept-moves which (Asks at) story g k = k

@@ -1,0 +1,350 @@
+-- Each step keeps the spans.
+use Rattle.std.proofs.Common.{◌≡◌, ◌∙◌, ℕ, ◌+◌, refl, sym, ap, subst, List, [], ◌∷◌, length, ◌⊎◌, inl, inr, Result, Ok, Err, true, false, Bool}
+use Rattle.std.proofs.lemmas.Bool.{false≢true}
+use Rattle.pfr_flash.specs.Operation.{Operation, play}
+use Rattle.pfr_flash.specs.declared.layout.LayoutRule.{LayoutRule}
+use Rattle.pfr_flash.specs.Judging.{◌>>◌, told_as}
+use Rattle.pfr_flash.specs.Layout.{judge_layout}
+use Rattle.pfr_flash.specs.declared.names.Bank.{Bank}
+use Rattle.pfr_flash.specs.declared.names.Bank.TheVariants as bank
+use Rattle.pfr_flash.specs.declared.names.Counts.{Counts}
+use Rattle.pfr_flash.specs.declared.names.Device.{Device}
+use Rattle.pfr_flash.specs.declared.names.Device.TheVariants as device
+use Rattle.pfr_flash.proofs.PlayLemmas.{length-play}
+use Rattle.pfr_engine.specs.Acceptance.{Acceptance}
+use Rattle.pfr_fuses.specs.Changes.{migration}
+use Rattle.pfr_fuses.specs.FusesState.{FusesState}
+use Rattle.pfr_fuses.specs.FusesOf.{fuses_of}
+use Rattle.pfr_fuses.specs.Provisioning.{judge_provision, provision_plan}
+use Rattle.pfr_fuses.specs.RootSlot.{layout_of}
+use Rattle.pfr_fuses.specs.declared.fuse_fail.FuseFail.{FuseFail}
+use Rattle.pfr_fuses.specs.declared.fuse_fail.FuseFail.TheVariants.{AlreadyProvisioned}
+use Rattle.pfr_fuses.specs.declared.profile.Profile.{Profile}
+use Rattle.pfr_fuses.specs.declared.profile.Profile.TheVariants.{One, Two}
+use Rattle.pfr_fuses.specs.declared.root_slot.RootSlot.{RootSlot}
+use Rattle.pfr_manifest.specs.declared.manifest.Manifest.{Manifest}
+use Rattle.pfr_capsule.specs.CapsuleState.{CapsuleState}
+use Rattle.pfr_capsule.specs.declared.fail.CapsuleFail.{CapsuleFail}
+use Rattle.pfr_auth.specs.declared.fail.ActiveFail.{ActiveFail}
+use Rattle.pfr_script.specs.declared.event.Event.{Event}
+use Rattle.pfr_script.specs.declared.event.Event.TheVariants as event
+use Rattle.pfr_report.specs.declared.note.LockWhy.TheVariants as why
+use Rattle.pfr_report.specs.declared.note.Note.{Note}
+use Rattle.pfr_report.specs.declared.note.What.{What}
+use Rattle.pfr_report.specs.declared.note.What.TheVariants as what
+use Rattle.pfr_story.specs.Guards.{same_bank}
+use Rattle.pfr_story.specs.Story.{Story, Move, Says, Does, Asks, after, moved_by, noted, operated, counts_of, device_of, called, says}
+use Rattle.pfr_story.specs.World.{World, story_of}
+use Rattle.pfr_story.specs.Safety.{Rule, AllGood, AllSafe, Keeps, Both, Leads}
+use Rattle.pfr_story.specs.Spans.{opens_after, opens_from}
+use Rattle.pfr_story.specs.Standing.{standing_of, is_off}
+use Rattle.pfr_story.specs.Plans.{mine, store, asks, ready_in, judged_active, judged_recovery, restore_ops, copied, restored, by_second, checked_again, by_recovery, recovered, by_active, tail, by_ready, brought_up, migration_by, migration_in, migrated, provisioned_in, provisioned}
+use Rattle.pfr_story.specs.Course.{Stretch, Course, Follows}
+use Rattle.pfr_story.specs.Turn.{fault_of, bank_stretch, fuse_stretch, provision_stretch, where_off, ignored, off_course, power_course, provision_course, begun, Turn}
+use Rattle.pfr_story.proofs.WorldLaws.{AllMoved-refl}
+use Rattle.pfr_story.proofs.SafetyLaws.{AllSafe-append, Leads-then, safe_whole, safe_cut, kept_by}
+use Rattle.pfr_story.proofs.CallLaws.{notes_operated}
+use Rattle.pfr_story.proofs.RestoreLaws.{image_called}
+use Rattle.pfr_story.proofs.Traces.{Traced, Traced-keeps}
+use Rattle.pfr_story.proofs.StepTraces.{IsGoodStretch, AreGood, AreGood-none, AreGood-next, Follows-good}
+use Rattle.pfr_story.proofs.FuseLaws.{profile_migrated, profile_kept, provisioned_refused}
+use Rattle.pfr_story.proofs.SpanLaws.{IsSettled, open_none, open_any, open_map, opens_push, IsOpen, Kept, SparesOpen, KeepsSpans, Kept-moves, none_or_settled}
+
+abbrev pub Any : Story → Type 0
+Any story = Unit {0}
+
+-- a store that can be read is of profile 2
+abbrev pub NotOne : List ℕ → Type 0
+NotOne nv = (fuses : FusesState) → fuses_of nv ≡ Ok fuses → fuses.profile ≡ Two
+
+-- ---- the fuses are migrated
+settled_none : (nv : List ℕ) → IsSettled nv → migration_in (fuses_of nv) ≡ []
+settled_none nv q = rw (q.provisioned, q.two) refl
+
+profile_left : (nv : List ℕ) (fuses : FusesState) (p : Profile) → length nv ≡ 32768 → fuses_of nv ≡ Ok fuses → fuses.profile ≡ p → NotOne (play nv (migration_by p fuses))
+profile_left nv fuses One size f e = λ other g. profile_kept (play nv (migration fuses)) other g ∙ profile_migrated nv fuses size
+profile_left nv fuses Two size f e = λ other g.
+    let same : fuses ≡ other = (let both : Ok fuses ≡ Ok other = sym f ∙ g in cc) in
+    ap (λ (x : FusesState). x.profile) (sym same) ∙ e
+
+not_one_in : (nv : List ℕ) (read : Result FusesState FuseFail) → length nv ≡ 32768 → fuses_of nv ≡ read → NotOne (play nv (migration_in read))
+not_one_in nv (Ok fuses) size f = profile_left nv fuses fuses.profile size f refl
+not_one_in nv (Err cause) size f = λ other g. absurd (let never : Err cause ≡ Ok other = sym f ∙ g in cc)
+
+not_one_then : (story : Story) → length story.nv.start ≡ 32768 → NotOne (store (after (migrated story) story))
+not_one_then story size =
+    subst NotOne (sym (image_called device.Nv (migration_in (fuses_of (store story))) story))
+    (not_one_in (store story) (fuses_of (store story)) (length-play story.nv.start story.nv.ops ∙ size) refl)
+
+-- no operation of the store
+abbrev pub LeavesNv : Rule
+LeavesNv (Says w) story = Unit {0}
+LeavesNv (Does device.Bmc op) story = Unit {0}
+LeavesNv (Does device.Pch op) story = Unit {0}
+LeavesNv (Does device.Nv op) story = ⊥
+LeavesNv (Asks at) story = Unit {0}
+
+-- what is safe for two rules is for the first
+safe_first : (G H : Rule) (moves : List Move) (story : Story) → AllSafe (Both G H) moves story → AllSafe G moves story
+safe_first G H [] story p = tt
+safe_first G H (Says w ∷ moves) story p = (p.0.0, safe_first G H moves (moved_by (Says w) story) p.1)
+safe_first G H (Does at op ∷ moves) story p = ((p.0.0.0, λ done t. (p.0.1 done t).0), safe_first G H moves (moved_by (Does at op) story) p.1)
+safe_first G H (Asks at ∷ moves) story p = (p.0.0, safe_first G H moves (moved_by (Asks at) story) p.1)
+
+module _ (accepts : Acceptance) (which : Bank) where
+  -- calls where no span is open
+  idle_safe : (at : Device) (ops : List Operation) (story : Story) → opens_from which [] story.notes ≡ [] → AllSafe (KeepsSpans accepts which) (called at ops) story
+  idle_safe at [] story e = (tt, tt)
+  idle_safe at (op ∷ ops) story e = (
+    (open_none (SparesOpen accepts which at op story) (opens_from which [] story.notes) e, λ done t. open_none (SparesOpen accepts which at done story) (opens_from which [] story.notes) e),
+    idle_safe at ops (operated at op story) (ap (λ (notes : List Note). opens_from which [] notes) (notes_operated at op story) ∙ e),
+  )
+
+  -- ---- a bank is brought up
+  abbrev InWork : Rule
+  InWork = Both (KeepsSpans accepts which) LeavesNv
+
+  -- Bank b is in work: no span of this bank is open, or it is the other one; and the store is settled.
+  record AtWork (b : Bank) (story : Story) : Type 0 where
+    pub idle : (opens_from which [] story.notes ≡ []) ⊎ (same_bank which b ≡ false)
+    pub settled : IsSettled (store story)
+
+  held_idle : (w b : Bank) (story : Story) → (opens_from w [] (noted (what.Held b) story).notes ≡ []) ⊎ (same_bank w b ≡ false)
+  held_idle bank.Bmc bank.Bmc story = inl (opens_push bank.Bmc [] story.notes (record { item = story.item; what = what.Held bank.Bmc (counts_of story) }))
+  held_idle bank.Bmc bank.Pch story = inr refl
+  held_idle bank.Pch bank.Bmc story = inr refl
+  held_idle bank.Pch bank.Pch story = inl (opens_push bank.Pch [] story.notes (record { item = story.item; what = what.Held bank.Pch (counts_of story) }))
+
+  -- an operation of the bank in work
+  spared_at : (w b : Bank) (op : Operation) (story : Story) → (opens_from w [] story.notes ≡ []) ⊎ (same_bank w b ≡ false) → IsSettled (store story)
+      → KeepsSpans accepts w (Does (device_of b) op) story
+  spared_at w b op story (inl e) q = open_none (SparesOpen accepts w (device_of b) op story) (opens_from w [] story.notes) e
+  spared_at bank.Bmc bank.Bmc op story (inr other) q = absurd cc
+  spared_at bank.Bmc bank.Pch op story (inr other) q = open_any (SparesOpen accepts bank.Bmc device.Pch op story) (λ begin. record { spares = λ t. tt; settled = q }) (opens_from bank.Bmc [] story.notes)
+  spared_at bank.Pch bank.Bmc op story (inr other) q = open_any (SparesOpen accepts bank.Pch device.Bmc op story) (λ begin. record { spares = λ t. tt; settled = q }) (opens_from bank.Pch [] story.notes)
+  spared_at bank.Pch bank.Pch op story (inr other) q = absurd cc
+
+  leaves_nv : (b : Bank) (op : Operation) (story : Story) → LeavesNv (Does (device_of b) op) story
+  leaves_nv bank.Bmc op story = tt
+  leaves_nv bank.Pch op story = tt
+
+  op_safe : (b : Bank) (op : Operation) (story : Story) → AtWork b story → InWork (Does (device_of b) op) story
+  op_safe b op story w = (spared_at which b op story w.idle w.settled, leaves_nv b op story)
+
+  op_work : (b : Bank) (op : Operation) (story : Story) → AtWork b story → AtWork b (operated (device_of b) op story)
+  op_work bank.Bmc op story w = record { idle = w.idle; settled = w.settled }
+  op_work bank.Pch op story w = record { idle = w.idle; settled = w.settled }
+
+  ops_safe : (b : Bank) (ops : List Operation) (story : Story) → AtWork b story → AllSafe InWork (called (device_of b) ops) story
+  ops_safe b [] story w = ((tt, tt), tt)
+  ops_safe b (op ∷ ops) story w = ((op_safe b op story w, λ done t. op_safe b done story w), ops_safe b ops (operated (device_of b) op story) (op_work b op story w))
+
+  ops_work : (b : Bank) (ops : List Operation) (story : Story) → AtWork b story → AtWork b (after (called (device_of b) ops) story)
+  ops_work b [] story w = w
+  ops_work b (op ∷ ops) story w = ops_work b ops (operated (device_of b) op story) (op_work b op story w)
+
+  -- a note that neither opens nor ends a span
+  still_work : (b : Bank) (w : Counts → What) (story : Story) → ((opens : List Counts) → opens_after which (w (counts_of story)) opens ≡ opens) → AtWork b story → AtWork b (noted w story)
+  still_work b w story still p =
+      let note : Note = record { item = story.item; what = w (counts_of story) } in
+      record {
+        idle = elim p.idle [
+          | inl e ↦ inl (opens_push which [] story.notes note ∙ still (opens_from which [] story.notes) ∙ e)
+          | inr other ↦ inr other
+        ];
+        settled = p.settled;
+      }
+
+  module _ (b : Bank) where
+    asks_leads : Leads InWork (AtWork b) (asks b) (AtWork b)
+    asks_leads = record { safe = λ story w. ((tt, tt), tt); ends = λ story w. w }
+
+    restored_leads : (level : ℕ) (fuses : FusesState) (capsule : CapsuleState) → Leads InWork (AtWork b) (restored b level fuses capsule) (AtWork b)
+    restored_leads level fuses capsule =
+        Leads-then InWork (AtWork b) (AtWork b) (AtWork b) (copied b level fuses capsule) (says (λ _. what.Restored b level))
+        (record {
+          safe = λ story w. ops_safe b (restore_ops level (mine b story) capsule (layout_of fuses.provision b)) story w;
+          ends = λ story w. ops_work b (restore_ops level (mine b story) capsule (layout_of fuses.provision b)) story w;
+        })
+        (record { safe = λ story w. (((tt, tt), tt), tt); ends = λ story w. still_work b (λ _. what.Restored b level) story (λ opens. refl) w })
+
+    second_safe : (judged : Result Manifest ActiveFail) (story : Story) → AtWork b story → AllSafe InWork (by_second b judged story) story
+    second_safe (Ok m) story w = (((refl, w.settled), tt), tt)
+    second_safe (Err cause) story w = tt
+
+    again_leads : (fuses : FusesState) → Leads InWork (AtWork b) (checked_again accepts b fuses) Any
+    again_leads fuses =
+        Leads-then InWork (AtWork b) (AtWork b) Any (asks b) (λ story. by_second b (judged_active accepts b fuses story) story) asks_leads
+        (record { safe = λ story w. second_safe (judged_active accepts b fuses story) story w; ends = λ story w. tt })
+
+    recovery_safe : (fuses : FusesState) (cause : ActiveFail) (judged : Result CapsuleState CapsuleFail) (story : Story) → AtWork b story → AllSafe InWork (by_recovery accepts b fuses cause judged story) story
+    recovery_safe fuses cause (Ok capsule) story w =
+        (Leads-then InWork (AtWork b) (AtWork b) Any (restored b 1 fuses capsule) (checked_again accepts b fuses) (restored_leads 1 fuses capsule) (again_leads fuses)).safe story w
+    recovery_safe fuses cause (Err other) story w = (((refl, tt), tt), tt)
+
+    recovered_leads : (fuses : FusesState) (cause : ActiveFail) → Leads InWork (AtWork b) (recovered accepts b fuses cause) Any
+    recovered_leads fuses cause =
+        Leads-then InWork (AtWork b) (AtWork b) Any (asks b) (λ story. by_recovery accepts b fuses cause (judged_recovery accepts b fuses story) story) asks_leads
+        (record { safe = λ story w. recovery_safe fuses cause (judged_recovery accepts b fuses story) story w; ends = λ story w. tt })
+
+    active_safe : (fuses : FusesState) (judged : Result Manifest ActiveFail) (story : Story) → AtWork b story → AllSafe InWork (by_active accepts b fuses judged story) story
+    active_safe fuses (Ok m) story w = (((refl, w.settled), tt), tt)
+    active_safe fuses (Err cause) story w =
+        (((tt, tt), tt), (recovered_leads fuses cause).safe (noted (λ _. what.Untrusted b cause) story) (still_work b (λ _. what.Untrusted b cause) story (λ opens. refl) w))
+
+    tail_leads : (fuses : FusesState) → Leads InWork (AtWork b) (tail accepts b fuses) Any
+    tail_leads fuses =
+        Leads-then InWork (AtWork b) (AtWork b) Any (asks b) (λ story. by_active accepts b fuses (judged_active accepts b fuses story) story) asks_leads
+        (record { safe = λ story w. active_safe fuses (judged_active accepts b fuses story) story w; ends = λ story w. tt })
+
+    layout_safe : (fuses : FusesState) (judged : Result (Unit {0}) LayoutRule) (story : Story) → AtWork b story
+        → AllSafe InWork (by_ready accepts b (told_as (λ rule. why.Layout rule) judged >> Ok fuses) story) story
+    layout_safe fuses (Ok valid) story w = (tail_leads fuses).safe story w
+    layout_safe fuses (Err rule) story w = (((refl, tt), tt), tt)
+
+    ready_safe : (read : Result FusesState FuseFail) (story : Story) → fuses_of (store story) ≡ read → NotOne (store story) → (opens_from which [] story.notes ≡ []) ⊎ (same_bank which b ≡ false)
+        → AllSafe InWork (by_ready accepts b (ready_in b (length (mine b story)) read) story) story
+    ready_safe (Ok fuses) story f two idle =
+        layout_safe fuses (judge_layout (layout_of fuses.provision b) (length (mine b story))) story
+        (record { idle = idle; settled = record { fuses = fuses; provisioned = f; two = two fuses f } })
+    ready_safe (Err cause) story f two idle = (((refl, tt), tt), tt)
+
+    brought_safe : (story : Story) → NotOne (store story) → AllSafe InWork (brought_up accepts b story) story
+    brought_safe story two =
+        let held : Story = noted (what.Held b) story in
+        (((refl, tt), tt), ((tt, tt), ready_safe (fuses_of (store held)) held refl two (held_idle which b story)))
+
+  -- ---- the stretches
+  -- the spans are kept, before the fuses are read, and behind that
+  record Early (story : Story) : Type 0 where
+    pub kept : Kept accepts which story
+    pub size : length story.nv.start ≡ 32768
+
+  record Late (story : Story) : Type 0 where
+    pub kept : Kept accepts which story
+    pub two : NotOne (store story)
+
+  late_moves : Keeps InWork Late
+  late_moves (Says w) story g p = record { kept = Kept-moves accepts which (Says w) story g.0 p.kept; two = p.two }
+  late_moves (Does device.Bmc op) story g p = record { kept = Kept-moves accepts which (Does device.Bmc op) story g.0 p.kept; two = p.two }
+  late_moves (Does device.Pch op) story g p = record { kept = Kept-moves accepts which (Does device.Pch op) story g.0 p.kept; two = p.two }
+  late_moves (Does device.Nv op) story g p = absurd g.1
+  late_moves (Asks at) story g p = p
+
+  module _ (first last : World) where
+    bank_kept : (b : Bank) → IsGoodStretch (KeepsSpans accepts which) first last Any Late (bank_stretch accepts b) Late
+    bank_kept b = record {
+      plan = record {
+        safe = λ story p. safe_first (KeepsSpans accepts which) LeavesNv (brought_up accepts b story) story (brought_safe b story p.1.two);
+        ends = λ story p. kept_by InWork Late late_moves (brought_up accepts b story) story (safe_whole InWork (brought_up accepts b story) story (brought_safe b story p.1.two)) p.1;
+      };
+      noted = λ at story trace p cut rose. ((refl, tt), tt);
+      on = λ at story trace p cut e.
+          let there = kept_by InWork Late late_moves trace story (safe_cut InWork at (brought_up accepts b story) trace story (brought_safe b story p.1.two) cut) p.1 in
+          late_moves (Says (what.Locked b (fault_of at))) (after trace story) ((refl, tt), tt) there;
+    }
+
+    migrated_safe : (story : Story) → Kept accepts which story → AllSafe (KeepsSpans accepts which) (migrated story) story
+    migrated_safe story k = (
+      tt,
+      elim (none_or_settled accepts which story k) [
+        | inl none ↦ idle_safe device.Nv (migration_in (fuses_of (store story))) story none
+        | inr q ↦ subst (λ (ops : List Operation). AllSafe (KeepsSpans accepts which) (called device.Nv ops) story) (sym (settled_none (store story) q)) (tt, tt)
+      ],
+    )
+
+    fuse_kept : IsGoodStretch (KeepsSpans accepts which) first last Any Early fuse_stretch Late
+    fuse_kept = record {
+      plan = record {
+        safe = λ story p. migrated_safe story p.1.kept;
+        ends = λ story p. record {
+          kept = kept_by (KeepsSpans accepts which) (Kept accepts which) (Kept-moves accepts which) (migrated story) story
+              (safe_whole (KeepsSpans accepts which) (migrated story) story (migrated_safe story p.1.kept)) p.1.kept;
+          two = not_one_then story p.1.size;
+        };
+      };
+      noted = λ at story trace p cut rose. ((refl, tt), ((refl, tt), ((refl, tt), ((refl, tt), tt))));
+      on = λ at story trace p cut e. absurd (false≢true e);
+    }
+
+    tried_safe : (root : RootSlot) (judged : Result ℕ FuseFail) (story : Story) → (opens_from which [] story.notes ≡ []) ⊎ (judged ≡ Err AlreadyProvisioned)
+        → AllSafe (KeepsSpans accepts which) (provisioned_in root judged story) story
+    tried_safe root (Ok number) story (inl none) =
+        AllSafe-append (KeepsSpans accepts which) (called device.Nv (provision_plan number root)) (Says (λ _. what.Provisioned) ∷ []) story
+        (idle_safe device.Nv (provision_plan number root) story none) ((tt, tt), tt)
+    tried_safe root (Ok number) story (inr never) = absurd cc
+    tried_safe root (Err cause) story p = ((tt, tt), tt)
+
+    provisioned_safe : (root : RootSlot) (story : Story) → Kept accepts which story → AllSafe (KeepsSpans accepts which) (provisioned root story) story
+    provisioned_safe root story k = (
+      tt,
+      tried_safe root (judge_provision (store story) root (length story.bmc.start) (length story.pch.start)) story (elim (none_or_settled accepts which story k) [
+        | inl none ↦ inl none
+        | inr q ↦ inr (provisioned_refused (store story) root (length story.bmc.start) (length story.pch.start) q.fuses q.provisioned)
+      ]),
+    )
+
+    provision_kept : (root : RootSlot) → IsGoodStretch (KeepsSpans accepts which) first last Any Early (provision_stretch root) Any
+    provision_kept root = record {
+      plan = record { safe = λ story p. provisioned_safe root story p.1.kept; ends = λ story p. tt };
+      noted = λ at story trace p cut rose. ((refl, tt), ((refl, tt), tt));
+      on = λ at story trace p cut e. absurd (false≢true e);
+    }
+
+  -- ---- a whole step
+  module _ (old new : World) where
+    none : (P : Story → Type 0) → AreGood (KeepsSpans accepts which) (begun old) new P []
+    none P = AreGood-none (KeepsSpans accepts which) (begun old) new Any (λ w moved. tt) (λ at story fell. ((refl, tt), tt)) P
+
+    next : (P Q : Story → Type 0) (stretch : Stretch) (stretches : List Stretch) → IsGoodStretch (KeepsSpans accepts which) (begun old) new Any P stretch Q
+        → AreGood (KeepsSpans accepts which) (begun old) new Q stretches → AreGood (KeepsSpans accepts which) (begun old) new P (stretch ∷ stretches)
+    next P Q stretch stretches good rest = AreGood-next (KeepsSpans accepts which) (begun old) new Any (λ w moved. tt) (λ at story fell. ((refl, tt), tt)) P Q stretch stretches good rest
+
+    along : (P : Story → Type 0) (c : Course) → Follows c (begun old) new → AllGood (KeepsSpans accepts which) c.first (story_of (begun old)) → P (after c.first (story_of (begun old)))
+        → AreGood (KeepsSpans accepts which) (begun old) new P c.stretches → Traced (KeepsSpans accepts which) (begun old) new
+    along P c t first p stretches =
+        Follows-good (KeepsSpans accepts which) (begun old) new P c (begun old) new (record { before = AllMoved-refl (begun old); behind = AllMoved-refl new }) t first p stretches
+
+    ignored_kept : Follows ignored (begun old) new → Traced (KeepsSpans accepts which) (begun old) new
+    ignored_kept t = along Any ignored t ((tt, tt), tt) tt (none Any)
+
+    off_kept : (off : Bool) → Follows (where_off off ignored off_course) (begun old) new → Traced (KeepsSpans accepts which) (begun old) new
+    off_kept true t = ignored_kept t
+    off_kept false t = along Any off_course t ((refl, tt), tt) tt (none Any)
+
+    try_kept : (root : RootSlot) (off : Bool) → Early (story_of (begun old)) → Follows (where_off off ignored (provision_course root)) (begun old) new → Traced (KeepsSpans accepts which) (begun old) new
+    try_kept root true p t = ignored_kept t
+    try_kept root false p t = along Early (provision_course root) t tt p (next Early Any (provision_stretch root) [] (provision_kept (begun old) new root) (none Any))
+
+    power_kept : Early (story_of (begun old)) → Follows (power_course accepts) (begun old) new → Traced (KeepsSpans accepts which) (begun old) new
+    power_kept p t =
+        let bmc : Stretch = bank_stretch accepts bank.Bmc in
+        let pch : Stretch = bank_stretch accepts bank.Pch in
+        along Early (power_course accepts) t ((tt, tt), tt)
+        (record { kept = Kept-moves accepts which (Says (λ _. what.Power)) (story_of (begun old)) (tt, tt) p.kept; size = p.size })
+        (next Early Late fuse_stretch (bmc ∷ pch ∷ []) (fuse_kept (begun old) new)
+        (next Late Late bmc (pch ∷ []) (bank_kept (begun old) new bank.Bmc) (next Late Late pch [] (bank_kept (begun old) new bank.Pch) (none Late))))
+
+    Turn-early : (e : Event) → Early (story_of (begun old)) → Turn accepts e old new → Traced (KeepsSpans accepts which) (begun old) new
+    Turn-early event.Power p t = power_kept p t
+    Turn-early event.Off p t = off_kept (is_off (standing_of bank.Bmc old.notes.list)) t
+    Turn-early (event.Provision root) p t = try_kept root (is_off (standing_of bank.Bmc old.notes.list)) p t
+
+-- the number of the item says nothing of spans
+pub Kept-item : (accepts : Acceptance) (which : Bank) (n : ℕ) (story : Story) → Kept accepts which story → Kept accepts which (record story { item = n })
+Kept-item accepts bank.Bmc n story k = record {
+  closed = k.closed;
+  opened = open_map (IsOpen accepts bank.Bmc story) (IsOpen accepts bank.Bmc (record story { item = n })) (λ begin o. record { kept = o.kept; settled = o.settled }) (opens_from bank.Bmc [] story.notes) k.opened;
+}
+Kept-item accepts bank.Pch n story k = record {
+  closed = k.closed;
+  opened = open_map (IsOpen accepts bank.Pch story) (IsOpen accepts bank.Pch (record story { item = n })) (λ begin o. record { kept = o.kept; settled = o.settled }) (opens_from bank.Pch [] story.notes) k.opened;
+}
+
+-- Each step keeps the spans of each bank.
+pub Turn-spans : (accepts : Acceptance) (which : Bank) (e : Event) (old new : World) → Turn accepts e old new → length old.nv.start ≡ 32768
+    → Kept accepts which (story_of old) → Kept accepts which (story_of new)
+Turn-spans accepts which e old new t size k =
+    let here : Kept accepts which (story_of (begun old)) = Kept-item accepts which (old.item + 1) (story_of old) k in
+    Traced-keeps (KeepsSpans accepts which) (Kept accepts which) (Kept-moves accepts which) (begun old) new
+    (Turn-early accepts which old new e (record { kept = here; size = size }) t) here

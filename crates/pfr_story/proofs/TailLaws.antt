@@ -1,0 +1,263 @@
+-- What is noted of a bank that is brought up where no call fails.
+use Rattle.std.proofs.Common.{◌≡◌, ◌∙◌, ℕ, ◌+◌, ◌*◌, ◌/◌, ◌≤◌, refl, sym, ap, subst, arith, List, [], ◌∷◌, length, length-append, inl, inr, Result, Ok, Err}
+use Rattle.pfr_flash.specs.Bytes.{AreBytes}
+use Rattle.pfr_flash.specs.Layout.{IsBankSize, IsValidLayout}
+use Rattle.pfr_flash.specs.Operation.{Operation}
+use Rattle.pfr_flash.specs.declared.layout.Layout.{Layout}
+use Rattle.pfr_flash.specs.declared.names.Bank.{Bank}
+use Rattle.pfr_flash.specs.declared.names.Bank.TheVariants as bank
+use Rattle.pfr_flash.specs.declared.names.Counts.{Counts}
+use Rattle.pfr_flash.proofs.LayoutLemmas.{valid_judged}
+use Rattle.pfr_engine.specs.Acceptance.{Acceptance}
+use Rattle.pfr_fuses.specs.FusesState.{FusesState}
+use Rattle.pfr_fuses.specs.FusesOf.{fuses_of}
+use Rattle.pfr_fuses.specs.RootSlot.{layout_of}
+use Rattle.pfr_fuses.proofs.StandsLemmas.{fuses_of-blank, fuses_of-spent}
+use Rattle.pfr_manifest.specs.declared.manifest.Manifest.{Manifest}
+use Rattle.pfr_capsule.specs.CapsuleState.{CapsuleState}
+use Rattle.pfr_capsule.specs.Good.{StandForBank}
+use Rattle.pfr_capsule.specs.declared.fail.CapsuleFail.{CapsuleFail}
+use Rattle.pfr_capsule.proofs.GoodLaw.{good_found}
+use Rattle.pfr_auth.specs.Areas.{judge_area}
+use Rattle.pfr_auth.specs.Trusted.{IsTrusted}
+use Rattle.pfr_auth.specs.declared.areas.Area.TheVariants.{Recovery}
+use Rattle.pfr_auth.specs.declared.fail.ActiveFail.{ActiveFail}
+use Rattle.pfr_auth.proofs.TrustedLaw.{judged_trusted, stands_whole, trusted_judged}
+use Rattle.pfr_jobs.specs.declared.job.JobKind.TheVariants.{ActiveFromRecovery}
+use Rattle.pfr_rebuilt.specs.ActiveCopying.{active_page, active_pages}
+use Rattle.pfr_rebuilt.proofs.ActiveLaw.{active_few}
+use Rattle.pfr_strokes.proofs.ReplacedLaws.{strokes_of_few}
+use Rattle.pfr_recoverable.specs.Recoverable.{HasGoodRecovery}
+use Rattle.pfr_recoverable.proofs.StaysLaw.{fuses_one}
+use Rattle.pfr_report.specs.Texts.{IsNoted}
+use Rattle.pfr_report.specs.declared.note.LockWhy.{LockWhy}
+use Rattle.pfr_report.specs.declared.note.LockWhy.TheVariants as why
+use Rattle.pfr_report.specs.declared.note.Note.{Note}
+use Rattle.pfr_report.specs.declared.note.What.{What}
+use Rattle.pfr_report.specs.declared.note.What.TheVariants as what
+use Rattle.pfr_story.specs.Story.{Story, Move, Says, after, noted, counts_of, past_at, device_of, called}
+use Rattle.pfr_story.specs.Plans.{mine, store, ready_of, judged_active, judged_recovery, restore_ops, restored, by_second, checked_again, by_recovery, by_active, by_ready, brought_up}
+use Rattle.pfr_story.specs.Promises.{count_at}
+use Rattle.pfr_story.specs.Causes.{IsNotTrusted, IsAgainst, IsDue, IsRestorable}
+use Rattle.pfr_story.specs.Bringing.{ReleasedSoon}
+use Rattle.pfr_story.proofs.Sequence.{after-append}
+use Rattle.pfr_story.proofs.CallLaws.{image_noted, AllMake-append, AllMake-called}
+use Rattle.pfr_story.proofs.Made.{said}
+use Rattle.pfr_story.proofs.Noting.{noted_first, noted_next, Whichever, AllSay, said_all}
+use Rattle.pfr_story.proofs.RestoreLaws.{called_after, RestoresFrom, restored_judged}
+
+-- ---- what is noted behind Held
+count_is : (b : Bank) (story : Story) → count_at b (counts_of story) ≡ length (past_at (device_of b) story).ops
+count_is bank.Bmc story = refl
+count_is bank.Pch story = refl
+
+module _ (accepts : Acceptance) (b : Bank) where
+  -- what is noted behind Held
+  abbrev pub behind : Story → List Note
+  behind story = said (by_ready accepts b (ready_of b story) story) story
+
+  -- ---- the bank's fuses
+  ready_is : (fuses : FusesState) (story : Story) → fuses_of (store story) ≡ Ok fuses → IsValidLayout (layout_of fuses.provision b) (length (mine b story)) → ready_of b story ≡ Ok fuses
+  ready_is fuses story f l = rw (f, valid_judged _ _ l) refl
+
+  by_check : (fuses : FusesState) (story : Story) (checked : Result Manifest ActiveFail) → fuses_of (store story) ≡ Ok fuses → IsValidLayout (layout_of fuses.provision b) (length (mine b story))
+      → judged_active accepts b fuses story ≡ checked → behind story ≡ said (by_active accepts b fuses checked story) story
+  by_check fuses story checked f l j =
+      ap (λ (r : Result FusesState LockWhy). said (by_ready accepts b r story) story) (ready_is fuses story f l)
+      ∙ ap (λ (r : Result Manifest ActiveFail). said (by_active accepts b fuses r story) story) j
+
+  unready : (cause : LockWhy) (story : Story) → ready_of b story ≡ Err cause → IsNoted (behind story) (what.Locked b cause (counts_of story))
+  unready cause story e = subst (λ (r : Result FusesState LockWhy). IsNoted (said (by_ready accepts b r story) story) (what.Locked b cause (counts_of story))) (sym e) (inl refl)
+
+  -- ---- a trusted image
+  pub tail_trusted : (story : Story) (t : IsTrusted (mine b story) (store story) b accepts) → IsNoted (behind story) (what.Released b t.manifest.svn (counts_of story))
+  tail_trusted story t =
+      subst (λ (notes : List Note). IsNoted notes (what.Released b t.manifest.svn (counts_of story)))
+      (sym (by_check t.fuses story (Ok t.manifest) t.provisioned t.layout (trusted_judged (mine b story) (store story) b accepts t))) (inl refl)
+
+  -- ---- one that isn't
+  abbrev untrusted : ActiveFail → Story → Story
+  untrusted cause story = noted (λ _. what.Untrusted b cause) story
+
+  abbrev distrusted : FusesState → ActiveFail → Result CapsuleState CapsuleFail → Story → List Note
+  distrusted fuses cause judged story =
+      record { item = story.item; what = what.Untrusted b cause } ∷ said (by_recovery accepts b fuses cause judged (untrusted cause story)) (untrusted cause story)
+
+  by_against : (cause : ActiveFail) (story : Story) (judged : Result CapsuleState CapsuleFail) (a : IsAgainst cause b (mine b story) (store story) accepts)
+      → judged_recovery accepts b a.fuses (untrusted cause story) ≡ judged → behind story ≡ distrusted a.fuses cause judged story
+  by_against cause story judged a j =
+      by_check a.fuses story (Err cause) a.provisioned a.layout a.judged
+      ∙ ap (λ (r : Result CapsuleState CapsuleFail). distrusted a.fuses cause r story) j
+
+  judged_told : (fuses : FusesState) (w : Counts → What) (story : Story) → judged_recovery accepts b fuses (noted w story) ≡ judged_recovery accepts b fuses story
+  judged_told fuses w story = ap (λ (image : List ℕ). judge_area Recovery b image fuses accepts) (image_noted (device_of b) w story)
+
+  -- its cause is named
+  pub tail_named : (story : Story) (cause : ActiveFail) → IsAgainst cause b (mine b story) (store story) accepts → IsNoted (behind story) (what.Untrusted b cause)
+  tail_named story cause a =
+      subst (λ (notes : List Note). IsNoted notes (what.Untrusted b cause)) (sym (by_against cause story (judged_recovery accepts b a.fuses (untrusted cause story)) a refl)) (inl refl)
+
+  no_image_locked : (story : Story) (active : ActiveFail) (cause : CapsuleFail) (a : IsAgainst active b (mine b story) (store story) accepts)
+      → judged_recovery accepts b a.fuses story ≡ Err cause → IsNoted (behind story) (what.Locked b (why.NoGoodImage active cause) (counts_of story))
+  no_image_locked story active cause a j =
+      subst (λ (notes : List Note). IsNoted notes (what.Locked b (why.NoGoodImage active cause) (counts_of story)))
+      (sym (by_against active story (Err cause) a (judged_told a.fuses (λ _. what.Untrusted b active) story ∙ j))) (inr (inl refl))
+
+  -- a lock that is due is noted
+  pub tail_due : (story : Story) (cause : LockWhy) → IsDue cause b (mine b story) (store story) accepts → IsNoted (behind story) (what.Locked b cause (counts_of story))
+  tail_due story why.Unprovisioned h = unready why.Unprovisioned story (rw (fuses_of-blank (store story) h.0 h.1) refl)
+  tail_due story why.SlotsSpent h = unready why.SlotsSpent story (rw (fuses_of-spent (store story) h.0 h.1) refl)
+  tail_due story (why.Layout rule) h = unready (why.Layout rule) story (rw (h.provisioned, h.broken) refl)
+  tail_due story (why.NoGoodImage active cause) h =
+      let one : h.1.fuses ≡ h.0.fuses = fuses_one (store story) h.1.fuses h.0.fuses h.1.provisioned h.0.provisioned in
+      no_image_locked story active cause h.0 (subst (λ (f : FusesState). judged_recovery accepts b f story ≡ Err cause) one h.1.judged)
+  tail_due story why.FlashFault h = absurd h
+  tail_due story why.StoreFault h = absurd h
+
+  -- ---- a good recovery area
+  good_is : (story : Story) (g : HasGoodRecovery b (mine b story) (store story) accepts) (fuses : FusesState) → fuses_of (store story) ≡ Ok fuses → judged_recovery accepts b fuses story ≡ Ok g.good.capsule
+  good_is story g fuses f =
+      let stands : StandForBank (store story) g.fuses b = record { all = g.fuses; provisioned = g.provisioned; provision = refl; floor = refl; capsule_row = refl; manifest_row = refl } in
+      let layout : Layout = layout_of g.fuses.provision b in
+      subst (λ (x : FusesState). judged_recovery accepts b x story ≡ Ok g.good.capsule) (fuses_one (store story) g.fuses fuses g.provisioned f)
+      (good_found (mine b story) (store story) layout.recovery_at layout.area_len b accepts g.fuses stands g.good)
+
+  good_layout : (story : Story) (g : HasGoodRecovery b (mine b story) (store story) accepts) → IsValidLayout (layout_of g.fuses.provision b) (length (mine b story))
+  good_layout story g =
+      subst (λ (x : FusesState). IsValidLayout (layout_of x.provision b) (length (mine b story))) (fuses_one (store story) g.good.fuses g.fuses g.good.provisioned g.provisioned) g.good.layout
+
+  -- what is noted of a bank that is restored
+  restored_noted : (fuses : FusesState) (cause : ActiveFail) (capsule : CapsuleState) (story : Story) → IsNoted (said (by_recovery accepts b fuses cause (Ok capsule) story) story) (what.Restored b 1)
+  restored_noted fuses cause capsule story =
+      let ops : List Operation = restore_ops 1 (mine b story) capsule (layout_of fuses.provision b) in
+      noted_first (restored b 1 fuses capsule story) (checked_again accepts b fuses (after (restored b 1 fuses capsule story) story)) story (what.Restored b 1)
+      (noted_next (called (device_of b) ops) (Says (λ _. what.Restored b 1) ∷ []) story (what.Restored b 1) (inl refl))
+
+  released_noted : (fuses : FusesState) (cause : ActiveFail) (capsule : CapsuleState) (m : Manifest) (story : Story)
+      → judged_active accepts b fuses (after (restored b 1 fuses capsule story) story) ≡ Ok m
+      → IsNoted (said (by_recovery accepts b fuses cause (Ok capsule) story) story) (what.Released b m.svn (counts_of (after (restored b 1 fuses capsule story) story)))
+  released_noted fuses cause capsule m story j =
+      let end : Story = after (restored b 1 fuses capsule story) story in
+      noted_next (restored b 1 fuses capsule story) (checked_again accepts b fuses end) story (what.Released b m.svn (counts_of end))
+      (subst (λ (r : Result Manifest ActiveFail). IsNoted (said (by_second b r end) end) (what.Released b m.svn (counts_of end))) (sym j) (inl refl))
+
+  against_by : (story : Story) (n : IsNotTrusted b (mine b story) (store story) accepts) (checked : Result Manifest ActiveFail) → AreBytes (mine b story) → judged_active accepts b n.fuses story ≡ checked
+      → (cause : ActiveFail) × IsAgainst cause b (mine b story) (store story) accepts
+  against_by story n (Ok m) bytes j =
+      absurd (n.distrusted (judged_trusted (mine b story) (store story) b accepts n.fuses m (stands_whole (store story) n.fuses b n.provisioned) n.layout bytes j).0)
+  against_by story n (Err cause) bytes j = (cause, record { fuses = n.fuses; provisioned = n.provisioned; layout = n.layout; judged = j })
+
+  -- a bank that can be restored is
+  pub tail_restored : (story : Story) → AreBytes (mine b story) → IsRestorable b (mine b story) (store story) accepts → IsNoted (behind story) (what.Restored b 1)
+  tail_restored story bytes h =
+      let k = against_by story h.0 (judged_active accepts b h.0.fuses story) bytes refl in
+      let judged = judged_told k.1.fuses (λ _. what.Untrusted b k.0) story ∙ good_is story h.1 k.1.fuses k.1.provisioned in
+      subst (λ (notes : List Note). IsNoted notes (what.Restored b 1)) (sym (by_against k.0 story (Ok h.1.good.capsule) k.1 judged))
+      (inr (restored_noted k.1.fuses k.0 h.1.good.capsule (untrusted k.0 story)))
+
+  -- ---- and released then
+  restored_count : (fuses : FusesState) (capsule : CapsuleState) (story : Story) → count_at b (counts_of (after (restored b 1 fuses capsule story) story))
+      ≡ count_at b (counts_of story) + length (restore_ops 1 (mine b story) capsule (layout_of fuses.provision b))
+  restored_count fuses capsule story =
+      let ops : List Operation = restore_ops 1 (mine b story) capsule (layout_of fuses.provision b) in
+      let then_story : Story = after (called (device_of b) ops) story in
+      ap (λ (s : Story). count_at b (counts_of s)) (after-append (called (device_of b) ops) (Says (λ _. what.Restored b 1) ∷ []) story)
+      ∙ count_is b then_story ∙ ap (λ (xs : List Operation). length xs) (called_after b ops story).added
+      ∙ length-append (past_at (device_of b) story).ops ops ∙ ap (λ (n : ℕ). n + length ops) (sym (count_is b story))
+
+  restore_few : (image : List ℕ) (capsule : CapsuleState) (layout : Layout) → length (restore_ops 1 image capsule layout) ≤ 17 * (length image / 4096)
+  restore_few image capsule layout =
+      let strokes = strokes_of_few (active_page image capsule layout) (active_pages (ActiveFromRecovery 1) image capsule layout) in
+      omega (arith, strokes, active_few (ActiveFromRecovery 1) image capsule layout)
+
+  good_releases : (story : Story) (g : HasGoodRecovery b (mine b story) (store story) accepts) (checked : Result Manifest ActiveFail) → judged_active accepts b g.fuses story ≡ checked
+      → AreBytes (mine b story) → IsBankSize (length (mine b story)) → ReleasedSoon b (counts_of story) (34 * (length (mine b story) / 4096)) (behind story)
+  good_releases story g (Ok m) j bytes size = record {
+    svn = m.svn;
+    then = counts_of story;
+    noted = subst (λ (notes : List Note). IsNoted notes (what.Released b m.svn (counts_of story))) (sym (by_check g.fuses story (Ok m) g.provisioned (good_layout story g) j)) (inl refl);
+    forth = omega arith;
+    few = omega arith;
+  }
+  good_releases story g (Err cause) j bytes size =
+      let a : IsAgainst cause b (mine b story) (store story) accepts = record { fuses = g.fuses; provisioned = g.provisioned; layout = good_layout story g; judged = j } in
+      let told : Story = untrusted cause story in
+      let capsule : CapsuleState = g.good.capsule in
+      let same : mine b story ≡ mine b told = sym (image_noted (device_of b) (λ _. what.Untrusted b cause) story) in
+      let judged : judged_recovery accepts b g.fuses told ≡ Ok capsule = judged_told g.fuses (λ _. what.Untrusted b cause) story ∙ good_is story g g.fuses g.provisioned in
+      let from : RestoresFrom accepts b g.fuses capsule told = record {
+        provisioned = g.provisioned;
+        layout = subst (λ (image : List ℕ). IsValidLayout (layout_of g.fuses.provision b) (length image)) same (good_layout story g);
+        size = subst (λ (image : List ℕ). IsBankSize (length image)) same size;
+        bytes = subst AreBytes same bytes;
+        judged = judged;
+      } in
+      let end : Story = after (restored b 1 g.fuses capsule told) told in
+      let count : count_at b (counts_of end) ≡ count_at b (counts_of story) + length (restore_ops 1 (mine b told) capsule (layout_of g.fuses.provision b)) = restored_count g.fuses capsule told in
+      let few : length (restore_ops 1 (mine b told) capsule (layout_of g.fuses.provision b)) ≤ 17 * (length (mine b story) / 4096) =
+      subst (λ (image : List ℕ). length (restore_ops 1 (mine b told) capsule (layout_of g.fuses.provision b)) ≤ 17 * (length image / 4096)) (sym same) (restore_few (mine b told) capsule (layout_of g.fuses.provision b)) in
+      record {
+        svn = capsule.manifest.svn;
+        then = counts_of end;
+        noted = subst (λ (notes : List Note). IsNoted notes (what.Released b capsule.manifest.svn (counts_of end))) (sym (by_against cause story (Ok capsule) a judged))
+            (inr (released_noted g.fuses cause capsule capsule.manifest told (restored_judged accepts b 1 g.fuses capsule told from)));
+        forth = omega (arith, count);
+        few = omega (arith, count, few);
+      }
+
+  -- A bank with a good recovery area ends released.
+  pub tail_releases : (story : Story) → HasGoodRecovery b (mine b story) (store story) accepts → AreBytes (mine b story) → IsBankSize (length (mine b story))
+      → ReleasedSoon b (counts_of story) (34 * (length (mine b story) / 4096)) (behind story)
+  tail_releases story g bytes size = good_releases story g (judged_active accepts b g.fuses story) refl bytes size
+
+-- ---- a bank is noted to be held once
+abbrev pub IsHeldOf : Bank → What → Type 0
+IsHeldOf which (what.Held b at) = b ≡ which
+IsHeldOf which that = ⊥
+
+abbrev pub HoldsNot : Bank → What → Type 0
+HoldsNot which that = ¬ IsHeldOf which that
+
+-- none of these moves notes that this bank is held
+abbrev pub NoneHolds : Bank → List Move → Type 0
+NoneHolds which moves = AllSay (HoldsNot which) moves
+
+module _ (accepts : Acceptance) (which b : Bank) where
+  abbrev Never : (Counts → What) → Type 0
+  Never w = (at : Counts) → HoldsNot which (w at)
+
+  second_holds : (judged : Result Manifest ActiveFail) (story : Story) → NoneHolds which (by_second b judged story)
+  second_holds (Ok m) story = ((λ at h. h), tt)
+  second_holds (Err cause) story = tt
+
+  restored_holds : (fuses : FusesState) (capsule : CapsuleState) (story : Story) → NoneHolds which (restored b 1 fuses capsule story)
+  restored_holds fuses capsule story =
+      let ops : List Operation = restore_ops 1 (mine b story) capsule (layout_of fuses.provision b) in
+      AllMake-append Whichever Never (called (device_of b) ops) (Says (λ _. what.Restored b 1) ∷ []) (AllMake-called Whichever Never (device_of b) ops tt) ((λ at h. h), tt)
+
+  recovery_holds : (fuses : FusesState) (cause : ActiveFail) (judged : Result CapsuleState CapsuleFail) (story : Story) → NoneHolds which (by_recovery accepts b fuses cause judged story)
+  recovery_holds fuses cause (Ok capsule) story =
+      let end : Story = after (restored b 1 fuses capsule story) story in
+      AllMake-append Whichever Never (restored b 1 fuses capsule story) (checked_again accepts b fuses end) (restored_holds fuses capsule story) (tt, second_holds (judged_active accepts b fuses end) end)
+  recovery_holds fuses cause (Err other) story = ((λ at h. h), tt)
+
+  active_holds : (fuses : FusesState) (judged : Result Manifest ActiveFail) (story : Story) → NoneHolds which (by_active accepts b fuses judged story)
+  active_holds fuses (Ok m) story = ((λ at h. h), tt)
+  active_holds fuses (Err cause) story =
+      let told : Story = noted (λ _. what.Untrusted b cause) story in
+      ((λ at h. h), (tt, recovery_holds fuses cause (judged_recovery accepts b fuses told) told))
+
+  pub ready_holds : (ready : Result FusesState LockWhy) (story : Story) → NoneHolds which (by_ready accepts b ready story)
+  ready_holds (Ok fuses) story = (tt, active_holds fuses (judged_active accepts b fuses story) story)
+  ready_holds (Err cause) story = ((λ at h. h), tt)
+
+  -- the other bank's part
+  pub brought_holds : ¬ (b ≡ which) → (story : Story) → NoneHolds which (brought_up accepts b story)
+  brought_holds apart story = ((λ at e. apart e), (tt, ready_holds (ready_of b (noted (what.Held b) story)) (noted (what.Held b) story)))
+
+-- the own part
+pub brought_once : (accepts : Acceptance) (b : Bank) (story : Story) (at : Counts) → IsNoted (said (brought_up accepts b story) story) (what.Held b at) → at ≡ counts_of story
+brought_once accepts b story at (inl e) = cc
+brought_once accepts b story at (inr n) =
+    let held : Story = noted (what.Held b) story in
+    absurd (said_all (HoldsNot b) (by_ready accepts b (ready_of b held) held) held (ready_holds accepts b b (ready_of b held) held) (what.Held b at) n refl)
