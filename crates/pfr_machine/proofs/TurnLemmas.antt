@@ -1,35 +1,35 @@
 -- A whole step, from what was done at its event.
 use Rattle.std.proofs.Common.{◌≡◌, ◌∙◌, refl, sym, ap, subst, ℕ, ◌≤◌, ◌*◌, ◌+◌, Bool, true, false, List, [], ◌∷◌, length, inl, inr, Option, arith, Result, Ok, Err, OnOk}
 use Rattle.std.specs.Prelude.{◌≢◌}
-use Rattle.pfr_flash.specs.Operation.{Operation}
+use Rattle.pfr_flash.specs.FlashState.{FlashState, size_of}
+use Rattle.pfr_flash.specs.Layout.{IsBankSize}
 use Rattle.pfr_flash.specs.declared.flash.FlashFail.{FlashFail}
 use Rattle.pfr_flash.specs.declared.flash.FlashFail.TheVariants as fail
 use Rattle.pfr_flash.specs.declared.names.Bank.{Bank}
 use Rattle.pfr_flash.specs.declared.names.Bank.TheVariants as bank
-use Rattle.pfr_flash.specs.declared.names.Counts.{Counts}
 use Rattle.pfr_flash.specs.declared.names.Device.{Device}
 use Rattle.pfr_flash.specs.declared.names.Device.TheVariants as device
 use Rattle.pfr_engine.specs.Acceptance.{Acceptance}
-use Rattle.pfr_report.specs.Texts.{IsNoted}
 use Rattle.pfr_report.specs.declared.note.Note.{Note}
-use Rattle.pfr_report.specs.declared.note.What.TheVariants.{Lost, Ignored, Power}
+use Rattle.pfr_report.specs.declared.note.What.TheVariants.{Power}
 use Rattle.pfr_script.specs.declared.event.Event.{Event}
 use Rattle.pfr_script.specs.declared.event.Event.TheVariants as event
 use Rattle.pfr_story.specs.Course.{Stretch, Course, CrossesOrFaults, LosesPower, Steps, Follows, lost}
 use Rattle.pfr_story.specs.Goes.{Ran, Stopped}
 use Rattle.pfr_story.specs.Plans.{migrated}
-use Rattle.pfr_story.specs.Promises.{AreOff, IsPower, StaysQuiet, LostEnds, LostIsDark, HasPower, CallsNone}
+use Rattle.pfr_story.specs.Promises.{AreOff, IsPower, HasPower}
 use Rattle.pfr_story.specs.Standing as standing
 use Rattle.pfr_story.specs.Standing.{Standing, standing_of, is_off}
-use Rattle.pfr_story.specs.Story.{Story, Move, Says, Does, Asks, after, device_of, noted, operated}
+use Rattle.pfr_story.specs.Story.{Story, Move, Says, after, device_of}
 use Rattle.pfr_story.specs.Turn.{bank_stretch, fuse_stretch, unreadable, power_course, course, where_off, begun, Turn}
-use Rattle.pfr_story.specs.World.{World, IsDark, SameDevices, added, state_at, story_of}
+use Rattle.pfr_story.specs.World.{World, IsDark, SameDevices, state_at, story_of}
 use Rattle.pfr_story.proofs.Courses.{Steps-next, Steps-ended}
-use Rattle.pfr_story.proofs.Made.{Steps-made}
+use Rattle.pfr_story.proofs.RunLaws.{Turn-item}
+use Rattle.pfr_story.proofs.Turns.{Turn-moved}
 use Rattle.pfr_story.proofs.Lift.{Uncalled, Ran-uncalled}
 use Rattle.pfr_story.proofs.Sequence.{Ran-refl, Ran-append}
 use Rattle.pfr_machine.specs.Worlds.{AddsNotes, with_note, with_state}
-use Rattle.pfr_machine.specs.Inside.{AreLit, IsWhole}
+use Rattle.pfr_machine.specs.Inside.{AreLit, HasSizes, IsWhole}
 use Rattle.pfr_machine.specs.Ready.{Brings, BringsBoth, BroughtUp, IsTaken, LeavesWhole}
 use Rattle.pfr_machine.specs.declared.bringing.Dark.{Dark}
 use Rattle.pfr_machine.proofs.WorldLemmas.{AddsNotes-then}
@@ -37,23 +37,6 @@ use Rattle.pfr_machine.proofs.WorldLemmas.{AddsNotes-then}
 -- a step that only notes something
 pub only_noted : (moves : List Move) (old new : World) → Ran moves old new → Follows (record { first = moves; stretches = [] }) old new
 only_noted moves old new p = (new, p, Ran-refl new)
-
--- ---- the number of the item stays
-item_operated : (which : Device) (op : Operation) (story : Story) → (operated which op story).item ≡ story.item
-item_operated device.Bmc op story = refl
-item_operated device.Pch op story = refl
-item_operated device.Nv op story = refl
-
-item_after : (moves : List Move) (story : Story) → (after moves story).item ≡ story.item
-item_after [] story = refl
-item_after (Says what ∷ moves) story = item_after moves (noted what story)
-item_after (Does which op ∷ moves) story = item_after moves (operated which op story) ∙ item_operated which op story
-item_after (Asks which ∷ moves) story = item_after moves story
-
-course_item : (c : Course) (old new : World) → Follows c old new → new.item ≡ old.item
-course_item c old new (mid, p, q) =
-    let m = Steps-made c.stretches mid new q in
-    ap (λ (s : Story). s.item) m.is ∙ item_after m.trace (story_of mid) ∙ ap (λ (s : Story). s.item) p.is ∙ item_after c.first (story_of old)
 
 -- ---- both banks are brought up
 pub both_steps : (first second : Stretch) (old mid new : World) → first.goes_on ≡ true → second.goes_on ≡ true → CrossesOrFaults first old mid → CrossesOrFaults second mid new
@@ -199,15 +182,16 @@ module _ (old next : World) (b : Begun old next) where
   taken_begun event.Off p = λ e. p (ap is_off (rw b.list at e))
   taken_begun (event.Provision what) p = λ e. p (ap is_off (rw b.list at e))
 
-  pub still_few : (c : Course) (new : World) → IsWhole old → Follows c next new → AddsNotes 64 next.notes new.notes → length new.notes.list ≤ 64 * new.item
-  still_few c new h f n =
-      let same = course_item c next new f in
-      let item = ap (λ (w : World). w.item) b.is in
-      let list : length next.notes.list ≡ length old.notes.list = ap (λ (l : List Note). length l) b.list in
-      omega (arith, h.few, n.few, item, list, same)
-
-  pub still_whole : (c : Course) (new : World) → IsWhole old → Follows c next new → LeavesWhole 64 next new → IsWhole new
-  still_whole c new h f l = record { together = l.together; apart = l.apart; on = l.on; few = still_few c new h f l.notes }
+  pub still_whole : (accepts : Acceptance) (e : Event) (new : World) → IsWhole old → Follows (course accepts e (story_of next)) next new → LeavesWhole 64 next new → IsWhole new
+  still_whole accepts e new h f l = record {
+    together = l.together;
+    apart = l.apart;
+    on = l.on;
+    few =
+        let item = Turn-item accepts e old new (turned accepts e new f) in
+        let list : length next.notes.list ≡ length old.notes.list = ap (λ (l : List Note). length l) b.list in
+        omega (arith, h.few, l.notes.few, item, list);
+  }
 
 -- ---- what holds of a step that was done
 pub by_turn : {A B : Type 0} {T U : Type 0} (r : Result T U) → OnOk r A → (A → B) → OnOk r B
@@ -218,18 +202,6 @@ pub by_both : {A B C : Type 0} {T U : Type 0} (r : Result T U) → OnOk r A → 
 by_both (Ok x) a b f = f a b
 by_both (Err e) a b f = tt
 
--- ---- no device has power where banks went off
-no_loss : (item : ℕ) (notes : List Note) (device : Option Device) (at : Counts) → notes ≡ record { item = item + 1; what = Ignored } ∷ [] → ¬ IsNoted notes (Lost device at)
-no_loss item notes device at e n = elim (subst (λ (ns : List Note). IsNoted ns (Lost device at)) e n) [ inl same ↦ absurd cc | inr x ↦ x ]
-
-pub lost_taken : (e : Event) (old new : World) (device : Option Device) (at : Counts) → StaysQuiet e old new → IsNoted (added old new) (Lost device at) → AreOff old → IsPower e
-lost_taken event.Power old new device at q n off = tt
-lost_taken event.Off old new device at q n off = no_loss old.item (added old new) device at (q off (λ p. p)).notes n
-lost_taken (event.Provision what) old new device at q n off = no_loss old.item (added old new) device at (q off (λ p. p)).notes n
-
-pub lost_is_dark : (e : Event) (old new : World) → StaysQuiet e old new → LostEnds old new → ((AreOff old → IsPower e) → AreOff new → IsDark new) → LostIsDark old new
-lost_is_dark e old new quiet ends dark device at n = dark (λ off. lost_taken e old new device at quiet n off) (ap is_off (ends device at n).bmc)
-
 -- the devices have power where the banks aren't off
 pub has_power : (w : World) → AreLit w → IsWhole w → HasPower w
 has_power w lit h n = record {
@@ -237,3 +209,16 @@ has_power w lit h n = record {
   pch = lit bank.Pch (λ e. n (ap is_off (h.apart e)));
   nv = h.on (λ e. n (ap is_off e));
 }
+
+-- the sizes of devices stay
+size_before : (old new : FlashState) → new.start ≡ old.start → size_of new ≡ size_of old
+size_before old new e = ap (λ (bytes : List ℕ). length bytes) e
+
+pub sizes_before : (accepts : Acceptance) (e : Event) (old new : World) → Turn accepts e old new → HasSizes new → HasSizes old
+sizes_before accepts e old new t h =
+    let m = Turn-moved accepts e old new t in
+    record {
+      bmc = subst (λ (n : ℕ). IsBankSize n) (size_before old.bmc new.bmc m.bmc.start) h.bmc;
+      pch = subst (λ (n : ℕ). IsBankSize n) (size_before old.pch new.pch m.pch.start) h.pch;
+      nv = sym (size_before old.nv new.nv m.nv.start) ∙ h.nv;
+    }

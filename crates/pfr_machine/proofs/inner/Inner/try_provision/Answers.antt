@@ -23,7 +23,7 @@ returns-in-Ok-clause-stays g c =
     (store_stays c.args.self.now c.provision_store.new.self c.provision_store.ensures.same (provision_ops c.args.what.now j) (Ok c.in-Ok.note) c.requires.on c.in-Ok.ensures.follows)
     (subst (λ (w : What). (which : Bank) (s : Standing) → standing_after which w s ≡ s) (sym c.in-Ok.ensures.noted) (note_keeps j))
     c.note.ensures.noted
-    (spare_kept _ _ c.provision_store.ensures.same c.requires.room)
+    (spare_kept c.args.self.now c.provision_store.new.self c.provision_store.ensures.same c.requires.room)
 
 pub returns-in-Err-clause-goes : goal.returns-in-Err-clause-goes
 returns-in-Err-clause-goes g c =
