@@ -8,4 +8,5 @@ pub mod ProvisionLemmas
 pub mod TurnLemmas
 pub mod JudgeLemmas
 pub mod CheckLemmas
+pub mod BringLemmas
 mod VerdictLaw
