@@ -1,5 +1,5 @@
 -- How the platform is provisioned.
-use Rattle.std.proofs.Common.{◌≡◌, ◌∙◌, refl, sym, ap, subst, ℕ, List, [], ◌∷◌, ◌++◌, Result, Ok, Err, inl, inr}
+use Rattle.std.proofs.Common.{◌≡◌, refl, ap, subst, ℕ, List, [], ◌∷◌, ◌++◌, Result, Ok, Err, inl, inr}
 use Rattle.pfr_flash.specs.FlashState.{FlashState, now, size_of}
 use Rattle.pfr_flash.specs.Plan.{Follows as FollowsPlan}
 use Rattle.pfr_flash.specs.declared.flash.FlashFail.{FlashFail}

@@ -1,16 +1,13 @@
 -- What work on the store alone is to the platform.
-use Rattle.std.proofs.Common.{◌≡◌, ◌∙◌, ◌≤◌, refl, sym, ap, subst, ℕ, List, [], true, Some, Result, Ok, Err}
+use Rattle.std.proofs.Common.{◌≡◌, ◌∙◌, ◌≤◌, refl, sym, ap, subst, List, [], true, Result, Ok, Err}
 use Rattle.pfr_flash.specs.FlashState.{FlashState, now, size_of}
-use Rattle.pfr_flash.specs.Layout.{IsBankSize}
 use Rattle.pfr_flash.specs.Operation.{Operation}
 use Rattle.pfr_flash.specs.Plan.{Follows}
-use Rattle.pfr_flash.specs.Reading.{EndsAt, failed_by}
 use Rattle.pfr_flash.specs.declared.flash.FlashFail.{FlashFail}
-use Rattle.pfr_flash.specs.declared.flash.FlashFail.TheVariants.{Fault}
 use Rattle.pfr_flash.specs.declared.names.Bank.{Bank}
 use Rattle.pfr_flash.specs.declared.names.Bank.TheVariants as bank
 use Rattle.pfr_flash.specs.declared.names.Device.TheVariants as device
-use Rattle.pfr_flash.proofs.FollowsLemmas.{Follows-none, Follows-reads}
+use Rattle.pfr_flash.proofs.FollowsLemmas.{Follows-none}
 use Rattle.pfr_fuses.specs.FuseMap.{profile_number}
 use Rattle.pfr_fuses.specs.FusesState.{FusesState}
 use Rattle.pfr_fuses.specs.FusesOf.{fuses_of}
@@ -21,15 +18,13 @@ use Rattle.pfr_report.specs.Texts.{AllText}
 use Rattle.pfr_report.specs.declared.note.What.{What}
 use Rattle.pfr_story.specs.Goes.{Goes}
 use Rattle.pfr_story.specs.Plans.{migration_by, migration_in, store}
-use Rattle.pfr_story.specs.Standing.{Standing, standing_after, standing_of, standing_by}
-use Rattle.pfr_story.specs.Story.{Plan, called, device_of}
-use Rattle.pfr_story.specs.World.{World, state_at}
+use Rattle.pfr_story.specs.Standing.{Standing, standing_after, standing_of}
+use Rattle.pfr_story.specs.Story.{Plan, called}
+use Rattle.pfr_story.specs.World.{World}
 use Rattle.pfr_story.specs.declared.line.Line.{Line}
-use Rattle.pfr_story.specs.declared.line.Line.TheVariants.{Off}
-use Rattle.pfr_story.specs.declared.stop.Stop.{Stop}
 use Rattle.pfr_story.proofs.Lift.{OnlyAt, Goes-follows, at_device}
 use Rattle.pfr_machine.specs.Worlds.{AddsNotes, with_note, with_state}
-use Rattle.pfr_machine.specs.Inside.{AreSeated, IsSeat, IsBoard}
+use Rattle.pfr_machine.specs.Inside.{AreSeated, IsSeat}
 use Rattle.pfr_machine.specs.Ready.{StaysSeated, StaysFed}
 use Rattle.pfr_machine.proofs.WorldLemmas.{AddsNotes-none, AddsNotes-then}
 use Rattle.pfr_machine.proofs.StandLemmas.{still_stands, noted_adds}

@@ -1,5 +1,5 @@
 -- A whole step, from what was done at its event.
-use Rattle.std.proofs.Common.{◌≡◌, ◌∙◌, refl, sym, ap, subst, ℕ, ◌≤◌, ◌*◌, ◌+◌, Bool, true, false, List, [], ◌∷◌, length, inl, inr, Option, arith, Result, Ok, Err, OnOk}
+use Rattle.std.proofs.Common.{◌≡◌, ◌∙◌, refl, sym, ap, subst, ℕ, Bool, true, false, List, [], ◌∷◌, length, inl, inr, arith, Result, Ok, Err, OnOk}
 use Rattle.std.specs.Prelude.{◌≢◌}
 use Rattle.pfr_flash.specs.FlashState.{FlashState, size_of}
 use Rattle.pfr_flash.specs.Layout.{IsBankSize}
@@ -26,9 +26,9 @@ use Rattle.pfr_story.specs.World.{World, IsDark, SameDevices, state_at, story_of
 use Rattle.pfr_story.proofs.Courses.{Steps-next, Steps-ended}
 use Rattle.pfr_story.proofs.RunLaws.{Turn-item}
 use Rattle.pfr_story.proofs.Turns.{Turn-moved}
-use Rattle.pfr_story.proofs.Lift.{Uncalled, Ran-uncalled}
-use Rattle.pfr_story.proofs.Sequence.{Ran-refl, Ran-append}
-use Rattle.pfr_machine.specs.Worlds.{AddsNotes, with_note, with_state}
+use Rattle.pfr_story.proofs.Lift.{Ran-uncalled}
+use Rattle.pfr_story.proofs.Sequence.{Ran-refl}
+use Rattle.pfr_machine.specs.Worlds.{with_note, with_state}
 use Rattle.pfr_machine.specs.Inside.{AreLit, HasSizes, IsWhole}
 use Rattle.pfr_machine.specs.Ready.{Brings, BringsBoth, BroughtUp, IsTaken, LeavesWhole}
 use Rattle.pfr_machine.specs.declared.bringing.Dark.{Dark}

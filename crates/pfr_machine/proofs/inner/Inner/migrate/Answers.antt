@@ -1,5 +1,4 @@
 use Rattle.std.proofs.Common.{Ok, Err}
-use Rattle.pfr_story.specs.Plans.{migration_in}
 use Rattle.pfr_machine.proofs.StoreLemmas.{migration_goes}
 use Rattle.pfr_machine.proofs.inner.Inner.migrate.Goals as goal
 

@@ -1,4 +1,3 @@
-use Rattle.std.proofs.Common.{Ok, Err}
 use Rattle.std.proofs.lemmas.Result.{err_from_is_err_and}
 use Rattle.pfr_story.proofs.Sequence.{Stopped-first, Goes-then}
 use Rattle.pfr_story.specs.Plans.{asks_store}

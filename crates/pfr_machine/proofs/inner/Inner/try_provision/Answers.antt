@@ -1,4 +1,4 @@
-use Rattle.std.proofs.Common.{◌∙◌, ◌≡◌, refl, sym, subst, ap, arith, Ok, Err}
+use Rattle.std.proofs.Common.{◌≡◌, sym, subst, Ok, Err}
 use Rattle.pfr_flash.specs.declared.names.Bank.{Bank}
 use Rattle.pfr_flash.specs.declared.names.Device.TheVariants.{Nv}
 use Rattle.pfr_report.specs.declared.note.What.{What}
