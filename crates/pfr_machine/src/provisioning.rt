@@ -15,6 +15,7 @@ ghost use Rattle.pfr_story.specs.World.{IsDark};
 ghost use Rattle.pfr_machine.specs.Inside.{IsWhole};
 ghost use Rattle.pfr_machine.specs.Provisions.{provision_ops, provision_note};
 ghost use Rattle.pfr_machine.specs.Ready.{LeavesWhole, StaysSeated};
+ghost use Rattle.pfr_machine.specs.Worlds.{with_state};
 
 use crate::inner::Inner;
 use pfr_flash::{Bank, Device, Flash, FlashFail};
@@ -85,7 +86,7 @@ impl<F: Flash> Inner<F> {
         requires whole { IsWhole self }
         requires some { standing_of Bmc self.notes.list ≢ Off }
         ensures follows { Follows (provision_course what.now) self result }
-        ensures leaves { LeavesWhole self result }
+        ensures leaves { LeavesWhole 64 self result }
         ensures dark { standing_of Bmc result.notes.list ≡ Off → IsDark result }
         ensures spelled { IsSlot what.now }
     {
