@@ -67,7 +67,14 @@ impl<F: Flash, E: Engine + Drop> Platform<F, E> {
         requires pch_size { IsBankSize (size_of (F.device pch)) }
         requires nv_size { size_of (F.device nv) ≡ 32768 }
         ensures { result ≡ record {
-          world = record { bmc = F.device bmc; pch = F.device pch; nv = F.device nv; item = 0; notes = record { list = []; spare = 0 }; guards = first_guards };
+          world = record {
+            bmc = F.device bmc;
+            pch = F.device pch;
+            nv = F.device nv;
+            item = 0;
+            notes = record { list = []; spare = 0 };
+            guards = first_guards;
+          };
           engine = engine;
         } }
     {
@@ -110,9 +117,11 @@ impl<F: Flash, E: Engine + Drop> Platform<F, E> {
         // A bank with a good capsule in its recovery area has one after each note and at the end, whatever was cut or torn; and a
         // power-on in which no call fails releases it.
         ensures recoverable { OnOk result
-            (StaysRecoverable (λ bank image nv. HasGoodRecovery bank image nv (E.accepts self.old.engine)) self.old.world self.new.world) }
+            (StaysRecoverable (λ bank image nv. HasGoodRecovery bank image nv (E.accepts self.old.engine))
+            self.old.world self.new.world) }
         ensures powers { OnOk result
-            (PowerReleases (λ bank image nv. HasGoodRecovery bank image nv (E.accepts self.old.engine)) event.now self.old.world self.new.world) }
+            (PowerReleases (λ bank image nv. HasGoodRecovery bank image nv (E.accepts self.old.engine))
+            event.now self.old.world self.new.world) }
 
         // A fault is noted only where it was counted, and a loss of power exactly where it was.
         ensures faults { OnOk result (FaultsHaveCauses self.old.world self.new.world) }
