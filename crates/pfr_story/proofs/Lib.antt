@@ -21,6 +21,7 @@ pub mod Bytes
 pub mod SpanLaws
 pub mod SpanSteps
 pub mod MomentLaws
+pub mod RiseLaws
 pub mod KeepLaws
 pub mod RecoveryLaws
 pub mod StepRules
