@@ -113,7 +113,7 @@ ready_called : (b : Bank) (fuses : FusesState) (ops : List Operation) (story : S
 ready_called b fuses [] story r = r
 ready_called b fuses (op ∷ ops) story r = ready_called b fuses ops (operated (device_of b) op story) (ready_operated b fuses op story r)
 
-not_trusted : (cause : ActiveFail) (b : Bank) (image nv : List ℕ) (accepts : Acceptance) → IsAgainst cause b image nv accepts → IsNotTrusted b image nv accepts
+pub not_trusted : (cause : ActiveFail) (b : Bank) (image nv : List ℕ) (accepts : Acceptance) → IsAgainst cause b image nv accepts → IsNotTrusted b image nv accepts
 not_trusted cause b image nv accepts a = record {
   fuses = a.fuses;
   provisioned = a.provisioned;
@@ -121,17 +121,17 @@ not_trusted cause b image nv accepts a = record {
   distrusted = λ t. absurd (let e = trusted_found image nv b accepts a.fuses (stands_whole nv a.fuses b a.provisioned) t in let j = a.judged in cc);
 }
 
-module _ (s : Setting) (b : Bank) where
-  good_recovery : (fuses : FusesState) (capsule : CapsuleState) (story : Story) → IsReady b fuses story → AreBytes (mine b story) → judged_recovery s.accepts b fuses story ≡ Ok capsule → HasGoodRecovery b (mine b story) (store story) s.accepts
-  good_recovery fuses capsule story r bytes j =
-      let stands : StandForBank (store story) fuses b = record { all = fuses; provisioned = r.provisioned; provision = refl; floor = refl; capsule_row = refl; manifest_row = refl } in
-      let layout : Layout = layout_of fuses.provision b in
-      record {
-        fuses = fuses;
-        provisioned = r.provisioned;
-        good = (judged_good (mine b story) (store story) layout.recovery_at layout.area_len b s.accepts fuses capsule stands r.layout bytes j).0;
-      }
+pub good_recovery : (accepts : Acceptance) (b : Bank) (fuses : FusesState) (capsule : CapsuleState) (story : Story) → IsReady b fuses story → AreBytes (mine b story) → judged_recovery accepts b fuses story ≡ Ok capsule → HasGoodRecovery b (mine b story) (store story) accepts
+good_recovery accepts b fuses capsule story r bytes j =
+    let stands : StandForBank (store story) fuses b = record { all = fuses; provisioned = r.provisioned; provision = refl; floor = refl; capsule_row = refl; manifest_row = refl } in
+    let layout : Layout = layout_of fuses.provision b in
+    record {
+      fuses = fuses;
+      provisioned = r.provisioned;
+      good = (judged_good (mine b story) (store story) layout.recovery_at layout.area_len b accepts fuses capsule stands r.layout bytes j).0;
+    }
 
+module _ (s : Setting) (b : Bank) where
   -- what is released by a check is trusted
   trusted_with : (fuses : FusesState) (m : Manifest) (story : Story) → IsReady b fuses story → judged_active s.accepts b fuses story ≡ Ok m
       → AreBytes (mine b story) → IsTrustedWith m.svn (mine b story) (store story) b s.accepts
@@ -181,7 +181,7 @@ module _ (s : Setting) (b : Bank) where
         at = story;
         since = since;
         before = Precedes-refl story;
-        was = λ bytes. (not_trusted cause b (mine b story) (store story) s.accepts a, good_recovery fuses capsule story r bytes j);
+        was = λ bytes. (not_trusted cause b (mine b story) (store story) s.accepts a, good_recovery s.accepts b fuses capsule story r bytes j);
       } in
       (restored_true fuses capsule).safe story (r, here)
   recovery_true cause fuses (Err other) story since r a j = ((refl, λ bytes. (a, record { fuses = fuses; provisioned = r.provisioned; judged = j })), tt)

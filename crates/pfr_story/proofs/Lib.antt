@@ -15,6 +15,7 @@ pub mod Noting
 pub mod FaultLaws
 pub mod LossLaws
 pub mod TailLaws
+pub mod OwnLaws
 pub mod BringLaws
 pub mod RecoverableLaws
 pub mod Bytes
