@@ -1,5 +1,5 @@
 -- All that is noted of a bank behind Held, where no call fails, has its cause in the contents then.
-use Rattle.std.proofs.Common.{◌≡◌, refl, sym, subst, ℕ, List, [], ◌∷◌, ◌++◌, length, ◌⊎◌, inl, inr, Result, Ok, Err}
+use Rattle.std.proofs.Common.{◌≡◌, refl, sym, subst, List, [], ◌∷◌, ◌++◌, length, ◌⊎◌, inl, inr, Result, Ok, Err}
 use Rattle.pfr_flash.specs.Bytes.{AreBytes}
 use Rattle.pfr_flash.specs.Judging.{◌>>◌, told_as}
 use Rattle.pfr_flash.specs.Layout.{judge_layout}

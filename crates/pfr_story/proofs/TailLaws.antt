@@ -42,7 +42,7 @@ use Rattle.pfr_story.specs.Causes.{IsNotTrusted, IsAgainst, IsDue, IsRestorable}
 use Rattle.pfr_story.proofs.Sequence.{after-append}
 use Rattle.pfr_story.proofs.CallLaws.{image_noted, AllMake-append, AllMake-called}
 use Rattle.pfr_story.proofs.Made.{said}
-use Rattle.pfr_story.proofs.Noting.{noted_first, noted_next, Whichever, AllSay, said_all}
+use Rattle.pfr_story.proofs.Noting.{noted_first, noted_next, Whichever, AllSay}
 use Rattle.pfr_story.proofs.RestoreLaws.{called_after, RestoresFrom, restored_judged}
 
 -- ---- what is noted behind Held
