@@ -4,6 +4,7 @@ pub mod Lift
 pub mod SafetyLaws
 pub mod CallLaws
 pub mod RestoreLaws
+pub mod BringRules
 pub mod Courses
 pub mod Traces
 pub mod StepTraces
@@ -25,10 +26,10 @@ pub mod MomentLaws
 pub mod RiseLaws
 pub mod KeepLaws
 pub mod RecoveryLaws
-pub mod StepRules
 pub mod FuseLaws
 pub mod StoreLaws
 pub mod EventLaws
 pub mod ProvisionLaws
 pub mod GrowthLaws
+pub mod ContentsLaws
 pub mod RunLaws
