@@ -1,13 +1,14 @@
 -- What a step made, and the notes of that.
-use Rattle.std.proofs.Common.{◌≡◌, ◌∙◌, refl, sym, ap, Bool, true, false, List, [], ◌∷◌, ◌++◌, length, drop, append_assoc, inl, inr}
+use Rattle.std.proofs.Common.{◌≡◌, ◌∙◌, refl, sym, ap, List, [], ◌∷◌, ◌++◌, length, drop, append_assoc, inl, inr}
 use Rattle.std.proofs.lemmas.List.{append-nil}
 use Rattle.std.proofs.Math.Seq.{drop-append_seam}
 use Rattle.pfr_report.specs.declared.note.Note.{Note}
 use Rattle.pfr_story.specs.Story.{Story, Move, Says, Does, Asks, after, noted, operated, counts_of}
 use Rattle.pfr_story.specs.World.{World, story_of, added}
-use Rattle.pfr_story.specs.Course.{Stretch, goes_on_if, Steps, lost}
+use Rattle.pfr_story.specs.Course.{Stretch, Steps, lost}
 use Rattle.pfr_story.proofs.Sequence.{after-append}
 use Rattle.pfr_story.proofs.CallLaws.{notes_operated}
+use Rattle.pfr_story.proofs.Courses.{went_on}
 
 -- ---- the notes that moves make
 abbrev pub said : List Move → Story → List Note
@@ -40,16 +41,12 @@ made_then a b c p q = record {
   is = q.is ∙ ap (λ (s : Story). after q.trace s) p.is ∙ sym (after-append p.trace q.trace (story_of a));
 }
 
-pub made_on : (on : Bool) (steps : World → World → Type 0) (mid new : World) → (steps mid new → Made mid new) → goes_on_if on steps mid new → Made mid new
-made_on true steps mid new f r = f r
-made_on false steps mid new f r = record { trace = []; is = r.is }
-
 pub Steps-made : (ss : List Stretch) (old new : World) → Steps ss old new → Made old new
 Steps-made [] old new p = record { trace = []; is = p.is }
 Steps-made (s ∷ ss) old new (inl (mid, c, rest)) = made_then old mid new (record { trace = s.plan (story_of old); is = c.is }) (Steps-made ss mid new rest)
 Steps-made (s ∷ ss) old new (inr (inl (mid, f, rest))) =
     made_then old f.at new (record { trace = f.stopped.trace; is = f.stopped.is })
-    (made_then f.at mid new (record { trace = s.on_fault f.which; is = f.noted.is }) (made_on s.goes_on (Steps ss) mid new (λ r. Steps-made ss mid new r) rest))
+    (made_then f.at mid new (record { trace = s.on_fault f.which; is = f.noted.is }) (went_on s.goes_on (Steps ss) mid new (Made mid new) (λ e r. Steps-made ss mid new r) (λ r. record { trace = []; is = r.is }) rest))
 Steps-made (s ∷ ss) old new (inr (inr l)) =
     made_then old l.at new (record { trace = l.stopped.trace; is = l.stopped.is }) (record { trace = lost l.which; is = l.noted.is })
 

@@ -2,7 +2,7 @@
 use Rattle.std.proofs.Common.{sym, subst, List, [], ◌∷◌, ◌++◌}
 use Rattle.pfr_flash.specs.declared.names.Device.{Device}
 use Rattle.pfr_story.specs.Story.{Story, Move, Says, Does, Asks, Plan, after, moved_by, then, FailedAt, asking, unbegun, torn, IsCut}
-use Rattle.pfr_story.specs.Safety.{Rule, AllGood, IsSafe, AllSafe, Keeps, IsByRange, Both, Leads}
+use Rattle.pfr_story.specs.Safety.{Rule, AllGood, IsSafe, AllSafe, Keeps, Leads}
 use Rattle.pfr_story.proofs.Sequence.{after-append}
 
 module _ (G : Rule) where
@@ -53,15 +53,3 @@ module _ (G : Rule) where
     safe = λ story p. AllSafe-append (first story) (second (after (first story) story)) story (a.safe story p) (b.safe (after (first story) story) (a.ends story p));
     ends = λ story p. subst R (sym (after-append (first story) (second (after (first story) story)) story)) (b.ends (after (first story) story) (a.ends story p));
   }
-
-pub safe_by_range : (G : Rule) → IsByRange G → (moves : List Move) (story : Story) → AllGood G moves story → AllSafe G moves story
-safe_by_range G r [] story p = tt
-safe_by_range G r (Says what ∷ moves) story p = (p.0, safe_by_range G r moves (moved_by (Says what) story) p.1)
-safe_by_range G r (Does which op ∷ moves) story p = ((p.0, λ done t. r which op done story t p.0), safe_by_range G r moves (moved_by (Does which op) story) p.1)
-safe_by_range G r (Asks which ∷ moves) story p = (p.0, safe_by_range G r moves (moved_by (Asks which) story) p.1)
-
-pub safe_both : (G H : Rule) (moves : List Move) (story : Story) → AllSafe G moves story → AllSafe H moves story → AllSafe (Both G H) moves story
-safe_both G H [] story p q = tt
-safe_both G H (Says what ∷ moves) story p q = ((p.0, q.0), safe_both G H moves (moved_by (Says what) story) p.1 q.1)
-safe_both G H (Does which op ∷ moves) story p q = (((p.0.0, q.0.0), λ done t. (p.0.1 done t, q.0.1 done t)), safe_both G H moves (moved_by (Does which op) story) p.1 q.1)
-safe_both G H (Asks which ∷ moves) story p q = ((p.0, q.0), safe_both G H moves (moved_by (Asks which) story) p.1 q.1)

@@ -28,6 +28,7 @@ use Rattle.pfr_story.specs.Guards.{same_bank}
 use Rattle.pfr_story.specs.Story.{Past, Story, Says, Does, Asks, counts_of, past_at, device_of, with_op, operated, noted, image_at}
 use Rattle.pfr_story.specs.Safety.{Rule, Keeps}
 use Rattle.pfr_story.specs.Promises.{count_at}
+use Rattle.pfr_story.proofs.Traces.{IsStamped}
 use Rattle.pfr_story.specs.Spans.{opens_after, closes, ended, opens_from, ended_from, IsSpan, AllSpans, ReleasedSpans}
 
 -- ---- what is left where a span is open
@@ -132,14 +133,6 @@ same_one bank.Bmc bank.Pch e = absurd cc
 same_one bank.Pch bank.Bmc e = absurd cc
 same_one bank.Pch bank.Pch e = refl
 
--- its counts are these
-abbrev pub IsTimely : What → Counts → Type 0
-IsTimely (what.Held b counts) here = counts ≡ here
-IsTimely (what.Released b svn counts) here = counts ≡ here
-IsTimely (what.Locked b cause counts) here = counts ≡ here
-IsTimely (what.Lost which counts) here = counts ≡ here
-IsTimely that here = Unit {0}
-
 -- a bank is released only where the store is settled
 abbrev pub IsSettledWhere : What → List ℕ → Type 0
 IsSettledWhere (what.Released b svn counts) nv = IsSettled nv
@@ -168,7 +161,7 @@ module _ (which : Bank) (P : Counts → Counts → Type 0) (Q : Counts → Type 
   opening_if true counts spans opens e q p = ((staying spans opens p).0, (subst Q (sym e) q, p.1))
   opening_if false counts spans opens e q p = staying spans opens p
 
-  noted_all : (w : What) (nv : List ℕ) → IsTimely w here → IsSettledWhere w nv → (IsSettled nv → Q here) → (spans : List (Counts × Counts)) (opens : List Counts) → AreAll spans opens
+  noted_all : (w : What) (nv : List ℕ) → IsStamped w here → IsSettledWhere w nv → (IsSettled nv → Q here) → (spans : List (Counts × Counts)) (opens : List Counts) → AreAll spans opens
       → AreAll (spans ++ ended which w opens) (opens_after which w opens)
   noted_all (what.Held b counts) nv e s q spans opens p = closing_if (same_bank which b) counts spans opens e p
   noted_all (what.Locked b cause counts) nv e s q spans opens p = closing_if (same_bank which b) counts spans opens e p
@@ -350,7 +343,7 @@ module _ (accepts : Acceptance) (which : Bank) where
 
   -- A move that keeps the bank's spans.
   abbrev pub KeepsSpans : Rule
-  KeepsSpans (Says w) story = IsTimely (w (counts_of story)) (counts_of story) × IsSettledWhere (w (counts_of story)) (image_at device.Nv story)
+  KeepsSpans (Says w) story = IsStamped (w (counts_of story)) (counts_of story) × IsSettledWhere (w (counts_of story)) (image_at device.Nv story)
   KeepsSpans (Does at op) story = AllOpen (SparesOpen at op story) (opens_from which [] story.notes)
   KeepsSpans (Asks at) story = Unit {0}
 

@@ -14,3 +14,4 @@ pub mod Bringing
 pub mod Spans
 pub mod Run
 pub mod Recovery
+pub mod Contents
