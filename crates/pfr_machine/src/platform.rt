@@ -9,7 +9,7 @@ ghost use Rattle.pfr_story.specs.Bringing.{BringsUpCalm, PowerReleases};
 ghost use Rattle.pfr_story.specs.Course.{Calm};
 ghost use Rattle.pfr_story.specs.Guards.{first_guards};
 ghost use Rattle.pfr_story.specs.Promises.{ReleasesTrusted, LocksHaveCauses, RestoresGood, ProvisionsSo, FaultsAreNoted, FaultsHaveCauses, LossesAreNoted, LostEnds, LostIsDark, NotesOff, StaysQuiet, CallsNone, HasPower, DistrustsWithCause, NotesBelong, AreOff, IsPower, IsKnownSlot};
-ghost use Rattle.pfr_story.specs.Recovery.{StaysRecoverable};
+ghost use Rattle.pfr_story.specs.Recovery.{CountsRise, StaysRecoverable};
 ghost use Rattle.pfr_story.specs.Run.{armed, takes_arm};
 ghost use Rattle.pfr_story.specs.Standing.{standing_of, standing_by};
 ghost use Rattle.pfr_story.specs.Turn.{Turn, begun, course};
@@ -135,6 +135,8 @@ impl<F: Flash, E: Engine + Drop> Platform<F, E> {
         ensures untouched { OnOk result (CallsNone event.now self.old.world self.new.world) }
         ensures on { OnOk result (HasPower self.new.world) }
         ensures moved { OnOk result (AllMoved (begun self.old.world) self.new.world) }
+        // The counts that notes carry rise from the step's begin to its end.
+        ensures counted { OnOk result (CountsRise self.old.world self.new.world) }
 
         // Floors and cancellations never go back, and a provision stays, whatever was cut or torn.
         ensures grows { OnOk result (NeverGoesBack self.old.world.nv self.new.world.nv) }
