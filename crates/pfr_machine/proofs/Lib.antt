@@ -1,6 +1,12 @@
 pub mod WorldLemmas
 pub mod DeskLemmas
 pub mod SeatLemmas
-pub mod CheckLemmas
 pub mod CapsuleLemmas
+pub mod StandLemmas
+pub mod StoreLemmas
+pub mod ProvisionLemmas
+pub mod TurnLemmas
+pub mod JudgeLemmas
+pub mod CheckLemmas
+pub mod BringLemmas
 mod VerdictLaw
