@@ -25,8 +25,7 @@ use Rattle.pfr_report.specs.declared.note.What.TheVariants as what
 use Rattle.pfr_story.specs.Story.{Story, Move, Says, Does, Asks, after, moved_by, noted, called, device_of}
 use Rattle.pfr_story.specs.Safety.{Rule, AllSafe, AllMake}
 use Rattle.pfr_story.specs.Plans.{mine, store, restore_ops, copied, restored, by_second, checked_again, judged_active, judged_recovery, by_recovery, by_active, ready_in, ready_of, by_ready, brought_up}
-use Rattle.pfr_story.proofs.SafetyLaws.{AllSafe-append}
-use Rattle.pfr_story.proofs.CallLaws.{image_noted, called_any}
+use Rattle.pfr_story.proofs.SafetyLaws.{AllSafe-append, image_noted, called_any}
 
 abbrev pub Any : Story → Type 0
 Any story = Unit {0}

@@ -30,7 +30,7 @@ use Rattle.pfr_story.specs.Story.{Story, Says, after, noted, operated, other_ban
 use Rattle.pfr_story.specs.Plans.{mine, store, restore_ops, migration_by, migration_in, provisioned, provisioned_in}
 use Rattle.pfr_story.specs.Contents.{RestoresWhole, MigratesWhole, ProvisionsWhole}
 use Rattle.pfr_story.proofs.Sequence.{after-append}
-use Rattle.pfr_story.proofs.CallLaws.{image_noted, image_called, store_called, mine_operated}
+use Rattle.pfr_story.proofs.SafetyLaws.{image_noted, image_called, store_called, mine_operated}
 use Rattle.pfr_story.proofs.RestoreLaws.{not_recovery}
 use Rattle.pfr_story.proofs.FuseLaws.{profile_migrated}
 use Rattle.pfr_story.proofs.KeepLaws.{SaysFuses, migration_says}

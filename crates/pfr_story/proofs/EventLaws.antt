@@ -28,8 +28,7 @@ use Rattle.pfr_story.specs.Course.{Follows}
 use Rattle.pfr_story.specs.Standing.{standing_of, is_off}
 use Rattle.pfr_story.specs.Turn.{off_course, ignored, provision_course, where_off, begun, Turn}
 use Rattle.pfr_story.specs.Promises.{AreOff, IsPower, IsIgnored, StaysQuiet, LostEnds, LostIsDark, BelongsTo, NotesBelong}
-use Rattle.pfr_story.proofs.SafetyLaws.{AllSafe-append}
-use Rattle.pfr_story.proofs.CallLaws.{called_any}
+use Rattle.pfr_story.proofs.SafetyLaws.{AllSafe-append, called_any}
 use Rattle.pfr_story.proofs.Traces.{Traced, Traced-known}
 use Rattle.pfr_story.proofs.Made.{Made, added_said}
 use Rattle.pfr_story.proofs.StepTraces.{AllowsBanks, noted_good, power_good, provision_traced}

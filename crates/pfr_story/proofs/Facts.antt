@@ -35,8 +35,7 @@ use Rattle.pfr_story.specs.Safety.{Rule, AllSafe, AllMake, Leads}
 use Rattle.pfr_story.specs.Plans.{mine, store, lock_of, ready_in, judged_active, judged_recovery, restore_ops, copied, restored, brought_up}
 use Rattle.pfr_story.specs.Causes.{IsTrustedWith, IsNotTrusted, IsAgainst, IsRestorable, IsDue}
 use Rattle.pfr_story.specs.Turn.{fault_of}
-use Rattle.pfr_story.proofs.SafetyLaws.{Leads-then}
-use Rattle.pfr_story.proofs.CallLaws.{image_noted, image_called, store_called, called_any}
+use Rattle.pfr_story.proofs.SafetyLaws.{Leads-then, image_noted, image_called, store_called, called_any}
 use Rattle.pfr_story.proofs.RestoreLaws.{found_good}
 use Rattle.pfr_story.proofs.BringRules.{IsReady, ready_noted, ready_found, IsOwn, Walks, walk_safe, AllowsBank, allowed_safe, Making, safe_made}
 use Rattle.pfr_story.proofs.Traces.{Precedes, Precedes-refl, Precedes-move, Precedes-after}

@@ -43,7 +43,7 @@ use Rattle.pfr_story.specs.Story.{Story, Does, operated, device_of, called}
 use Rattle.pfr_story.specs.Safety.{AllSafe}
 use Rattle.pfr_story.specs.Plans.{mine, store, migration_by, migration_in}
 use Rattle.pfr_story.specs.Recovery.{LeavesTrue}
-use Rattle.pfr_story.proofs.CallLaws.{image_operated, image_did, store_operated, mine_operated, called_safe}
+use Rattle.pfr_story.proofs.SafetyLaws.{image_operated, image_did, store_operated, mine_operated, called_safe}
 use Rattle.pfr_story.proofs.FuseLaws.{part_holds}
 
 -- a good capsule stands in the bank's recovery area

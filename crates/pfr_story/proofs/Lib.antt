@@ -2,7 +2,6 @@ pub mod WorldLaws
 pub mod Sequence
 pub mod Lift
 pub mod SafetyLaws
-pub mod CallLaws
 pub mod RestoreLaws
 pub mod BringRules
 pub mod Courses
@@ -12,7 +11,6 @@ pub mod Facts
 pub mod Turns
 pub mod NoteLaws
 pub mod Made
-pub mod Noting
 pub mod FaultLaws
 pub mod LossLaws
 pub mod TailLaws

@@ -25,11 +25,10 @@ use Rattle.pfr_story.specs.Turn.{bank_stretch, fuse_stretch, provision_stretch, 
 use Rattle.pfr_story.specs.Promises.{HasLost, LossesAreNoted, IsLast, LostEnds, IsSwitchedOff, NotesOff}
 use Rattle.pfr_story.proofs.WorldLaws.{NoneLost-trans, NoneLost-at, LostAt-later, LostAt-on, each_at}
 use Rattle.pfr_story.proofs.Sequence.{after-append}
-use Rattle.pfr_story.proofs.CallLaws.{AllMake-append, AllMake-more, cut_makes}
+use Rattle.pfr_story.proofs.SafetyLaws.{AllMake-append, AllMake-more, cut_makes}
 use Rattle.pfr_story.proofs.Courses.{went_on}
 use Rattle.pfr_story.proofs.Traces.{noted_append, noted_right}
-use Rattle.pfr_story.proofs.Made.{said, said_append, Made, made_then, added_said}
-use Rattle.pfr_story.proofs.Noting.{Whichever, said_all}
+use Rattle.pfr_story.proofs.Made.{said, said_append, Made, made_then, added_said, Whichever, said_all}
 use Rattle.pfr_story.proofs.BringRules.{IsOwn}
 use Rattle.pfr_story.proofs.Facts.{IsLoss, IsNoLoss, brought_makes}
 use Rattle.pfr_story.proofs.Turns.{step_of, Turn-known, IsStore, migrated_makes, provisioned_makes}

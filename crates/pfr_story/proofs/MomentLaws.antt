@@ -14,7 +14,7 @@ use Rattle.pfr_story.specs.Safety.{Rule, AllGood, AllSafe}
 use Rattle.pfr_story.specs.Plans.{mine, store}
 use Rattle.pfr_story.specs.Promises.{AtCounts}
 use Rattle.pfr_story.specs.Recovery.{HoldsIn, LeavesTrue, moments_with, moments_of, StaysAlong}
-use Rattle.pfr_story.proofs.CallLaws.{image_noted}
+use Rattle.pfr_story.proofs.SafetyLaws.{image_noted}
 use Rattle.pfr_story.proofs.Traces.{IsStamped, Traced, Precedes, Precedes-refl, Precedes-after, upto_begins}
 use Rattle.pfr_story.proofs.NoteLaws.{bank_then, at_moment}
 use Rattle.pfr_story.proofs.Made.{Made, made_then, said, added_said}

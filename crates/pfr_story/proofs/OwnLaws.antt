@@ -19,10 +19,9 @@ use Rattle.pfr_story.specs.Story.{Story, Says, after, noted, counts_of, device_o
 use Rattle.pfr_story.specs.Plans.{mine, store, ready_of, judged_active, judged_recovery, restore_ops, restored, by_second, checked_again, by_recovery, by_active, by_ready}
 use Rattle.pfr_story.specs.Causes.{IsAgainst, IsRestorable}
 use Rattle.pfr_story.proofs.BringRules.{IsReady, ready_found}
-use Rattle.pfr_story.proofs.CallLaws.{AllMake-append, AllMake-called}
+use Rattle.pfr_story.proofs.SafetyLaws.{AllMake-append, AllMake-called}
 use Rattle.pfr_story.proofs.Facts.{not_trusted, good_recovery}
-use Rattle.pfr_story.proofs.Made.{said}
-use Rattle.pfr_story.proofs.Noting.{Whichever, AllSay, said_all}
+use Rattle.pfr_story.proofs.Made.{said, Whichever, AllSay, said_all}
 use Rattle.pfr_story.proofs.TailLaws.{behind, judged_told, tail_restored}
 
 -- ---- what is noted

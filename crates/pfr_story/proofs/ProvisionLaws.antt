@@ -37,8 +37,7 @@ use Rattle.pfr_story.specs.Standing.{standing_of, is_off}
 use Rattle.pfr_story.specs.Turn.{provision_stretch, ignored, provision_course, where_off, begun, Turn}
 use Rattle.pfr_story.specs.Promises.{AreOff, IsKnownSlot, IsUntroubled, sizes_judged, TriesProvision, ProvisionsSo}
 use Rattle.pfr_story.proofs.Sequence.{after-append}
-use Rattle.pfr_story.proofs.SafetyLaws.{AllSafe-append}
-use Rattle.pfr_story.proofs.CallLaws.{with_all, past_called, called_any}
+use Rattle.pfr_story.proofs.SafetyLaws.{AllSafe-append, with_all, past_called, called_any}
 use Rattle.pfr_story.proofs.Traces.{Begins, Traced-known, noted_right}
 use Rattle.pfr_story.proofs.Made.{Made, said, said_append, added_said}
 use Rattle.pfr_story.proofs.StepTraces.{AllowsBanks, provision_traced}

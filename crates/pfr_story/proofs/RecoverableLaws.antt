@@ -21,7 +21,7 @@ use Rattle.pfr_story.specs.Safety.{IsSafe, AllSafe, Keeps}
 use Rattle.pfr_story.specs.declared.stop.Stop.{Stop}
 use Rattle.pfr_story.specs.Plans.{mine, store}
 use Rattle.pfr_story.specs.Recovery.{HoldsIn, LeavesTrue, KeepsRecoverable}
-use Rattle.pfr_story.proofs.CallLaws.{image_noted, called_any}
+use Rattle.pfr_story.proofs.SafetyLaws.{image_noted, called_any}
 use Rattle.pfr_story.proofs.Traces.{Traced, Traced-keeps, Traced-whole, Traced-cut}
 use Rattle.pfr_story.proofs.Lift.{image_deeds}
 

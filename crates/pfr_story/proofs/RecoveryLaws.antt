@@ -40,8 +40,7 @@ use Rattle.pfr_story.specs.Plans.{mine, store, judged_recovery, restore_ops, cop
 use Rattle.pfr_story.specs.Turn.{bank_stretch, fuse_stretch, provision_stretch, where_off, ignored, power_course, off_course, provision_course, begun, Turn}
 use Rattle.pfr_story.specs.Recovery.{HoldsIn, LeavesTrue, StaysRecoverable}
 use Rattle.pfr_story.proofs.WorldLaws.{AllMoved-refl}
-use Rattle.pfr_story.proofs.SafetyLaws.{AllSafe-append}
-use Rattle.pfr_story.proofs.CallLaws.{image_noted, called_any}
+use Rattle.pfr_story.proofs.SafetyLaws.{AllSafe-append, image_noted, called_any}
 use Rattle.pfr_story.proofs.RestoreLaws.{found_good}
 use Rattle.pfr_story.proofs.BringRules.{Any, IsReady, ready_noted, ready_found, Walks, walk_safe}
 use Rattle.pfr_story.proofs.Turns.{Turn-moved}

@@ -23,7 +23,7 @@ use Rattle.pfr_report.specs.declared.note.What.TheVariants.{Restored}
 use Rattle.pfr_story.specs.Story.{Story, Says, after, noted, device_of}
 use Rattle.pfr_story.specs.Plans.{mine, store, judged_active, judged_recovery, restore_ops, copied, restored}
 use Rattle.pfr_story.proofs.Sequence.{after-append}
-use Rattle.pfr_story.proofs.CallLaws.{image_noted, image_called, store_called}
+use Rattle.pfr_story.proofs.SafetyLaws.{image_noted, image_called, store_called}
 
 -- ---- what a restore leaves
 module _ (b : Bank) (level : ℕ) (fuses : FusesState) (capsule : CapsuleState) (story : Story) where

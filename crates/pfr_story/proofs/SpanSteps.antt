@@ -35,8 +35,7 @@ use Rattle.pfr_story.specs.Plans.{mine, store, restore_ops, copied, restored, br
 use Rattle.pfr_story.specs.Course.{Follows}
 use Rattle.pfr_story.specs.Turn.{fault_of, bank_stretch, fuse_stretch, provision_stretch, where_off, ignored, off_course, power_course, provision_course, begun, Turn}
 use Rattle.pfr_story.proofs.WorldLaws.{AllMoved-refl}
-use Rattle.pfr_story.proofs.SafetyLaws.{AllSafe-append, Leads-then, safe_whole, safe_cut, kept_by}
-use Rattle.pfr_story.proofs.CallLaws.{notes_operated, image_called}
+use Rattle.pfr_story.proofs.SafetyLaws.{AllSafe-append, Leads-then, safe_whole, safe_cut, kept_by, notes_operated, image_called}
 use Rattle.pfr_story.proofs.Traces.{Traced, Traced-keeps}
 use Rattle.pfr_story.proofs.StepTraces.{Between, AllowsLosses, IsGoodStretch, noted_along, power_along, provision_along}
 use Rattle.pfr_story.proofs.BringRules.{Any, ready_found, Walks, walk_safe}

@@ -22,8 +22,7 @@ use Rattle.pfr_story.specs.Plans.{store, migration_in, provisioned_in}
 use Rattle.pfr_story.specs.Course.{Follows}
 use Rattle.pfr_story.specs.Standing.{standing_of, is_off}
 use Rattle.pfr_story.specs.Turn.{off_course, ignored, provision_course, where_off, begun, Turn}
-use Rattle.pfr_story.proofs.SafetyLaws.{AllSafe-append}
-use Rattle.pfr_story.proofs.CallLaws.{past_did, called_safe}
+use Rattle.pfr_story.proofs.SafetyLaws.{AllSafe-append, past_did, called_safe}
 use Rattle.pfr_story.proofs.Traces.{Traced, Traced-keeps}
 use Rattle.pfr_story.proofs.StepTraces.{AllowsBanks, noted_good, power_good, provision_traced}
 

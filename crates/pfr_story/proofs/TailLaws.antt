@@ -39,9 +39,8 @@ use Rattle.pfr_story.specs.Plans.{mine, store, ready_of, judged_active, judged_r
 use Rattle.pfr_story.specs.Promises.{count_at}
 use Rattle.pfr_story.specs.Causes.{IsNotTrusted, IsAgainst, IsDue, IsRestorable}
 use Rattle.pfr_story.proofs.Sequence.{after-append}
-use Rattle.pfr_story.proofs.CallLaws.{image_noted, past_called}
-use Rattle.pfr_story.proofs.Made.{said}
-use Rattle.pfr_story.proofs.Noting.{noted_first, noted_next, Whichever, AllSay}
+use Rattle.pfr_story.proofs.SafetyLaws.{image_noted, past_called}
+use Rattle.pfr_story.proofs.Made.{said, noted_first, noted_next, Whichever, AllSay}
 use Rattle.pfr_story.specs.Safety.{Rule}
 use Rattle.pfr_story.proofs.BringRules.{AllowsBank, allowed_safe, Making, safe_made}
 use Rattle.pfr_story.proofs.RestoreLaws.{stand_for, RestoresFrom, restored_judged}

@@ -21,8 +21,7 @@ use Rattle.pfr_story.specs.Safety.{Rule, AllGood, AllSafe, Keeps, Both}
 use Rattle.pfr_story.specs.Promises.{NotBefore}
 use Rattle.pfr_story.proofs.WorldLaws.{AllMoved-trans}
 use Rattle.pfr_story.proofs.Sequence.{after-append}
-use Rattle.pfr_story.proofs.CallLaws.{notes_operated}
-use Rattle.pfr_story.proofs.SafetyLaws.{AllGood-append, safe_whole, safe_cut, kept_by}
+use Rattle.pfr_story.proofs.SafetyLaws.{AllGood-append, safe_whole, safe_cut, kept_by, notes_operated}
 
 pub record Traced (G : Rule) (old new : World) : Type 0 where
   pub trace : List Move

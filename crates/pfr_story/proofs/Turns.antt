@@ -24,8 +24,7 @@ use Rattle.pfr_story.specs.Plans.{store, brought_up, migrated, provisioned, prov
 use Rattle.pfr_story.specs.Turn.{fault_of, unreadable, bank_stretch, fuse_stretch, provision_stretch, where_off, ignored, power_course, off_course, provision_course, course, begun, Turn}
 use Rattle.pfr_story.specs.Promises.{IsSwitchedOff}
 use Rattle.pfr_story.proofs.WorldLaws.{AllMoved-refl, AllMoved-trans}
-use Rattle.pfr_story.proofs.SafetyLaws.{AllSafe-append}
-use Rattle.pfr_story.proofs.CallLaws.{AllMake-append, AllMake-called, cut_makes}
+use Rattle.pfr_story.proofs.SafetyLaws.{AllSafe-append, AllMake-append, AllMake-called, cut_makes}
 use Rattle.pfr_story.proofs.Courses.{Steps-moved, Follows-calm}
 use Rattle.pfr_story.proofs.Traces.{Traced, Traced-known, Traced-since, KnownBefore, Precedes, Precedes-after, precedes_moved}
 use Rattle.pfr_story.proofs.StepTraces.{Between, AllowsLosses, IsGoodStretch, noted_along, power_along, provision_along}
