@@ -5,7 +5,8 @@
 
 writes <folder>/bmc, pch, nv, blank.nv, engine, power and hashed. The platform is `ordinary` (a 64 MiB BMC bank with
 18 MiB of hashed regions, a 32 MiB PCH bank with 8 MiB), `capsule` (a 64 MiB BMC bank whose capsule has 16 MiB, and a
-PCH bank of 1 MiB), `small` (two banks of 1 MiB) or `tiny` (two of 128 KiB). The formats are those of docs/FORMATS.md.
+PCH bank of 1 MiB), `restore` (a 64 MiB BMC bank with 24 MiB of hashed regions, and that PCH bank), `small` (two banks of
+1 MiB) or `tiny` (two of 128 KiB). The formats are those of docs/FORMATS.md.
 Beside the active image each bank's recovery area holds an update capsule. The signatures are marks that protect nothing:
 they are digests of the public key and the message.
 """
@@ -220,6 +221,23 @@ def capsule():
     return bmc, small()[1]
 
 
+def restore():
+    """A BMC with 24 MiB of hashed regions behind its manifest area. Its capsule brings 19 MiB of them, for two areas with
+    room for all 24 don't fit the bank beside them; the first 5 MiB are blank, so they are erased alone."""
+    starts = [0x10000 + MIB * k for k in range(24)]
+    bmc = Bank(
+        size=64 * MIB,
+        svn=12,
+        manifest_len=0x10000,
+        recovery_at=25 * MIB,
+        staging_at=25 * MIB + 39 * MIB // 2,
+        area_len=39 * MIB // 2,
+        regions=[Region(at, at + MIB, 1, "sha256", "copy" if k >= 5 else "erase") for k, at in enumerate(starts)],
+        filled=(starts[5], starts[-1] + MIB),
+    )
+    return bmc, small()[1]
+
+
 def small():
     bank = Bank(
         size=MIB,
@@ -258,7 +276,7 @@ def tiny():
     return bank, bank
 
 
-PLATFORMS = {"ordinary": ordinary, "capsule": capsule, "small": small, "tiny": tiny}
+PLATFORMS = {"ordinary": ordinary, "capsule": capsule, "restore": restore, "small": small, "tiny": tiny}
 
 
 def main():

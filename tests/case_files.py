@@ -7,6 +7,7 @@ import os
 import re
 
 import maker
+import restorer
 from case_reader import CaseFault
 from platforms import description_of, made_platform
 
@@ -145,6 +146,15 @@ class Files:
         pieces = "".join(piece(time) for time in range(int(count, 0)))
         self.held[name] = self.held.get(name, b"") + data_of(pieces)
 
+    def restored(self, bank, target, level="1"):
+        """restored BANK TARGET [LEVEL]: the bank's bytes as a restore at a level leaves them, 1 where none is told."""
+        self.held[target] = restorer.restored(self.get(bank), self.get("nv"), bank, int(level))
+
+    def cut_restore(self, bank, target, nth, tear):
+        """cut_restore BANK TARGET N TEAR: the same where the nth operation was torn so, and nothing more was done."""
+        tear = b"" if tear == "-" else bytes.fromhex(tear)
+        self.held[target] = restorer.cut_restore(self.get(bank), self.get("nv"), bank, int(nth), tear)
+
     # ---- their use
 
     def take(self, line):
@@ -164,7 +174,8 @@ class Files:
 
 
 LINES = (
-    "platform source copy text script fill zeros folder seal turn put number into append keep change repeat".split()
+    "platform source copy text script fill zeros folder seal turn put number into append keep change repeat"
+    " restored cut_restore".split()
 )
 
 

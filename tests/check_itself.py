@@ -13,13 +13,16 @@ GOOD = """
 case report
 platform tiny
 turn bmc 0x2345 01
+restored bmc @restored
 run
   1 power
   1 bmc held
   1 bmc untrusted region-hash:0
-  1 bmc locked not-restored
+  1 bmc restored level 1
+  1 bmc released svn 3
   1 pch held
   1 pch released svn 3
+gives bmc @restored
 
 case made
 copy :examples/tiny/description.toml description
@@ -70,8 +73,10 @@ rows before after
 CHANGES = (
     ("region-hash:0", "region-hash:1"),
     ("1 power\n  1 bmc held\n  1 bmc untrusted", "1 powes\n  1 bmc held\n  1 bmc untrusted"),
-    ("  1 pch released svn 3\n\ncase made", "  1 pch released svn 3 \n\ncase made"),
-    ("  1 pch released svn 3\n\ncase made", "  1 pch released svn 3\n  \n\ncase made"),
+    ("  1 pch released svn 3\ngives bmc", "  1 pch released svn 3 \ngives bmc"),
+    ("  1 pch released svn 3\ngives bmc", "  1 pch released svn 3\n  \ngives bmc"),
+    ("gives bmc @restored\n", ""),
+    ("restored bmc @restored", "cut_restore bmc @restored 58 -"),
     ("run\n  1 power", "code 1\nrun\n  1 power"),
     ("gives nv :examples/tiny/nv", "gives nv :examples/tiny/blank.nv"),
     ("gives nv :examples/tiny/nv", "gives nv sha256 " + "0" * 64),

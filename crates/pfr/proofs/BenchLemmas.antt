@@ -13,24 +13,26 @@ use Rattle.pfr_script.specs.declared.item.Item.TheVariants as item
 use Rattle.pfr_report.specs.Texts.{IsNoted}
 use Rattle.pfr_report.specs.declared.note.LockWhy.TheVariants.{FlashFault}
 use Rattle.pfr_report.specs.declared.note.What.TheVariants.{Locked}
-use Rattle.pfr_calm.specs.Story.{Story, device_of}
-use Rattle.pfr_calm.specs.World.{World, story_of, state_at}
-use Rattle.pfr_calm.specs.Run.{Did}
-use Rattle.pfr_calm.specs.Spans.{ReleasedSpans}
-use Rattle.pfr_calm.specs.Promises.{FaultsAreNoted, ReleasesTrusted, LocksHaveCauses, FaultsHaveCauses, added}
-use Rattle.pfr_calm.proofs.Bytes.{HaveBytes, have_bytes}
-use Rattle.pfr_calm.proofs.FaultLaws.{Reached-faults_noted, Turn-faults_noted}
-use Rattle.pfr_calm.proofs.PowerLaws.{Turn-brings_up}
-use Rattle.pfr_calm.proofs.RunLaws.{IsFresh, Reached-spans, Reached-releases, Reached-causes, Reached-faults, Reached-with, armed_story, failed_armed}
+use Rattle.pfr_story.specs.Story.{Story, device_of}
+use Rattle.pfr_story.specs.World.{World, story_of, state_at, added}
+use Rattle.pfr_story.specs.Run.{Did}
+use Rattle.pfr_story.specs.Spans.{ReleasedSpans}
+use Rattle.pfr_story.specs.Promises.{FaultsAreNoted, ReleasesTrusted, LocksHaveCauses, FaultsHaveCauses}
+use Rattle.pfr_story.specs.declared.guards.Guards.{Guards}
+use Rattle.pfr_story.proofs.Bytes.{HaveBytes, have_bytes}
+use Rattle.pfr_story.proofs.NoteLaws.{Turn-distrusts, Turn-restores}
+use Rattle.pfr_story.proofs.FaultLaws.{Turn-told}
+use Rattle.pfr_story.proofs.BringLaws.{Turn-brings}
+use Rattle.pfr_story.proofs.RunLaws.{IsFresh, IsLater-refl, Reached-spans, Reached-releases, Reached-causes, Reached-faults, Reached-told, Reached-with, armed_story, failed_armed}
 use Rattle.pfr.specs.Benches.{fresh_of, end_of, StandsAs, HasRun, IsRun}
 use Rattle.pfr.specs.Promises.{TellsOfFaults, TellsIn, IsUnheard, IsRunWith, HasReleasedSpans, ReleasesTrustedBanks, HasDueLocks, BringsBanksUp, BringsUpIn, KeepsFuses, StaysProvisioned}
 use Rattle.pfr.specs.declared.finished.Bench.{Bench}
 
--- ---- a world, but for the number of its items and the memory for notes
-abbrev as_if : World → ℕ → ℕ → World
-as_if w item spare = record { bmc = w.bmc; pch = w.pch; nv = w.nv; item = item; notes = record { list = w.notes.list; spare = spare } }
+-- ---- a world, but for the number of its items, the memory for notes, and the guards
+abbrev as_if : World → ℕ → ℕ → Guards → World
+as_if w item spare guards = record { bmc = w.bmc; pch = w.pch; nv = w.nv; item = item; notes = record { list = w.notes.list; spare = spare }; guards = guards }
 
-looks : (there here : World) → StandsAs there here → here ≡ as_if there here.item here.notes.spare
+looks : (there here : World) → StandsAs there here → here ≡ as_if there here.item here.notes.spare here.guards
 looks there here s = rw (← s.bmc, ← s.pch, ← s.nv, ← s.notes) refl
 
 -- what its devices held and were given are bytes
@@ -41,26 +43,26 @@ held_at bench end left = have_bytes end (record {
   nv = subst (λ (d : FlashState). HoldsBytes d) left.nv bench.nv.bytes;
 })
 
-told_as : (old w : World) (item spare : ℕ) → FaultsAreNoted old w → FaultsAreNoted old (as_if w item spare)
-told_as old w item spare p calm = let none = p calm in record { bmc = none.bmc; pch = none.pch; nv = none.nv }
+told_as : (old w : World) (item spare : ℕ) (guards : Guards) → FaultsAreNoted old w → FaultsAreNoted old (as_if w item spare guards)
+told_as old w item spare guards p calm = let none = p calm in record { bmc = none.bmc; pch = none.pch; nv = none.nv }
 
-spans_as : (accepts : Acceptance) (w : World) (item spare : ℕ) (which : Bank) → ReleasedSpans accepts which (story_of w) → ReleasedSpans accepts which (story_of (as_if w item spare))
-spans_as accepts w item spare bank.Bmc p = p
-spans_as accepts w item spare bank.Pch p = p
+spans_as : (accepts : Acceptance) (w : World) (item spare : ℕ) (guards : Guards) (which : Bank) → ReleasedSpans accepts which (story_of w) → ReleasedSpans accepts which (story_of (as_if w item spare guards))
+spans_as accepts w item spare guards bank.Bmc p = p
+spans_as accepts w item spare guards bank.Pch p = p
 
-releases_as : (accepts : Acceptance) (old w : World) (item spare : ℕ) → ReleasesTrusted accepts old w → ReleasesTrusted accepts old (as_if w item spare)
-releases_as accepts old w item spare p bank.Bmc svn at noted = p bank.Bmc svn at noted
-releases_as accepts old w item spare p bank.Pch svn at noted = p bank.Pch svn at noted
+releases_as : (accepts : Acceptance) (old w : World) (item spare : ℕ) (guards : Guards) → ReleasesTrusted accepts old w → ReleasesTrusted accepts old (as_if w item spare guards)
+releases_as accepts old w item spare guards p bank.Bmc svn at noted = p bank.Bmc svn at noted
+releases_as accepts old w item spare guards p bank.Pch svn at noted = p bank.Pch svn at noted
 
-locks_as : (accepts : Acceptance) (old w : World) (item spare : ℕ) → LocksHaveCauses accepts old w → LocksHaveCauses accepts old (as_if w item spare)
-locks_as accepts old w item spare p bank.Bmc cause at noted other = p bank.Bmc cause at noted other
-locks_as accepts old w item spare p bank.Pch cause at noted other = p bank.Pch cause at noted other
+locks_as : (accepts : Acceptance) (old w : World) (item spare : ℕ) (guards : Guards) → LocksHaveCauses accepts old w → LocksHaveCauses accepts old (as_if w item spare guards)
+locks_as accepts old w item spare guards p bank.Bmc cause at noted other = p bank.Bmc cause at noted other
+locks_as accepts old w item spare guards p bank.Pch cause at noted other = p bank.Pch cause at noted other
 
-faults_as : (old w : World) (item spare : ℕ) → FaultsHaveCauses old w → FaultsHaveCauses old (as_if w item spare)
-faults_as old w item spare p = record { flash = flash; store = λ which at noted. p.store which at noted }
+faults_as : (old w : World) (item spare : ℕ) (guards : Guards) → FaultsHaveCauses old w → FaultsHaveCauses old (as_if w item spare guards)
+faults_as old w item spare guards p = record { flash = flash; store = λ which at noted. p.store which at noted }
   where
-    flash : (which : Bank) (at : Counts) → IsNoted (added old (as_if w item spare)) (Locked which FlashFault at)
-        → Rose (state_at (device_of which) old).faults (state_at (device_of which) (as_if w item spare)).faults
+    flash : (which : Bank) (at : Counts) → IsNoted (added old (as_if w item spare guards)) (Locked which FlashFault at)
+        → Rose (state_at (device_of which) old).faults (state_at (device_of which) (as_if w item spare guards)).faults
     flash bank.Bmc at noted = p.flash bank.Bmc at noted
     flash bank.Pch at noted = p.flash bank.Pch at noted
 
@@ -69,28 +71,28 @@ fresh_start : (bench : Bench) → HasRun bench → IsFresh (fresh_of bench)
 fresh_start bench has = record { notes = refl; size = has.sizes.nv }
 
 -- what holds of worlds that stand as the end of the run does holds of the bench
-of_end : (P : World → Type 0) (bench : Bench) (has : HasRun bench) → P (as_if has.run.end (end_of bench).item (end_of bench).notes.spare) → P (end_of bench)
+of_end : (P : World → Type 0) (bench : Bench) (has : HasRun bench) → P (as_if has.run.end (end_of bench).item (end_of bench).notes.spare (end_of bench).guards) → P (end_of bench)
 of_end P bench has p = subst P (sym (looks has.run.end (end_of bench) has.run.left)) p
 
 has_spans : (bench : Bench) → HasRun bench → HasReleasedSpans bench
 has_spans bench has which =
     let accepts = acceptance bench.engine in
-    of_end (λ (w : World). ReleasedSpans (acceptance bench.engine) which (story_of w)) bench has (spans_as accepts has.run.end (end_of bench).item (end_of bench).notes.spare which
+    of_end (λ (w : World). ReleasedSpans (acceptance bench.engine) which (story_of w)) bench has (spans_as accepts has.run.end (end_of bench).item (end_of bench).notes.spare (end_of bench).guards which
     (Reached-spans accepts bench.script.tears (take has.count bench.script.items) (fresh_of bench) has.run.end (fresh_start bench has) has.run.reached (held_at bench has.run.end has.run.left) which))
 
 has_releases : (bench : Bench) → HasRun bench → ReleasesTrustedBanks bench
 has_releases bench has =
     let accepts = acceptance bench.engine in
-    of_end (λ (w : World). ReleasesTrusted (acceptance bench.engine) (fresh_of bench) w) bench has (releases_as accepts (fresh_of bench) has.run.end (end_of bench).item (end_of bench).notes.spare
+    of_end (λ (w : World). ReleasesTrusted (acceptance bench.engine) (fresh_of bench) w) bench has (releases_as accepts (fresh_of bench) has.run.end (end_of bench).item (end_of bench).notes.spare (end_of bench).guards
     (Reached-releases accepts bench.script.tears (take has.count bench.script.items) (fresh_of bench) has.run.end (fresh_start bench has) has.run.reached (held_at bench has.run.end has.run.left)))
 
 has_locks : (bench : Bench) → HasRun bench → HasDueLocks bench
 has_locks bench has =
     let accepts = acceptance bench.engine in
     record {
-      contents = of_end (λ (w : World). LocksHaveCauses (acceptance bench.engine) (fresh_of bench) w) bench has (locks_as accepts (fresh_of bench) has.run.end (end_of bench).item (end_of bench).notes.spare
+      contents = of_end (λ (w : World). LocksHaveCauses (acceptance bench.engine) (fresh_of bench) w) bench has (locks_as accepts (fresh_of bench) has.run.end (end_of bench).item (end_of bench).notes.spare (end_of bench).guards
           (Reached-causes accepts bench.script.tears (take has.count bench.script.items) (fresh_of bench) has.run.end (fresh_start bench has) has.run.reached (held_at bench has.run.end has.run.left)));
-      faults = of_end (λ (w : World). FaultsHaveCauses (fresh_of bench) w) bench has (faults_as (fresh_of bench) has.run.end (end_of bench).item (end_of bench).notes.spare
+      faults = of_end (λ (w : World). FaultsHaveCauses (fresh_of bench) w) bench has (faults_as (fresh_of bench) has.run.end (end_of bench).item (end_of bench).notes.spare (end_of bench).guards
           (Reached-faults accepts bench.script.tears (take has.count bench.script.items) (fresh_of bench) has.run.end (fresh_start bench has) has.run.reached (held_at bench has.run.end has.run.left)));
     }
 
@@ -106,12 +108,13 @@ run_with : (bench : Bench) (Goes : Item → World → World → Type 0)
     → (items : List Item) → IsRun items bench → IsRunWith Goes items bench
 run_with bench Goes did items run = record {
   end = run.end;
-  reached = Reached-with (acceptance bench.engine) bench.script.tears Goes did items (fresh_of bench) run.end (held_at bench run.end run.left) run.reached;
+  reached = Reached-with (acceptance bench.engine) bench.script.tears Goes (fresh_of bench) (λ i old new before held did_so. did i old new held did_so) items (fresh_of bench) run.end
+      (IsLater-refl (fresh_of bench)) (held_at bench run.end run.left) run.reached;
   left = run.left;
 }
 
 did_tells : (accepts : Acceptance) (tears : List (List ℕ)) (i : Item) (old new : World) → Did accepts tears i old new → TellsIn i old new
-did_tells accepts tears (item.Event e) old new t = Turn-faults_noted accepts e old new t
+did_tells accepts tears (item.Event e) old new t = Turn-told accepts e old new t
 did_tells accepts tears (item.Arm arm) old new is =
     let tear = slice_index_or tears arm.tear [] in
     subst (λ (w : World). IsUnheard old w) (sym is)
@@ -121,13 +124,17 @@ has_told : (bench : Bench) → HasRun bench → TellsOfFaults bench
 has_told bench has =
     let accepts = acceptance bench.engine in
     record {
-      whole = of_end (λ (w : World). FaultsAreNoted (fresh_of bench) w) bench has (told_as (fresh_of bench) has.run.end (end_of bench).item (end_of bench).notes.spare
-          (Reached-faults_noted accepts bench.script.tears (take has.count bench.script.items) (fresh_of bench) has.run.end has.run.reached));
+      whole = of_end (λ (w : World). FaultsAreNoted (fresh_of bench) w) bench has (told_as (fresh_of bench) has.run.end (end_of bench).item (end_of bench).notes.spare (end_of bench).guards
+          (Reached-told accepts bench.script.tears (take has.count bench.script.items) (fresh_of bench) has.run.end has.run.reached));
       each = run_with bench TellsIn (λ i old new held did. did_tells accepts bench.script.tears i old new did);
     }
 
 did_brings : (accepts : Acceptance) (tears : List (List ℕ)) (i : Item) (old new : World) → HaveBytes new → Did accepts tears i old new → BringsUpIn accepts i old new
-did_brings accepts tears (item.Event e) old new held t = Turn-brings_up accepts e old new held t
+did_brings accepts tears (item.Event e) old new held t = record {
+  calm = Turn-brings accepts e old new t held;
+  distrusts = Turn-distrusts accepts e old new t;
+  restores = Turn-restores accepts e old new t held;
+}
 did_brings accepts tears (item.Arm arm) old new held is = tt
 
 brings_up : (bench : Bench) → BringsBanksUp bench

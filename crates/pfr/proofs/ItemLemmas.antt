@@ -9,8 +9,8 @@ use Rattle.pfr_script.specs.declared.arm.ArmWhat.{ArmWhat}
 use Rattle.pfr_script.specs.declared.arm.ArmWhat.TheVariants.{Cut, Fault, ReadFault}
 use Rattle.pfr_script.specs.declared.item.Item.{Item}
 use Rattle.pfr_script.specs.declared.item.Item.TheVariants as item
-use Rattle.pfr_calm.specs.World.{World}
-use Rattle.pfr_calm.specs.Run.{CanRun, takes_arm}
+use Rattle.pfr_story.specs.World.{World}
+use Rattle.pfr_story.specs.Run.{CanRun, takes_arm}
 use Rattle.pfr.specs.Played.{CanDo}
 
 -- the arms that an item takes of a device

@@ -19,10 +19,11 @@ use Rattle.pfr_script.specs.declared.item.Item.{Item}
 use Rattle.pfr_script.specs.declared.item.Item.TheVariants as item
 use Rattle.pfr_report.specs.NotesState.{NotesState}
 use Rattle.pfr_report.specs.Texts.{AllText}
-use Rattle.pfr_calm.specs.World.{World, state_at}
-use Rattle.pfr_calm.specs.Turn.{next_item}
-use Rattle.pfr_calm.specs.Run.{Did, Reached, CanRun, with_arm, with_arm_at}
-use Rattle.pfr_machine.specs.PlatformState.{PlatformState}
+use Rattle.pfr_story.specs.World.{World, state_at}
+use Rattle.pfr_story.specs.Turn.{begun}
+use Rattle.pfr_story.specs.Run.{Did, Reached, CanRun, with_arm, with_arm_at}
+use Rattle.pfr_story.proofs.Turns.{Turn-moved}
+use Rattle.pfr_machine.specs.Worlds.{PlatformState}
 use Rattle.pfr.specs.Benches.{made_as, bank_room}
 use Rattle.pfr.specs.Judging.{image_fits}
 use Rattle.pfr.specs.Loading.{HasSizes}
@@ -32,7 +33,6 @@ use Rattle.pfr.specs.declared.load.Loaded.{Loaded}
 use Rattle.pfr.specs.declared.playing.Played.{Played}
 use Rattle.pfr.specs.declared.playing.Played.TheVariants.{Whole, Part}
 use Rattle.pfr.specs.declared.status.Role.TheVariants as role
-use Rattle.pfr_calm.proofs.StepTraces.{Turn-moved}
 
 -- the platform is taken apart
 pub played_parts : (start : PlatformState (List Row)) (script : ScriptState) (items : List Item) (bench : Bench) (w : World) → Plays script items start w
@@ -100,7 +100,7 @@ alike_arm Cut nth tear d = record { start = refl; room = refl }
 alike_arm Fault nth tear d = record { start = refl; room = refl }
 alike_arm ReadFault nth tear d = record { start = refl; room = refl }
 
-alike_armed : (which : Device) (what : ArmWhat) (nth : ℕ) (tear : List ℕ) (w : World) → AllAlike w (next_item (with_arm_at which what nth tear w))
+alike_armed : (which : Device) (what : ArmWhat) (nth : ℕ) (tear : List ℕ) (w : World) → AllAlike w (begun (with_arm_at which what nth tear w))
 alike_armed device.Bmc what nth tear w = record { bmc = alike_arm what nth tear w.bmc; pch = alike_same w.pch; nv = alike_same w.nv }
 alike_armed device.Pch what nth tear w = record { bmc = alike_same w.bmc; pch = alike_arm what nth tear w.pch; nv = alike_same w.nv }
 alike_armed device.Nv what nth tear w = record { bmc = alike_same w.bmc; pch = alike_same w.pch; nv = alike_arm what nth tear w.nv }
@@ -159,7 +159,7 @@ run_of wear loaded bench start items sizes is played =
         reached = rw (made_alike bench.bmc.device _ _ bmc bmc_room, made_alike bench.pch.device _ _ pch pch_room, made_alike bench.nv.device _ _ nv nv_room) reached;
         left = left;
       };
-      grown = rw (made_alike bench.nv.device _ _ nv nv_room) (rw (ap (λ (s : PlatformState (List Row)). s.world.nv) is) at played.lasts).grows.grows;
+      grown = rw (made_alike bench.nv.device _ _ nv nv_room) (rw (ap (λ (s : PlatformState (List Row)). s.world.nv) is) at played.lasts).grows;
       kept = rw (made_alike bench.nv.device _ _ nv nv_room) (rw (ap (λ (s : PlatformState (List Row)). s.world.nv) is) at played.lasts).keeps;
       sizes = record {
         bmc = rw bmc (bank_size (length loaded.bmc.items) sizes.bmc);

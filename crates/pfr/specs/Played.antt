@@ -2,6 +2,7 @@
 use Rattle.std.specs.Prelude.{◌≡◌, ℕ, ◌≤◌, List, [], length, take}
 use Rattle.pfr_flash.specs.FlashState.{FlashState}
 use Rattle.pfr_flash.specs.MemFlash.{new_device}
+use Rattle.pfr_flash.specs.Moved.{Extends}
 use Rattle.pfr_engine.specs.Accepting.{acceptance}
 use Rattle.pfr_engine.specs.declared.row.Row.{Row}
 use Rattle.pfr_script.specs.ScriptState.{ScriptState}
@@ -9,10 +10,11 @@ use Rattle.pfr_script.specs.Arms.{IsKnownArm}
 use Rattle.pfr_script.specs.declared.item.Item.{Item}
 use Rattle.pfr_script.specs.declared.item.Item.TheVariants as item
 use Rattle.pfr_report.specs.Texts.{AllText}
-use Rattle.pfr_calm.specs.World.{World, state_at}
-use Rattle.pfr_calm.specs.Run.{Did, Reached, takes_arm}
-use Rattle.pfr_machine.specs.PlatformState as platform
-use Rattle.pfr_machine.specs.PlatformState.{PlatformState, StoreGrows}
+use Rattle.pfr_story.specs.Guards.{first_guards}
+use Rattle.pfr_story.specs.World.{World, state_at}
+use Rattle.pfr_story.specs.Run.{Did, Reached, takes_arm}
+use Rattle.pfr_machine.specs.Inside.{HasSizes}
+use Rattle.pfr_machine.specs.Worlds.{PlatformState}
 use Rattle.pfr_fuses.specs.Growth.{NeverGoesBack, KeepsProvision}
 use Rattle.pfr.specs.Benches.{fresh_of, end_of, StandsAs, IsRun, HasRooms, bank_room}
 use Rattle.pfr.specs.declared.finished.Bench.{Bench}
@@ -28,6 +30,7 @@ fresh wear bmc pch nv = record {
   nv = new_device nv 65536;
   item = 0;
   notes = record { list = []; spare = 0 };
+  guards = first_guards;
 }
 
 -- an item can be done: its tear is there, and its device has an arm for it
@@ -43,7 +46,9 @@ pub record Plays (script : ScriptState) (items : List Item) (old : PlatformState
 
 -- fuses were cleared in the store, and never taken back, and a slot that provisions the platform stayed
 pub record StoreLasts (old new : FlashState) : Type 0 where
-  pub grows : StoreGrows old new
+  pub start : new.start ≡ old.start
+  pub more : Extends old.ops new.ops
+  pub grows : NeverGoesBack old new
   pub keeps : KeepsProvision old new
 
 pub record IsPlayedFrom (start : PlatformState (List Row)) (script : ScriptState) (items : List Item) (bench : Bench) : Type 0 where
@@ -62,7 +67,7 @@ pub record IsRunOf (wear : ℕ) (loaded : Loaded) (bench : Bench) (items : List 
   pub run : IsRun items bench
   pub grown : NeverGoesBack (fresh_of bench).nv bench.nv.device
   pub kept : KeepsProvision (fresh_of bench).nv bench.nv.device
-  pub sizes : platform.HasSizes (fresh_of bench)
+  pub sizes : HasSizes (fresh_of bench)
   pub texts : AllText bench.notes.list
   pub rooms : HasRooms wear bench
   pub bmc : bench.bmc.device.start ≡ loaded.bmc.items

@@ -4,16 +4,19 @@ use Rattle.pfr_flash.specs.declared.names.Bank.{Bank}
 use Rattle.pfr_engine.specs.Acceptance.{Acceptance}
 use Rattle.pfr_engine.specs.Accepting.{acceptance}
 use Rattle.pfr_fuses.specs.Growth.{NeverGoesBack, KeepsProvision}
+use Rattle.pfr_script.specs.declared.event.Event.{Event}
 use Rattle.pfr_script.specs.declared.item.Item.{Item}
 use Rattle.pfr_script.specs.declared.item.Item.TheVariants as item
-use Rattle.pfr_calm.specs.World.{NoneFailed, World, story_of}
-use Rattle.pfr_calm.specs.Run.{Did, Reached}
-use Rattle.pfr_calm.specs.Spans.{ReleasedSpans}
-use Rattle.pfr_calm.specs.Promises.{FaultsAreNoted, ReleasesTrusted, LocksHaveCauses, FaultsHaveCauses, BringsUpCalm}
+use Rattle.pfr_story.specs.World.{NoneFailed, World, story_of}
+use Rattle.pfr_story.specs.Run.{Did, Reached}
+use Rattle.pfr_story.specs.Spans.{ReleasedSpans}
+use Rattle.pfr_story.specs.Bringing.{BringsUpCalm}
+use Rattle.pfr_story.specs.Promises.{FaultsAreNoted, ReleasesTrusted, LocksHaveCauses, FaultsHaveCauses, DistrustsWithCause, RestoresGood}
 use Rattle.pfr.specs.Benches.{fresh_of, end_of, StandsAs, IsRun}
 use Rattle.pfr.specs.declared.finished.Bench.{Bench}
 
--- In each span in which a bank stands released it was trusted at every count, and no operation touched what this reads.
+-- In each span in which a bank stands released it was trusted at every count, and no operation touched what this reads, or the
+-- bank's recovery area.
 abbrev pub HasReleasedSpans : Bench → Type 0
 HasReleasedSpans bench = (which : Bank) → ReleasedSpans (acceptance bench.engine) which (story_of (end_of bench))
 
@@ -34,9 +37,15 @@ KeepsFuses bench = NeverGoesBack (fresh_of bench).nv bench.nv.device
 abbrev pub StaysProvisioned : Bench → Type 0
 StaysProvisioned bench = KeepsProvision (fresh_of bench).nv bench.nv.device
 
--- an item that is a power-on brings each bank up by the contents that it leaves, unless a device failed
+-- What an event does to banks: a power-on brings each up by the contents where it is held, unless a call failed while it was in
+-- work; and none is called untrusted or restored without cause.
+pub record BringsUpSo (accepts : Acceptance) (event : Event) (old new : World) : Type 0 where
+  pub calm : BringsUpCalm event accepts old new
+  pub distrusts : DistrustsWithCause accepts old new
+  pub restores : RestoresGood accepts old new
+
 abbrev pub BringsUpIn : Acceptance → Item → World → World → Type 0
-BringsUpIn accepts (item.Event event) old new = BringsUpCalm event accepts old new
+BringsUpIn accepts (item.Event event) old new = BringsUpSo accepts event old new
 BringsUpIn accepts (item.Arm arm) old new = Unit {0}
 
 -- these items were done, each of them so
@@ -61,6 +70,7 @@ pub record TellsOfFaults (bench : Bench) : Type 0 where
   pub whole : FaultsAreNoted (fresh_of bench) (end_of bench)
   pub each : (items : List Item) → IsRun items bench → IsRunWith TellsIn items bench
 
--- In the run each power-on released each bank that was trusted and locked each that had a cause, unless a device failed.
+-- In the run each power-on released each bank that was trusted, restored each that wasn't and had a good capsule, and locked each
+-- that had a cause, unless a device failed.
 abbrev pub BringsBanksUp : Bench → Type 0
 BringsBanksUp bench = (items : List Item) → IsRun items bench → IsRunWith (BringsUpIn (acceptance bench.engine)) items bench

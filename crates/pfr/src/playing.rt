@@ -3,8 +3,8 @@ ghost use Rattle.std.specs.Prelude.{◌≡◌, ◌≤◌, ◌<◌, ℕ, length, 
 ghost use Rattle.pfr_flash.specs.MemFlash.{new_device};
 ghost use Rattle.pfr_engine.specs.Accepting.{acceptance};
 ghost use Rattle.pfr_report.specs.Texts.{AllText};
-ghost use Rattle.pfr_calm.specs.Run.{Did, CanRun};
-ghost use Rattle.pfr_machine.specs.PlatformState.{SameButRoom};
+ghost use Rattle.pfr_story.specs.Run.{Did, CanRun};
+ghost use Rattle.pfr_machine.specs.Worlds.{SameButRoom};
 ghost use Rattle.pfr.specs.Benches.{bank_room};
 ghost use Rattle.pfr.specs.Judging.{image_fits};
 ghost use Rattle.pfr.specs.Loading.{HasSizes};

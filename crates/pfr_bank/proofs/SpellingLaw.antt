@@ -1,7 +1,6 @@
 -- An image that is judged well holds its manifest, and what that says.
 use Rattle.std.proofs.Common.{◌≡◌, ℕ, List, length, Ok, arith}
 use Rattle.pfr_flash.specs.Bytes.{AreBytes}
-use Rattle.pfr_flash.specs.FlashState.{FlashState, now}
 use Rattle.pfr_flash.specs.Layout.{IsValidLayout}
 use Rattle.pfr_flash.specs.declared.names.Bank.{Bank}
 use Rattle.pfr_engine.specs.Acceptance.{Acceptance}

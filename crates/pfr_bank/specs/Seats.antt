@@ -1,5 +1,4 @@
 -- Banks whose active image was judged, as contracts see them.
-use Rattle.std.specs.Prelude.{List}
 use Rattle.pfr_flash.specs.declared.layout.Layout.{Layout}
 use Rattle.pfr_flash.specs.declared.names.Bank.{Bank}
 use Rattle.pfr_manifest.specs.declared.manifest.Manifest.{Manifest}

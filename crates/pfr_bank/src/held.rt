@@ -106,6 +106,13 @@ impl<F: Flash> Held<F> {
         Off { flash, bank }
     }
 
+    /// How many bytes the flash has.
+    pub fn size(&self) -> u32
+        ensures { result ≡ size_of (F.device self.now.flash) }
+    {
+        self.flash.size()
+    }
+
     /// How many erases and programs the flash has done.
     pub fn op_count(&self) -> u32
         ensures { result ≡ op_count_of (F.device self.now.flash) }

@@ -1,10 +1,11 @@
 // A bank that is locked.
-ghost use Rattle.std.specs.Prelude.{◌≡◌, false};
-ghost use Rattle.pfr_flash.specs.FlashState.{op_count_of};
+ghost use Rattle.std.specs.Prelude.{◌≡◌, ◌<◌, ◌≤◌, true, false};
+ghost use Rattle.pfr_flash.specs.Flash.{with_cut, with_fault};
+ghost use Rattle.pfr_flash.specs.FlashState.{op_count_of, size_of};
 
 use crate::held::Held;
 use crate::off::Off;
-use pfr_flash::{Bank, Flash};
+use pfr_flash::{Bank, Flash, Rigged, Tear};
 
 /// A bank that is kept from running. Its flash has the power that it had when the bank was held, and is lent to nobody.
 #[derive(Drop)]
@@ -35,6 +36,13 @@ impl<F: Flash> Locked<F> {
         Off { flash, bank }
     }
 
+    /// How many bytes the flash has.
+    pub fn size(&self) -> u32
+        ensures { result ≡ size_of (F.device self.now.flash) }
+    {
+        self.flash.size()
+    }
+
     /// How many erases and programs the flash has done.
     pub fn op_count(&self) -> u32
         ensures { result ≡ op_count_of (F.device self.now.flash) }
@@ -47,5 +55,36 @@ impl<F: Flash> Locked<F> {
         ensures { result ≡ self.flash }
     {
         self.flash
+    }
+}
+
+impl<F: Rigged> Locked<F> {
+    /// Lets the nth erase or program from now on lose the power, and leave the tear.
+    pub fn arm_cut(&mut self, nth: u32, tear: &Tear)
+        requires nth { 1 ≤ nth }
+        requires arms { 0 < (F.device self.old.flash).arms }
+        ensures flash { F.device self.new.flash ≡ with_cut (F.device self.old.flash) nth tear.now }
+        ensures rest { self.new ≡ record self.old { flash = self.new.flash } }
+    {
+        self.flash.arm_cut(nth, tear);
+    }
+
+    /// Lets the nth erase or program from now on fail, and leave the tear.
+    pub fn arm_fault(&mut self, nth: u32, tear: &Tear)
+        requires nth { 1 ≤ nth }
+        requires arms { 0 < (F.device self.old.flash).arms }
+        ensures flash { F.device self.new.flash ≡ with_fault (F.device self.old.flash) nth tear.now }
+        ensures rest { self.new ≡ record self.old { flash = self.new.flash } }
+    {
+        self.flash.arm_fault(nth, tear);
+    }
+
+    /// Lets the nth read from now on fail.
+    pub fn arm_read_fault(&mut self, nth: u32)
+        requires { 1 ≤ nth }
+        ensures flash { F.device self.new.flash ≡ record (F.device self.old.flash) { read_due = true } }
+        ensures rest { self.new ≡ record self.old { flash = self.new.flash } }
+    {
+        self.flash.arm_read_fault(nth);
     }
 }

@@ -1,8 +1,12 @@
 pub mod WorldLemmas
-pub mod ReadLemmas
-pub mod WakeLemmas
+pub mod DeskLemmas
+pub mod SeatLemmas
+pub mod CapsuleLemmas
+pub mod StandLemmas
+pub mod StoreLemmas
 pub mod ProvisionLemmas
 pub mod TurnLemmas
-pub mod StoreLemmas
+pub mod JudgeLemmas
+pub mod CheckLemmas
+pub mod BringLemmas
 mod VerdictLaw
-pub mod RecoveryLemmas

@@ -36,7 +36,7 @@ use Rattle.pfr_report.specs.declared.verdict.BankVerdict.{BankVerdict}
 use Rattle.pfr_report.specs.declared.verdict.Standing.TheVariants.{Ready}
 use Rattle.pfr_machine.specs.Verdicts.{EndsEither, HasGood, HasSameManifest, HasTrusted, IsVerdict, ready, ready_if, share_manifest, spell_same, svn_of_capsule, svn_of_image, verdict_of, verdict_with}
 use Rattle.pfr_machine.specs.VerdictsInside.{AreOne, IsBorneOut, IsGoodIn, IsSound, tells}
-use Rattle.pfr_machine.proofs.RecoveryLemmas.{stands_bank}
+use Rattle.pfr_machine.proofs.JudgeLemmas.{stands_bank}
 
 -- ---- whether two manifests have one text
 

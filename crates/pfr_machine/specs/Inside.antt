@@ -1,22 +1,24 @@
 -- What is true of a platform between two events, and while a bank is in work.
-use Rattle.std.specs.Prelude.{◌≡◌, ◌≢◌, ◌*◌, ◌≤◌, length, true, Option, Some, None}
+use Rattle.std.specs.Prelude.{◌≡◌, ◌≢◌, ◌*◌, ◌≤◌, [], length, true, false, Option, Some, None}
 use Rattle.pfr_flash.specs.FlashState.{FlashState, size_of}
 use Rattle.pfr_flash.specs.Layout.{IsBankSize}
 use Rattle.pfr_flash.specs.declared.names.Bank.{Bank}
 use Rattle.pfr_flash.specs.declared.names.Bank.TheVariants.{Bmc, Pch}
 use Rattle.pfr_report.specs.Texts.{AllText}
+use Rattle.pfr_story.specs.Guards.{first_guards}
 use Rattle.pfr_story.specs.Standing as standing
 use Rattle.pfr_story.specs.Standing.{standing_of, standing_by, Held}
 use Rattle.pfr_story.specs.Story.{device_of}
 use Rattle.pfr_story.specs.World.{World, state_at}
 use Rattle.pfr_story.specs.declared.line.Line.{Line}
 use Rattle.pfr_story.specs.declared.line.Line.TheVariants.{Off}
-use Rattle.pfr_machine.specs.Worlds.{other_of}
+use Rattle.pfr_machine.specs.Worlds.{bank_in, line_in, other_of, sides_world}
+use Rattle.pfr_machine.specs.declared.sides.Sides.{Sides}
 
 -- The seat of a bank, which is this one's and stands so: its device has a bank's size, the notes say the same of the bank, and
 -- its device has power, unless the bank is off.
-pub record IsSeat (which owner : Bank) (how : Line) (w : World) : Type 0 where
-  pub owner : owner ≡ which
+pub record IsSeat (which whose : Bank) (how : Line) (w : World) : Type 0 where
+  pub owner : whose ≡ which
   pub size : IsBankSize (size_of (state_at (device_of which) w))
   pub stands : standing_of which w.notes.list ≡ standing_by how
   pub on : how ≢ Off → (state_at (device_of which) w).powered ≡ true
@@ -26,38 +28,72 @@ pub record IsBoard (w : World) : Type 0 where
   pub size : size_of w.nv ≡ 32768
   pub texts : AllText w.notes.list
 
--- No bank is in work. The store has power, unless both banks are off.
-pub record AreSeated (bmc_owner pch_owner : Bank) (bmc pch : Line) (w : World) : Type 0 where
-  pub bmc : IsSeat Bmc bmc_owner bmc w
-  pub pch : IsSeat Pch pch_owner pch w
+-- No bank is in work.
+pub record AreSeated (bmc_whose pch_whose : Bank) (bmc_line pch_line : Line) (w : World) : Type 0 where
+  pub bmc : IsSeat Bmc bmc_whose bmc_line w
+  pub pch : IsSeat Pch pch_whose pch_line w
   pub board : IsBoard w
-  pub beside_bmc : bmc ≢ Off → w.nv.powered ≡ true
-  pub beside_pch : pch ≢ Off → w.nv.powered ≡ true
+
+-- the same as one of the banks sees it
+pub record AreBeside (which whose other_whose : Bank) (my_line other_line : Line) (w : World) : Type 0 where
+  pub mine : IsSeat which whose my_line w
+  pub other : IsSeat (other_of which) other_whose other_line w
+  pub board : IsBoard w
+
+abbrev pub AreSides : {F : Type 0} → (F → FlashState) → Sides F → Type 0
+AreSides device sides = AreBeside sides.bank (bank_in sides.mine) (bank_in sides.other) (line_in sides.mine) (line_in sides.other) (sides_world device sides)
 
 -- This bank is in work, and its device is held for this one.
-pub record IsDesk (which owner other_owner : Bank) (other : Line) (w : World) : Type 0 where
-  pub owner : owner ≡ which
+pub record IsDesk (which whose other_whose : Bank) (other_line : Line) (w : World) : Type 0 where
+  pub owner : whose ≡ which
   pub size : IsBankSize (size_of (state_at (device_of which) w))
   pub stands : standing_of which w.notes.list ≡ Held
-  pub other : IsSeat (other_of which) other_owner other w
+  pub other : IsSeat (other_of which) other_whose other_line w
   pub board : IsBoard w
 
--- Between two events both banks are off or neither is, and an item added 64 notes at most.
+-- Between two events both banks are off, or neither is and the store has power; and an item added 64 notes at most.
 pub record IsWhole (w : World) : Type 0 where
   pub together : standing_of Bmc w.notes.list ≡ standing.Off → standing_of Pch w.notes.list ≡ standing.Off
   pub apart : standing_of Pch w.notes.list ≡ standing.Off → standing_of Bmc w.notes.list ≡ standing.Off
+  pub on : standing_of Bmc w.notes.list ≢ standing.Off → w.nv.powered ≡ true
   pub few : length w.notes.list ≤ 64 * w.item
 
 -- ---- the platform as a whole
 
+-- the devices have the sizes of two banks and of a store
+pub record HasSizes (w : World) : Type 0 where
+  pub bmc : IsBankSize (size_of w.bmc)
+  pub pch : IsBankSize (size_of w.pch)
+  pub nv : size_of w.nv ≡ 32768
+
+-- a bank's device has power, unless the bank is off
+abbrev pub AreLit : World → Type 0
+AreLit w = (which : Bank) → standing_of which w.notes.list ≢ standing.Off → (state_at (device_of which) w).powered ≡ true
+
 -- a device that is no device
 abbrev pub no_device : FlashState
-no_device = record { start = []; ops = [] }
+no_device = record {
+  start = [];
+  ops = [];
+  powered = false;
+  faults = 0;
+  losses = 0;
+  arms = 0;
+  room = 0;
+  taken = 0;
+  cut_due = None;
+  fault_due = None;
+  read_due = false;
+}
+
+abbrev pub no_world : World
+no_world = record { bmc = no_device; pch = no_device; nv = no_device; item = 0; notes = record { list = []; spare = 0 }; guards = first_guards }
 
 abbrev pub world_in : Option World → World
 world_in (Some w) = w
 world_in None = no_world
 
+-- the platform is there, between two events
 abbrev pub IsThere : Option World → Type 0
 IsThere (Some w) = IsWhole w
 IsThere None = ⊥

@@ -44,7 +44,7 @@ pub record LeavesSeated (most : ℕ) (old : DeskState) (new : World) : Type 0 wh
 -- a call of a device failed while the bank was in work by this plan
 pub record HaltsIn (plan : Plan) (most : ℕ) (old : DeskState) (stop : Stop) (new : DeskState) : Type 0 where
   pub stopped : Stopped (plan (story_of old.world)) stop.device stop.fail old.world new.world
-  pub stays : Stays {Unit {0}} most old new (Err stop)
+  pub stays : Stays {T = Unit {0}} most old new (Err stop)
 
 -- Work on a bank by a plan that ends with a release or a lock.
 abbrev pub EndsSeated : {F : Type 0} → Plan → ℕ → DeskState → Result World (Halt F) → Type 0
@@ -63,7 +63,7 @@ pub record DistrustedBy (accepts : Acceptance) (fuses : FusesState) (why : Activ
   pub judged : judged_active accepts old.bank fuses (story_of old.world) ≡ Err why
   pub cause : IsFound active_failure why
   pub ran : Ran (asks old.bank (story_of old.world)) old.world new.world
-  pub stays : Stays {Unit {0}} 0 old new (Ok tt)
+  pub stays : Stays {T = Unit {0}} 0 old new (Ok tt)
 
 -- A check of the active image of the bank in work.
 abbrev pub Checks : {F : Type 0} → Acceptance → FusesState → DeskState → Result (Found F) (Halt F) → Type 0
@@ -109,11 +109,12 @@ pub record StaysSeated {T : Type 0} (most : ℕ) (old new : World) (answer : Res
   pub notes : AddsNotes most old.notes new.notes
   pub nv : StaysFed new answer
 
--- what a step makes of the platform
-pub record LeavesWhole (old new : World) : Type 0 where
+-- what work on the whole platform makes of it
+pub record LeavesWhole (most : ℕ) (old new : World) : Type 0 where
   pub together : standing_of Bmc new.notes.list ≡ Off → standing_of Pch new.notes.list ≡ Off
   pub apart : standing_of Pch new.notes.list ≡ Off → standing_of Bmc new.notes.list ≡ Off
-  pub notes : AddsNotes 64 old.notes new.notes
+  pub on : standing_of Bmc new.notes.list ≢ Off → new.nv.powered ≡ true
+  pub notes : AddsNotes most old.notes new.notes
 
 -- an event is taken: it is a power-on, or the banks aren't off
 abbrev pub IsTaken : Event → World → Type 0

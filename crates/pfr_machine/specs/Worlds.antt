@@ -1,24 +1,21 @@
 -- The platform as contracts see it: between two events, and while a bank is in work.
-use Rattle.std.specs.Prelude.{◌≡◌, ◌≢◌, ℕ, ◌+◌, ◌-◌, ◌≤◌, Bool, true, List, [], ◌∷◌, ◌++◌, length, Option, Some, None, Result, Ok, Err}
-use Rattle.pfr_flash.specs.FlashState.{FlashState, size_of}
-use Rattle.pfr_flash.specs.Layout.{IsBankSize}
+use Rattle.std.specs.Prelude.{◌≡◌, ℕ, ◌+◌, ◌-◌, ◌≤◌, true, [], ◌∷◌, ◌++◌, length, Result, Ok, Err}
+use Rattle.pfr_flash.specs.FlashState.{FlashState}
 use Rattle.pfr_flash.specs.declared.flash.FlashFail.TheVariants.{Fault}
 use Rattle.pfr_flash.specs.declared.names.Bank.{Bank}
 use Rattle.pfr_flash.specs.declared.names.Bank.TheVariants as bank
 use Rattle.pfr_flash.specs.declared.names.Device.{Device}
 use Rattle.pfr_flash.specs.declared.names.Device.TheVariants as device
-use Rattle.pfr_bank.specs.Seats.{JudgedState}
 use Rattle.pfr_report.specs.NotesState.{NotesState}
 use Rattle.pfr_report.specs.declared.note.What.{What}
-use Rattle.pfr_story.specs.Guards.{guards_after, first_guards}
+use Rattle.pfr_story.specs.Guards.{guards_after}
 use Rattle.pfr_story.specs.Story.{device_of}
-use Rattle.pfr_story.specs.World.{World, state_at, story_of}
-use Rattle.pfr_story.specs.Goes.{Ran, Stopped}
-use Rattle.pfr_story.specs.Story.{Plan}
+use Rattle.pfr_story.specs.World.{World, state_at}
 use Rattle.pfr_story.specs.declared.line.Line.{Line}
 use Rattle.pfr_story.specs.declared.line.Line.TheVariants as line
 use Rattle.pfr_story.specs.declared.stop.Stop.{Stop}
 use Rattle.pfr_machine.specs.declared.board.Board.{Board}
+use Rattle.pfr_machine.specs.declared.sides.Sides.{Sides}
 use Rattle.pfr_machine.specs.declared.seat.Seat.{Seat}
 use Rattle.pfr_machine.specs.declared.seat.Seat.TheVariants as seat
 
@@ -48,11 +45,22 @@ abbrev pub desk_world : {F : Type 0} → Bank → FlashState → FlashState → 
 desk_world bank.Bmc mine other nv board = world_with mine other nv board
 desk_world bank.Pch mine other nv board = world_with other mine nv board
 
+-- the same by both banks' seats
+abbrev pub sides_world : {F : Type 0} → (F → FlashState) → Sides F → World
+sides_world device sides = desk_world sides.bank (device (flash_in sides.mine)) (device (flash_in sides.other)) (device sides.board.nv) sides.board
+
 -- another state of this device
 abbrev pub with_state : Device → FlashState → World → World
 with_state device.Bmc d w = record w { bmc = d }
 with_state device.Pch d w = record w { pch = d }
 with_state device.Nv d w = record w { nv = d }
+
+-- a note is appended, and moves the guards
+abbrev pub pushed : {F : Type 0} → What → Board F → Board F
+pushed what board = record board {
+  notes = record { list = board.notes.list ++ record { item = board.item; what = what } ∷ []; spare = board.notes.spare - 1 };
+  guards = guards_after what board.guards;
+}
 
 -- something was noted
 abbrev pub with_note : What → World → World

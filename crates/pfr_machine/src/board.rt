@@ -1,6 +1,6 @@
 // What both banks share: the store, the notes, and what is counted.
-ghost use Rattle.std.specs.Prelude.{◌≡◌, ◌-◌, ◌≤◌, [], ◌∷◌, ◌++◌};
-ghost use Rattle.pfr_story.specs.Guards.{guards_after};
+ghost use Rattle.std.specs.Prelude.{◌≡◌, ◌≤◌};
+ghost use Rattle.pfr_machine.specs.Worlds.{pushed};
 
 use pfr_flash::Flash;
 use pfr_report::{Note, Notes, What};
@@ -19,10 +19,7 @@ impl<F: Flash> Board<F> {
     /// Appends a note of the item that is being done, which moves the guards.
     pub fn push(&mut self, what: What)
         requires room { 1 ≤ self.old.notes.spare }
-        ensures noted { self.new ≡ record self.old {
-          notes = record { list = self.old.notes.list ++ record { item = self.old.item; what = what } ∷ []; spare = self.old.notes.spare - 1 };
-          guards = guards_after what self.old.guards;
-        } }
+        ensures noted { self.new ≡ pushed what self.old }
     {
         let item = self.item;
         self.guards.note(&what);

@@ -1,18 +1,21 @@
 // How a bank is brought up.
-ghost use Rattle.std.specs.Prelude.{◌≡◌, ◌≤◌, Ok, Err, IfErr, OnOk, IfOk};
+ghost use Rattle.std.specs.Prelude.{◌≡◌, ◌≤◌, Ok, Err, IfOk, IfErr, IsOk};
 ghost use Rattle.pfr_flash.specs.Answer.{IsFound};
 ghost use Rattle.pfr_flash.specs.FlashState.{now, size_of};
+ghost use Rattle.pfr_flash.specs.Holding.{HoldsBytes};
 ghost use Rattle.pfr_flash.specs.Layout.{IsBankSize, IsValidLayout};
+ghost use Rattle.pfr_flash.specs.declared.flash.FlashFail.TheVariants.{Fault};
 ghost use Rattle.pfr_auth.specs.Answer.{active_failure};
+ghost use Rattle.pfr_copy.specs.Applying.{CanApply};
 ghost use Rattle.pfr_fuses.specs.FusesOf.{fuses_of};
-ghost use Rattle.pfr_fuses.specs.FusesState.{FusesState};
 ghost use Rattle.pfr_fuses.specs.RootSlot.{layout_of};
-ghost use Rattle.pfr_story.specs.Plans.{asks, asks_store, brought_up, by_ready, by_recovery, checked_again, judged_recovery, ready_in, ready_of, tail};
-ghost use Rattle.pfr_story.specs.Story.{then, says, device_of};
+ghost use Rattle.pfr_story.specs.Plans.{asks_store, by_active, by_ready, checked_again, judged_active, judged_recovery};
+ghost use Rattle.pfr_story.specs.Plans.{lock_of, ready_in, ready_of, recovered, restored, tail};
+ghost use Rattle.pfr_story.specs.Story.{then, device_of};
 ghost use Rattle.pfr_story.specs.Turn.{bank_stretch, fault_of};
 ghost use Rattle.pfr_story.specs.World.{state_at, story_of};
 ghost use Rattle.pfr_machine.specs.Worlds.{IsAwake};
-ghost use Rattle.pfr_machine.specs.Ready.{Brings, EndsSeated, IsText};
+ghost use Rattle.pfr_machine.specs.Ready.{Brings, Ended, EndsSeated, IsText};
 
 use crate::desk::{Desk, Found, Halt};
 use crate::inner::Inner;
@@ -31,7 +34,7 @@ pub struct Dark<F: Flash> {
 
 // What a fault of a device locks the bank in work with.
 fn fault_of(device: Device) -> LockWhy
-    ensures { result ≡ fault_of device }
+    ensures is { result ≡ fault_of device }
     ensures text { IsText result }
 {
     match device {
@@ -42,7 +45,7 @@ fn fault_of(device: Device) -> LockWhy
 
 // Why a bank is locked that has no fuses.
 fn lock_of(why: FuseFail) -> LockWhy
-    ensures { result ≡ lock_of why }
+    ensures is { result ≡ lock_of why }
     ensures text { IsText result }
 {
     match why {
@@ -71,11 +74,20 @@ fn ready(bank: Bank, size: u32, found: Result<Fuses, FuseFail>) -> Result<Fuses,
 }
 
 impl<F: Flash> Desk<F> {
+    // The bank's device has a bank's size, and all that it holds are bytes. This does nothing.
+    fn known(&self)
+        ensures size { IsBankSize (size_of (state_at (device_of self.now.bank) self.now.world)) }
+        ensures bytes { HoldsBytes (state_at (device_of self.now.bank) self.now.world) }
+    {
+        let _held = &self.held;
+    }
+
     // Checks the restored image, and releases the bank.
     fn check_again<E: Engine>(self, fuses: &Fuses, engine: &E) -> Result<Inner<F>, Halt<F>>
         requires room { 1 ≤ self.world.notes.spare }
         requires on { IsAwake self.bank self.world }
-        requires valid { IsValidLayout (layout_of fuses.now.provision self.bank) (size_of (state_at (device_of self.bank) self.world)) }
+        requires valid { let layout = layout_of fuses.now.provision self.bank in
+            IsValidLayout layout (size_of (state_at (device_of self.bank) self.world)) }
         requires trusted { IsOk (judged_active (E.accepts engine.now) self.bank fuses.now (story_of self.world)) }
         ensures { EndsSeated (checked_again (E.accepts engine.now) self.bank fuses.now) 1 self result }
     {
@@ -95,11 +107,15 @@ impl<F: Flash> Desk<F> {
         requires room { 2 ≤ self.world.notes.spare }
         requires on { IsAwake self.bank self.world }
         requires found { fuses_of (now self.world.nv) ≡ Ok fuses.now }
-        requires valid { IsValidLayout (layout_of fuses.now.provision self.bank) (size_of (state_at (device_of self.bank) self.world)) }
+        requires valid { let layout = layout_of fuses.now.provision self.bank in
+            IsValidLayout layout (size_of (state_at (device_of self.bank) self.world)) }
         requires good { judged_recovery (E.accepts engine.now) self.bank fuses.now (story_of self.world) ≡ Ok capsule.now }
-        requires can { CanApply (now (state_at (device_of self.bank) self.world)) (layout_of fuses.now.provision self.bank) capsule.now }
-        ensures { EndsSeated (then (restored self.bank 1 fuses.now capsule.now) (checked_again (E.accepts engine.now) self.bank fuses.now)) 2 self result }
+        requires can { let layout = layout_of fuses.now.provision self.bank in
+            CanApply (now (state_at (device_of self.bank) self.world)) layout capsule.now }
+        ensures { let again = checked_again (E.accepts engine.now) self.bank fuses.now in
+            EndsSeated (then (restored self.bank 1 fuses.now capsule.now) again) 2 self result }
     {
+        self.known();
         match self.restore(fuses, capsule, 1) {
             Ok(()) => self.check_again(fuses, engine),
             Err(stop) => Err(Halt { stop, desk: self }),
@@ -116,7 +132,8 @@ impl<F: Flash> Desk<F> {
         requires room { 2 ≤ self.world.notes.spare }
         requires on { IsAwake self.bank self.world }
         requires found { fuses_of (now self.world.nv) ≡ Ok fuses.now }
-        requires valid { IsValidLayout (layout_of fuses.now.provision self.bank) (size_of (state_at (device_of self.bank) self.world)) }
+        requires valid { let layout = layout_of fuses.now.provision self.bank in
+            IsValidLayout layout (size_of (state_at (device_of self.bank) self.world)) }
         requires cause { IsFound active_failure why }
         ensures { EndsSeated (recovered (E.accepts engine.now) self.bank fuses.now why) 2 self result }
     {
@@ -137,7 +154,8 @@ impl<F: Flash> Desk<F> {
         requires room { 3 ≤ self.world.notes.spare }
         requires on { IsAwake self.bank self.world }
         requires found { fuses_of (now self.world.nv) ≡ Ok fuses.now }
-        requires valid { IsValidLayout (layout_of fuses.now.provision self.bank) (size_of (state_at (device_of self.bank) self.world)) }
+        requires valid { let layout = layout_of fuses.now.provision self.bank in
+            IsValidLayout layout (size_of (state_at (device_of self.bank) self.world)) }
         requires cause { IsFound active_failure why }
         ensures { EndsSeated (by_active (E.accepts engine.now) self.bank fuses.now (Err why)) 3 self result }
     {
@@ -150,7 +168,8 @@ impl<F: Flash> Desk<F> {
         requires room { 3 ≤ self.world.notes.spare }
         requires on { IsAwake self.bank self.world }
         requires found { fuses_of (now self.world.nv) ≡ Ok fuses.now }
-        requires valid { IsValidLayout (layout_of fuses.now.provision self.bank) (size_of (state_at (device_of self.bank) self.world)) }
+        requires valid { let layout = layout_of fuses.now.provision self.bank in
+            IsValidLayout layout (size_of (state_at (device_of self.bank) self.world)) }
         ensures { EndsSeated (tail (E.accepts engine.now) self.bank fuses.now) 3 self result }
     {
         match self.check(fuses, engine)? {
@@ -180,7 +199,8 @@ impl<F: Flash> Desk<F> {
     fn bring_up<E: Engine>(mut self, engine: &E) -> Result<Inner<F>, Halt<F>>
         requires room { 3 ≤ self.world.notes.spare }
         requires on { IsAwake self.bank self.world }
-        ensures { EndsSeated (then asks_store (λ story. by_ready (E.accepts engine.now) self.bank (ready_of self.bank story) story)) 3 self result }
+        ensures { EndsSeated (then asks_store
+            (λ story. by_ready (E.accepts engine.now) self.bank (ready_of self.bank story) story)) 3 self result }
     {
         match self.load() {
             Ok(found) => self.proceed(found, engine),

@@ -1,29 +1,32 @@
 // A bank in work.
-ghost use Rattle.std.specs.Prelude.{◌≡◌, ◌≢◌, ◌≤◌, [], ◌∷◌, Ok, Err, IfOk, IfErr};
+ghost use Rattle.std.specs.Prelude.{◌≡◌, ◌≢◌, ◌≤◌, [], ◌∷◌, true, Some, Ok, Err, IfOk, IfErr};
 ghost use Rattle.pfr_flash.specs.Answer.{IsFound};
 ghost use Rattle.pfr_flash.specs.FlashState.{now, size_of};
 ghost use Rattle.pfr_flash.specs.Layout.{IsValidLayout};
+ghost use Rattle.pfr_flash.specs.declared.names.Bank.{Bank};
 ghost use Rattle.pfr_auth.specs.Answer.{active_failure};
 ghost use Rattle.pfr_capsule.specs.Answer.{capsule_failure};
 ghost use Rattle.pfr_copy.specs.Applying.{CanApply};
 ghost use Rattle.pfr_fuses.specs.FusesOf.{fuses_of};
 ghost use Rattle.pfr_fuses.specs.RootSlot.{layout_of};
-ghost use Rattle.pfr_report.specs.declared.note.What.TheVariants.{Locked, Lost, Untrusted};
+ghost use Rattle.pfr_report.specs.Texts.{HasText};
+ghost use Rattle.pfr_report.specs.declared.note.What.TheVariants.{Released, Locked, Lost, Untrusted};
 ghost use Rattle.pfr_story.specs.Goes.{Goes, Ran};
-ghost use Rattle.pfr_story.specs.Plans.{asks, asks_store, judged_recovery, restored};
-ghost use Rattle.pfr_story.specs.Standing as standing;
-ghost use Rattle.pfr_story.specs.Standing.{standing_of, standing_by};
+ghost use Rattle.pfr_story.specs.Plans.{asks, asks_store, copied, judged_recovery, restored};
+ghost use Rattle.pfr_story.specs.Standing.{Standing, standing_after};
 ghost use Rattle.pfr_story.specs.Story.{Says, device_of};
 ghost use Rattle.pfr_story.specs.World.{IsDark, counts_in, state_at, story_of};
-ghost use Rattle.pfr_machine.specs.Worlds.{AddsNotes, IsAwake, Stays, other_of};
+ghost use Rattle.pfr_machine.specs.Inside.{IsDesk};
+ghost use Rattle.pfr_machine.specs.Worlds.{AddsNotes, IsAwake, Stays, bank_in, desk_world, flash_in, line_in, other_of, with_note};
 ghost use Rattle.pfr_machine.specs.Ready.{Checks, IsText, LeavesSeated};
 
 use crate::board::Board;
 use crate::inner::Inner;
 use crate::judging::read_fuses;
 use crate::seat::Seat;
+use crate::sides::Sides;
 use pfr_auth::{ActiveFail, Area, capsule_at};
-use pfr_bank::{Held, Unchecked};
+use pfr_bank::{Checked, Held, Unchecked};
 use pfr_capsule::{Capsule, CapsuleFail};
 use pfr_chain::Engine;
 use pfr_copy::apply;
@@ -85,6 +88,33 @@ pub fn device_of(bank: Bank) -> Device
     }
 }
 
+// Releases a bank whose active image is trusted.
+fn release<F: Flash>(
+    bank: Bank,
+    checked: Checked<F>,
+    other: Seat<F>,
+    mut board: Board<F>,
+    counts: Counts,
+) -> Inner<F>
+    requires room { 1 ≤ board.notes.spare }
+    requires desk { IsDesk bank checked.bank (bank_in other) (line_in other)
+        (desk_world bank (F.device checked.flash) (F.device (flash_in other)) (F.device board.nv) board) }
+    requires on { (F.device checked.flash).powered ≡ true }
+    ensures { result ≡ with_note (Released bank checked.manifest.svn counts)
+        (desk_world bank (F.device checked.flash) (F.device (flash_in other)) (F.device board.nv) board) }
+{
+    let running = checked.release();
+    let svn = running.manifest().svn;
+    board.push(What::Released { bank, svn, counts });
+    Sides {
+        bank,
+        mine: Seat::Running(running),
+        other,
+        board,
+    }
+    .inner()
+}
+
 impl<F: Flash> Desk<F> {
     /// How many operations each device has done.
     pub fn counts(&self) -> Counts
@@ -129,16 +159,25 @@ impl<F: Flash> Desk<F> {
         engine: &E,
     ) -> Result<Result<Capsule, CapsuleFail>, Stop>
         requires on { IsAwake self.old.bank self.old.world }
-        requires valid { IsValidLayout (layout_of fuses.now.provision self.old.bank) (size_of (state_at (device_of self.old.bank) self.old.world)) }
+        requires valid { IsValidLayout (layout_of fuses.now.provision self.old.bank)
+            (size_of (state_at (device_of self.old.bank) self.old.world)) }
         ensures goes { Goes (asks self.old.bank) self.old.world self.new.world result }
-        ensures is { IfOk result (λ found. found ≡ judged_recovery (E.accepts engine.now) self.old.bank fuses.now (story_of self.old.world)) }
+        ensures is { IfOk result
+            (λ found. found ≡ judged_recovery (E.accepts engine.now) self.old.bank fuses.now (story_of self.old.world)) }
         ensures cause { IfOk result (λ found. IfErr found (IsFound capsule_failure)) }
         ensures can { let layout = layout_of fuses.now.provision self.old.bank in
             IfOk result (λ found. IfOk found (CanApply (now (state_at (device_of self.old.bank) self.new.world)) layout)) }
         ensures stays { Stays 0 self.old self.new result }
     {
         let layout = fuses.provision().layout(self.bank);
-        match capsule_at(self.held.flash(), Area::Recovery, self.bank, layout, fuses, engine) {
+        match capsule_at(
+            self.held.flash(),
+            Area::Recovery,
+            self.bank,
+            layout,
+            fuses,
+            engine,
+        ) {
             Ok(capsule) => Ok(Ok(capsule)),
             Err(why) => match why.failure() {
                 Some(fail) => Err(Stop {
@@ -153,12 +192,18 @@ impl<F: Flash> Desk<F> {
     // Applies the capsule in the recovery area to the active image.
     fn copy(&mut self, fuses: &Fuses, capsule: &Capsule, level: u8) -> Result<(), Stop>
         requires on { IsAwake self.old.bank self.old.world }
-        requires can { CanApply (now (state_at (device_of self.old.bank) self.old.world)) (layout_of fuses.now.provision self.old.bank) capsule.now }
+        requires can { CanApply (now (state_at (device_of self.old.bank) self.old.world))
+            (layout_of fuses.now.provision self.old.bank) capsule.now }
         ensures goes { Goes (copied self.old.bank level fuses.now capsule.now) self.old.world self.new.world result }
         ensures stays { Stays 0 self.old self.new result }
     {
         let layout = fuses.provision().layout(self.bank);
-        match apply(&mut self.held, capsule, layout, JobKind::ActiveFromRecovery { level }) {
+        match apply(
+            &mut self.held,
+            capsule,
+            layout,
+            JobKind::ActiveFromRecovery { level },
+        ) {
             Ok(()) => Ok(()),
             Err(fail) => Err(Stop {
                 device: device_of(self.bank),
@@ -181,7 +226,8 @@ impl<F: Flash> Desk<F> {
     pub fn restore(&mut self, fuses: &Fuses, capsule: &Capsule, level: u8) -> Result<(), Stop>
         requires room { 1 ≤ self.old.world.notes.spare }
         requires on { IsAwake self.old.bank self.old.world }
-        requires can { CanApply (now (state_at (device_of self.old.bank) self.old.world)) (layout_of fuses.now.provision self.old.bank) capsule.now }
+        requires can { CanApply (now (state_at (device_of self.old.bank) self.old.world))
+            (layout_of fuses.now.provision self.old.bank) capsule.now }
         ensures goes { Goes (restored self.old.bank level fuses.now capsule.now) self.old.world self.new.world result }
         ensures stays { Stays 1 self.old self.new result }
     {
@@ -207,7 +253,8 @@ impl<F: Flash> Desk<F> {
     pub fn check<E: Engine>(self, fuses: &Fuses, engine: &E) -> Result<Found<F>, Halt<F>>
         requires room { 1 ≤ self.world.notes.spare }
         requires on { IsAwake self.bank self.world }
-        requires valid { IsValidLayout (layout_of fuses.now.provision self.bank) (size_of (state_at (device_of self.bank) self.world)) }
+        requires valid { IsValidLayout (layout_of fuses.now.provision self.bank)
+            (size_of (state_at (device_of self.bank) self.world)) }
         ensures checks { Checks (E.accepts engine.now) fuses.now self result }
     {
         let counts = self.counts();
@@ -257,19 +304,13 @@ impl<F: Flash> Desk<F> {
             mut board,
         } = self;
         board.push(What::Locked { bank, why, counts });
-        let mine = Seat::Locked(held.lock());
-        match bank {
-            Bank::Bmc => Inner {
-                bmc: mine,
-                pch: other,
-                board,
-            },
-            Bank::Pch => Inner {
-                bmc: other,
-                pch: mine,
-                board,
-            },
+        Sides {
+            bank,
+            mine: Seat::Locked(held.lock()),
+            other,
+            board,
         }
+        .inner()
     }
 
     /// Notes that a device lost the power, and takes it from every device.
@@ -291,19 +332,12 @@ impl<F: Flash> Desk<F> {
             counts,
         });
         board.nv.power_down();
-        let mine = Seat::Off(held.lost());
-        let other = Seat::Off(other.lose());
-        match bank {
-            Bank::Bmc => Inner {
-                bmc: mine,
-                pch: other,
-                board,
-            },
-            Bank::Pch => Inner {
-                bmc: other,
-                pch: mine,
-                board,
-            },
+        Sides {
+            bank,
+            mine: Seat::Off(held.lost()),
+            other: Seat::Off(other.lose()),
+            board,
         }
+        .inner()
     }
 }

@@ -16,6 +16,7 @@ ghost use Rattle.pfr_machine.specs.Ready.{IsText};
 use crate::board::Board;
 use crate::desk::Desk;
 use crate::seat::Seat;
+use crate::sides::Sides;
 use pfr_flash::{Bank, Counts, Device, Flash};
 use pfr_report::{LockWhy, What};
 use pfr_story::Line;
@@ -91,22 +92,19 @@ impl<F: Flash> Inner<F> {
         ensures awake { IsAwake bank result.world }
     {
         let counts = self.counts();
-        let Inner { bmc, pch, mut board } = self;
+        let Sides {
+            bank,
+            mine,
+            other,
+            mut board,
+        } = self.sides(bank);
         board.nv.power_up();
         board.push(What::Held { bank, counts });
-        match bank {
-            Bank::Bmc => Desk {
-                bank,
-                held: bmc.hold(),
-                other: pch,
-                board,
-            },
-            Bank::Pch => Desk {
-                bank,
-                held: pch.hold(),
-                other: bmc,
-                board,
-            },
+        Desk {
+            bank,
+            held: mine.hold(),
+            other,
+            board,
         }
     }
 
@@ -120,20 +118,20 @@ impl<F: Flash> Inner<F> {
         ensures on { result.nv.powered ≡ true }
     {
         let counts = self.counts();
-        let Inner { bmc, pch, mut board } = self;
+        let Sides {
+            bank,
+            mine,
+            other,
+            mut board,
+        } = self.sides(bank);
         board.push(What::Locked { bank, why, counts });
-        match bank {
-            Bank::Bmc => Inner {
-                bmc: Seat::Locked(bmc.hold().lock()),
-                pch,
-                board,
-            },
-            Bank::Pch => Inner {
-                bmc,
-                pch: Seat::Locked(pch.hold().lock()),
-                board,
-            },
+        Sides {
+            bank,
+            mine: Seat::Locked(mine.hold().lock()),
+            other,
+            board,
         }
+        .inner()
     }
 
     /// Notes that the power went, with the device that lost it if one did, and takes it from every device.
@@ -144,7 +142,11 @@ impl<F: Flash> Inner<F> {
         ensures notes { AddsNotes 1 self.notes result.notes }
     {
         let counts = self.counts();
-        let Inner { bmc, pch, mut board } = self;
+        let Inner {
+            bmc,
+            pch,
+            mut board,
+        } = self;
         board.push(What::Lost { device, counts });
         board.nv.power_down();
         Inner {

@@ -1,6 +1,7 @@
 //! The platform: its devices, and what it does with them at each event.
 #![tactic(auto)]
 
+mod arming;
 mod board;
 mod bringing;
 mod desk;
@@ -10,6 +11,7 @@ mod platform;
 mod preparing;
 mod provisioning;
 mod seat;
+mod sides;
 mod turning;
 mod verdicts;
 

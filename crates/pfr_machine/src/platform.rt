@@ -8,21 +8,22 @@ ghost use Rattle.pfr_report.specs.Texts.{AllText};
 ghost use Rattle.pfr_story.specs.Bringing.{BringsUpCalm, PowerReleases};
 ghost use Rattle.pfr_story.specs.Course.{Calm};
 ghost use Rattle.pfr_story.specs.Guards.{first_guards};
-ghost use Rattle.pfr_story.specs.Promises.{ReleasesTrusted, LocksHaveCauses, RestoresGood, ProvisionsSo, FaultsAreNoted, FaultsHaveCauses, LossesAreNoted, LostEnds, LostIsDark, NotesOff, StaysQuiet, CallsNone, HasPower, DistrustsWithCause, NotesBelong};
-ghost use Rattle.pfr_story.specs.Recovery.{StaysRecoverable};
-ghost use Rattle.pfr_story.specs.Run.{armed, takes_arm, with_arm};
+ghost use Rattle.pfr_story.specs.Promises.{ReleasesTrusted, LocksHaveCauses, RestoresGood, ProvisionsSo, FaultsAreNoted, FaultsHaveCauses, LossesAreNoted, LostEnds, LostIsDark, NotesOff, StaysQuiet, CallsNone, HasPower, DistrustsWithCause, NotesBelong, AreOff, IsPower, IsKnownSlot};
+ghost use Rattle.pfr_story.specs.Recovery.{CountsRise, StaysRecoverable};
+ghost use Rattle.pfr_story.specs.Run.{armed, takes_arm};
 ghost use Rattle.pfr_story.specs.Standing.{standing_of, standing_by};
 ghost use Rattle.pfr_story.specs.Turn.{Turn, begun, course};
-ghost use Rattle.pfr_story.specs.World.{AllMoved, AreDevices, NoneLost, NoneRose, state_at, story_of};
+ghost use Rattle.pfr_story.specs.World.{AllMoved, AreDevices, IsDark, NoneLost, NoneRose, state_at, story_of};
+ghost use Rattle.pfr_machine.specs.Inside.{HasSizes};
 
 use crate::board::Board;
 use crate::inner::Inner;
 use crate::seat::Seat;
 use pfr_bank::Off;
 use pfr_chain::Engine;
-use pfr_flash::{Bank, Device, Flash, NoMemory, Rigged, Tear};
+use pfr_flash::{Bank, Flash, NoMemory, Rigged, Tear};
 use pfr_report::Notes;
-use pfr_script::{Arm, ArmWhat, Event};
+use pfr_script::{Arm, Event};
 use pfr_story::{Guards, Line};
 use std::alloc::Global;
 use std::marker::Model;
@@ -66,7 +67,14 @@ impl<F: Flash, E: Engine + Drop> Platform<F, E> {
         requires pch_size { IsBankSize (size_of (F.device pch)) }
         requires nv_size { size_of (F.device nv) ≡ 32768 }
         ensures { result ≡ record {
-          world = record { bmc = F.device bmc; pch = F.device pch; nv = F.device nv; item = 0; notes = record { list = []; spare = 0 }; guards = first_guards };
+          world = record {
+            bmc = F.device bmc;
+            pch = F.device pch;
+            nv = F.device nv;
+            item = 0;
+            notes = record { list = []; spare = 0 };
+            guards = first_guards;
+          };
           engine = engine;
         } }
     {
@@ -108,10 +116,12 @@ impl<F: Flash, E: Engine + Drop> Platform<F, E> {
 
         // A bank with a good capsule in its recovery area has one after each note and at the end, whatever was cut or torn; and a
         // power-on in which no call fails releases it.
-        ensures recoverable { let can = λ bank image nv. HasGoodRecovery bank image nv (E.accepts self.old.engine) in
-            OnOk result (StaysRecoverable can self.old.world self.new.world) }
-        ensures powers { let can = λ bank image nv. HasGoodRecovery bank image nv (E.accepts self.old.engine) in
-            OnOk result (PowerReleases can event.now self.old.world self.new.world) }
+        ensures recoverable { OnOk result
+            (StaysRecoverable (λ bank image nv. HasGoodRecovery bank image nv (E.accepts self.old.engine))
+            self.old.world self.new.world) }
+        ensures powers { OnOk result
+            (PowerReleases (λ bank image nv. HasGoodRecovery bank image nv (E.accepts self.old.engine))
+            event.now self.old.world self.new.world) }
 
         // A fault is noted only where it was counted, and a loss of power exactly where it was.
         ensures faults { OnOk result (FaultsHaveCauses self.old.world self.new.world) }
@@ -125,6 +135,8 @@ impl<F: Flash, E: Engine + Drop> Platform<F, E> {
         ensures untouched { OnOk result (CallsNone event.now self.old.world self.new.world) }
         ensures on { OnOk result (HasPower self.new.world) }
         ensures moved { OnOk result (AllMoved (begun self.old.world) self.new.world) }
+        // The counts that notes carry rise from the step's begin to its end.
+        ensures counted { OnOk result (CountsRise self.old.world self.new.world) }
 
         // Floors and cancellations never go back, and a provision stays, whatever was cut or torn.
         ensures grows { OnOk result (NeverGoesBack self.old.world.nv self.new.world.nv) }
@@ -148,7 +160,10 @@ impl<F: Flash, E: Engine + Drop> Platform<F, E> {
         ensures sizes { HasSizes self.now.world }
         ensures on { HasPower self.now.world }
     {
-        let _ = &self.inner;
+        match &self.inner {
+            Some(inner) => inner.known(),
+            None => unreachable!(),
+        }
     }
 
     // Does one event.
@@ -221,19 +236,6 @@ impl<F: Flash, E: Engine + Drop> Platform<F, E> {
     }
 }
 
-// Arms a failure of a device.
-fn arm_device<F: Rigged>(device: &mut F, arm: &Arm, tear: &Tear)
-    requires some { 1 ≤ arm.now.nth }
-    requires arms { takes_arm arm.now.what ≤ (F.device device.old).arms }
-    ensures { F.device device.new ≡ with_arm arm.now.what arm.now.nth tear.now (F.device device.old) }
-{
-    match arm.what {
-        ArmWhat::Cut => device.arm_cut(arm.nth, tear),
-        ArmWhat::Fault => device.arm_fault(arm.nth, tear),
-        ArmWhat::ReadFault => device.arm_read_fault(arm.nth),
-    }
-}
-
 impl<F: Rigged, E: Engine + Drop> Platform<F, E> {
     /// Arms a failure of a device, with this tear where it is a cut or a fault. It is an item of its own.
     pub fn arm(&mut self, arm: &Arm, tear: &Tear)
@@ -242,11 +244,9 @@ impl<F: Rigged, E: Engine + Drop> Platform<F, E> {
         requires items { self.old.world.item < 67108863 }
         ensures { self.new ≡ record self.old { world = armed arm.now tear.now self.old.world } }
     {
-        match arm.device {
-            Device::Bmc => arm_device(&mut self.works.bmc, arm, tear),
-            Device::Pch => arm_device(&mut self.works.pch, arm, tear),
-            Device::Nv => arm_device(&mut self.works.nv, arm, tear),
+        match &mut self.inner {
+            Some(inner) => inner.arm(arm, tear),
+            None => unreachable!(),
         }
-        self.works.item += 1;
     }
 }

@@ -1,13 +1,15 @@
 // The fuses are read at a power-on, and migrated.
-ghost use Rattle.std.specs.Prelude.{◌≡◌, true, Ok, OnOk, IfOk, IfErr};
+ghost use Rattle.std.specs.Prelude.{◌≡◌, true, Some, Ok, IfOk, IfErr};
 ghost use Rattle.pfr_flash.specs.FlashState.{now, size_of};
 ghost use Rattle.pfr_flash.specs.Plan.{Follows};
+ghost use Rattle.pfr_flash.specs.Reading.{EndsAt, failed_by};
 ghost use Rattle.pfr_flash.specs.declared.names.Device.TheVariants.{Nv};
 ghost use Rattle.pfr_fuses.specs.FusesOf.{fuses_of};
 ghost use Rattle.pfr_story.specs.Goes.{Goes};
 ghost use Rattle.pfr_story.specs.Plans.{asks_store, migrated, migration_by, migration_in, store};
 ghost use Rattle.pfr_story.specs.Story.{called};
 ghost use Rattle.pfr_machine.specs.Ready.{StaysSeated};
+ghost use Rattle.pfr_machine.specs.Worlds.{with_state};
 
 use crate::inner::Inner;
 use crate::judging::read_fuses;
@@ -41,6 +43,15 @@ fn migrate<F: Flash>(nv: &mut F, found: Result<Fuses, FuseFail>) -> Result<(), F
 }
 
 impl<F: Flash> Inner<F> {
+    // Reads the fuses from the store.
+    fn read_store(&mut self) -> Result<Result<Fuses, FuseFail>, FlashFail>
+        ensures same { self.new ≡ with_state Nv self.new.nv self.old }
+        ensures found { IfOk result (λ found. found ≡ fuses_of (now self.old.nv)) }
+        ensures ends { EndsAt (failed_by (λ fail. Some fail) result) self.old.nv self.new.nv }
+    {
+        read_fuses(&mut self.board.nv)
+    }
+
     // What the store provisions the platform with, or why it doesn't.
     fn load(&mut self) -> Result<Result<Fuses, FuseFail>, Stop>
         requires on { self.old.nv.powered ≡ true }
@@ -49,13 +60,22 @@ impl<F: Flash> Inner<F> {
         ensures called { IfErr result (λ stop. stop.device ≡ Nv) }
         ensures stays { StaysSeated 0 self.old self.new result }
     {
-        match read_fuses(&mut self.board.nv) {
+        match self.read_store() {
             Ok(found) => Ok(found),
             Err(fail) => Err(Stop {
                 device: Device::Nv,
                 fail,
             }),
         }
+    }
+
+    // Migrates the fuses in the store where they are of profile 1.
+    fn migrate_store(&mut self, found: Result<Fuses, FuseFail>) -> Result<(), FlashFail>
+        requires found { found ≡ fuses_of (now self.old.nv) }
+        ensures same { self.new ≡ with_state Nv self.new.nv self.old }
+        ensures follows { Follows (migration_in found) self.old.nv self.new.nv result }
+    {
+        migrate(&mut self.board.nv, found)
     }
 
     // Migrates the fuses where they are of profile 1.
@@ -66,7 +86,7 @@ impl<F: Flash> Inner<F> {
         ensures called { IfErr result (λ stop. stop.device ≡ Nv) }
         ensures stays { StaysSeated 0 self.old self.new result }
     {
-        match migrate(&mut self.board.nv, found) {
+        match self.migrate_store(found) {
             Ok(()) => Ok(()),
             Err(fail) => Err(Stop {
                 device: Device::Nv,

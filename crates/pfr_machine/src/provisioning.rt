@@ -9,12 +9,14 @@ ghost use Rattle.pfr_fuses.specs.RootSlot.{IsSlot};
 ghost use Rattle.pfr_story.specs.Course.{Follows};
 ghost use Rattle.pfr_story.specs.Goes.{Goes};
 ghost use Rattle.pfr_story.specs.Plans.{provisioned};
+ghost use Rattle.pfr_story.specs.Promises.{sizes_judged};
 ghost use Rattle.pfr_story.specs.Standing.{standing_of, Off};
 ghost use Rattle.pfr_story.specs.Turn.{provision_course};
 ghost use Rattle.pfr_story.specs.World.{IsDark};
 ghost use Rattle.pfr_machine.specs.Inside.{IsWhole};
 ghost use Rattle.pfr_machine.specs.Provisions.{provision_ops, provision_note};
 ghost use Rattle.pfr_machine.specs.Ready.{LeavesWhole, StaysSeated};
+ghost use Rattle.pfr_machine.specs.Worlds.{with_state};
 
 use crate::inner::Inner;
 use pfr_flash::{Bank, Device, Flash, FlashFail};
@@ -32,7 +34,8 @@ fn provision_as_noted<F: Flash>(
     requires { size_of (F.device nv.old) ≡ 32768 }
     ensures follows { FollowsPlan (provision_ops what.now (judge_provision (now (F.device nv.old)) what.now bmc_size pch_size))
         (F.device nv.old) (F.device nv.new) result }
-    ensures noted { IfOk result (λ note. note ≡ provision_note (judge_provision (now (F.device nv.old)) what.now bmc_size pch_size)) }
+    ensures noted { IfOk result (λ note.
+        note ≡ provision_note (judge_provision (now (F.device nv.old)) what.now bmc_size pch_size)) }
     ensures spelled { IsSlot what.now }
 {
     let why = match provision(nv, what, bmc_size, pch_size) {
@@ -49,9 +52,8 @@ impl<F: Flash> Inner<F> {
     // Provisions the store, and gives what is to be noted.
     fn provision_store(&mut self, what: &RootSlot) -> Result<What, FlashFail>
         ensures same { self.new ≡ with_state Nv self.new.nv self.old }
-        ensures follows { FollowsPlan (provision_ops what.now (judge_provision (now self.old.nv) what.now (size_of self.old.bmc) (size_of self.old.pch)))
-            self.old.nv self.new.nv result }
-        ensures noted { IfOk result (λ note. note ≡ provision_note (judge_provision (now self.old.nv) what.now (size_of self.old.bmc) (size_of self.old.pch))) }
+        ensures follows { FollowsPlan (provision_ops what.now (sizes_judged what.now self.old)) self.old.nv self.new.nv result }
+        ensures noted { IfOk result (λ note. note ≡ provision_note (sizes_judged what.now self.old)) }
         ensures spelled { IsSlot what.now }
     {
         let (bmc, pch) = (self.bmc.size(), self.pch.size());
@@ -85,7 +87,7 @@ impl<F: Flash> Inner<F> {
         requires whole { IsWhole self }
         requires some { standing_of Bmc self.notes.list ≢ Off }
         ensures follows { Follows (provision_course what.now) self result }
-        ensures leaves { LeavesWhole self result }
+        ensures leaves { LeavesWhole 64 self result }
         ensures dark { standing_of Bmc result.notes.list ≡ Off → IsDark result }
         ensures spelled { IsSlot what.now }
     {

@@ -1,11 +1,14 @@
 // A bank that isn't in work.
-ghost use Rattle.std.specs.Prelude.{◌≡◌, ◌≢◌, true, false};
+ghost use Rattle.std.specs.Prelude.{◌≡◌, ◌≢◌, ◌<◌, ◌≤◌, true, false};
+ghost use Rattle.pfr_flash.specs.Flash.{with_cut, with_fault};
 ghost use Rattle.pfr_flash.specs.FlashState.{op_count_of, size_of};
 ghost use Rattle.pfr_machine.specs.Worlds.{flash_in, bank_in, line_in};
+ghost use Rattle.pfr_story.specs.Run.{takes_arm, with_arm};
 ghost use Rattle.pfr_story.specs.declared.line.Line.TheVariants as line;
 
 use pfr_bank::{Held, Locked, Off, Running};
 use pfr_flash::{Flash, Rigged, Tear};
+use pfr_script::{Arm, ArmWhat};
 use pfr_story::Line;
 
 /// A bank that isn't in work, in one of the states that it may stand in between two events.
@@ -83,6 +86,67 @@ impl<F: Flash> Seat<F> {
             Seat::Off(off) => off.into_flash(),
             Seat::Locked(locked) => locked.into_flash(),
             Seat::Running(running) => running.into_flash(),
+        }
+    }
+}
+
+impl<F: Rigged> Seat<F> {
+    // Lets the nth erase or program from now on lose the power.
+    fn arm_cut(&mut self, nth: u32, tear: &Tear)
+        requires nth { 1 ≤ nth }
+        requires arms { 0 < (F.device (flash_in self.old)).arms }
+        ensures flash { F.device (flash_in self.new) ≡ with_cut (F.device (flash_in self.old)) nth tear.now }
+        ensures bank { bank_in self.new ≡ bank_in self.old }
+        ensures line { line_in self.new ≡ line_in self.old }
+    {
+        match self {
+            Seat::Off(off) => off.arm_cut(nth, tear),
+            Seat::Locked(locked) => locked.arm_cut(nth, tear),
+            Seat::Running(running) => running.arm_cut(nth, tear),
+        }
+    }
+
+    // Lets the nth erase or program from now on fail.
+    fn arm_fault(&mut self, nth: u32, tear: &Tear)
+        requires nth { 1 ≤ nth }
+        requires arms { 0 < (F.device (flash_in self.old)).arms }
+        ensures flash { F.device (flash_in self.new) ≡ with_fault (F.device (flash_in self.old)) nth tear.now }
+        ensures bank { bank_in self.new ≡ bank_in self.old }
+        ensures line { line_in self.new ≡ line_in self.old }
+    {
+        match self {
+            Seat::Off(off) => off.arm_fault(nth, tear),
+            Seat::Locked(locked) => locked.arm_fault(nth, tear),
+            Seat::Running(running) => running.arm_fault(nth, tear),
+        }
+    }
+
+    // Lets the nth read from now on fail.
+    fn arm_read_fault(&mut self, nth: u32)
+        requires { 1 ≤ nth }
+        ensures flash { F.device (flash_in self.new) ≡ record (F.device (flash_in self.old)) { read_due = true } }
+        ensures bank { bank_in self.new ≡ bank_in self.old }
+        ensures line { line_in self.new ≡ line_in self.old }
+    {
+        match self {
+            Seat::Off(off) => off.arm_read_fault(nth),
+            Seat::Locked(locked) => locked.arm_read_fault(nth),
+            Seat::Running(running) => running.arm_read_fault(nth),
+        }
+    }
+
+    /// Arms a failure of the bank's device, with this tear where it is a cut or a fault.
+    pub fn arm(&mut self, arm: &Arm, tear: &Tear)
+        requires some { 1 ≤ arm.now.nth }
+        requires arms { takes_arm arm.now.what ≤ (F.device (flash_in self.old)).arms }
+        ensures flash { F.device (flash_in self.new) ≡ with_arm arm.now.what arm.now.nth tear.now (F.device (flash_in self.old)) }
+        ensures bank { bank_in self.new ≡ bank_in self.old }
+        ensures line { line_in self.new ≡ line_in self.old }
+    {
+        match arm.what {
+            ArmWhat::Cut => self.arm_cut(arm.nth, tear),
+            ArmWhat::Fault => self.arm_fault(arm.nth, tear),
+            ArmWhat::ReadFault => self.arm_read_fault(arm.nth),
         }
     }
 }

@@ -29,16 +29,16 @@ use Rattle.pfr_report.specs.declared.note.LockWhy.{LockWhy}
 use Rattle.pfr_report.specs.declared.note.LockWhy.TheVariants as why
 use Rattle.pfr_report.specs.declared.note.What.{What}
 use Rattle.pfr_report.specs.declared.note.What.TheVariants as what
-use Rattle.pfr_story.specs.Story.{Story, after, noted, counts_of, device_of, says, called}
-use Rattle.pfr_story.specs.World.{World, state_at}
+use Rattle.pfr_story.specs.Story.{Story, Says, after, noted, counts_of, device_of, says, called}
+use Rattle.pfr_story.specs.World.{World, story_of, state_at}
 use Rattle.pfr_story.specs.Safety.{Rule, AllSafe, AllMake, Leads}
 use Rattle.pfr_story.specs.Plans.{mine, store, lock_of, ready_in, judged_active, judged_recovery, restore_ops, copied, restored, brought_up}
 use Rattle.pfr_story.specs.Causes.{IsTrustedWith, IsNotTrusted, IsAgainst, IsRestorable, IsDue}
 use Rattle.pfr_story.specs.Turn.{fault_of}
 use Rattle.pfr_story.proofs.SafetyLaws.{Leads-then, image_noted, image_called, store_called}
 use Rattle.pfr_story.proofs.RestoreLaws.{found_good}
-use Rattle.pfr_story.proofs.BringRules.{Any, IsReady, ready_noted, ready_found, IsOwn, Walks, walk_safe, AllowsBank, allowed_safe, Making, safe_made}
-use Rattle.pfr_story.proofs.Traces.{Saying, call_says, Precedes, Precedes-refl, Precedes-after}
+use Rattle.pfr_story.proofs.BringRules.{IsReady, ready_noted, ready_found, IsOwn, Walks, walk_safe, AllowsBank, allowed_safe, Making, safe_made}
+use Rattle.pfr_story.proofs.Traces.{Precedes, Precedes-refl, Precedes-move, Precedes-after, Saying, call_says}
 
 -- What is looked at: the worlds at the two ends, the engine, and where the power is switched off.
 pub record Setting : Type 1 where
@@ -52,9 +52,14 @@ LockFact s why.FlashFault b story = Rose (state_at (device_of b) s.first).faults
 LockFact s why.StoreFault b story = Rose s.first.nv.faults s.last.nv.faults
 LockFact s cause b story = AreBytes (mine b story) → IsDue cause b (mine b story) (store story) s.accepts
 
--- a moment before at which the bank was to be restored
+-- the first moment precedes it
+abbrev pub IsBehind : Setting → Story → Type 0
+IsBehind s story = Precedes (story_of s.first) story
+
+-- a moment before, behind the first, at which the bank was to be restored
 pub record WasRestorable (s : Setting) (b : Bank) (story : Story) : Type 0 where
   pub at : Story
+  pub since : IsBehind s at
   pub before : Precedes at story
   pub was : AreBytes (mine b at) → IsRestorable b (mine b at) (store at) s.accepts
 
@@ -84,7 +89,7 @@ ready_called b fuses ops story r =
       layout = subst (λ (n : ℕ). IsValidLayout (layout_of fuses.provision b) n) (sym same) r.layout;
     }
 
-not_trusted : (cause : ActiveFail) (b : Bank) (image nv : List ℕ) (accepts : Acceptance) → IsAgainst cause b image nv accepts → IsNotTrusted b image nv accepts
+pub not_trusted : (cause : ActiveFail) (b : Bank) (image nv : List ℕ) (accepts : Acceptance) → IsAgainst cause b image nv accepts → IsNotTrusted b image nv accepts
 not_trusted cause b image nv accepts a = record {
   fuses = a.fuses;
   provisioned = a.provisioned;
@@ -92,11 +97,13 @@ not_trusted cause b image nv accepts a = record {
   distrusted = λ t. absurd (let e = trusted_found image nv b accepts a.fuses (stands_whole nv a.fuses b a.provisioned) t in let j = a.judged in cc);
 }
 
-module _ (s : Setting) (b : Bank) where
-  good_recovery : (fuses : FusesState) (capsule : CapsuleState) (story : Story) → IsReady b fuses story → AreBytes (mine b story) → judged_recovery s.accepts b fuses story ≡ Ok capsule → HasGoodRecovery b (mine b story) (store story) s.accepts
-  good_recovery fuses capsule story r bytes j =
-      record { fuses = fuses; provisioned = r.provisioned; good = (found_good s.accepts b fuses capsule story r.provisioned r.layout bytes j).0 }
+-- what is judged well in its recovery area is good
+pub good_recovery : (accepts : Acceptance) (b : Bank) (fuses : FusesState) (capsule : CapsuleState) (story : Story) → IsReady b fuses story → AreBytes (mine b story)
+    → judged_recovery accepts b fuses story ≡ Ok capsule → HasGoodRecovery b (mine b story) (store story) accepts
+good_recovery accepts b fuses capsule story r bytes j =
+    record { fuses = fuses; provisioned = r.provisioned; good = (found_good accepts b fuses capsule story r.provisioned r.layout bytes j).0 }
 
+module _ (s : Setting) (b : Bank) where
   -- what is released by a check is trusted
   trusted_with : (fuses : FusesState) (m : Manifest) (story : Story) → IsReady b fuses story → judged_active s.accepts b fuses story ≡ Ok m
       → AreBytes (mine b story) → IsTrustedWith m.svn (mine b story) (store story) b s.accepts
@@ -108,7 +115,7 @@ module _ (s : Setting) (b : Bank) where
   CanRestore fuses story = IsReady b fuses story × WasRestorable s b story
 
   was_later : (fuses : FusesState) (ops : List Operation) (story : Story) → WasRestorable s b story → WasRestorable s b (after (called (device_of b) ops) story)
-  was_later fuses ops story p = record { at = p.at; before = Precedes-after p.at story (called (device_of b) ops) p.before; was = p.was }
+  was_later fuses ops story p = record { at = p.at; since = p.since; before = Precedes-after p.at story (called (device_of b) ops) p.before; was = p.was }
 
   -- it is restored, and checked again
   copied_true : (fuses : FusesState) (capsule : CapsuleState) → Leads (IsTrue s) (CanRestore fuses) (copied b 1 fuses capsule) (CanRestore fuses)
@@ -142,38 +149,42 @@ module _ (s : Setting) (b : Bank) where
   unready_true (Err fail) cause story f e =
       let same : lock_of fail ≡ cause = cc in subst (λ (c : LockWhy). LockFact s c b story) same (unset_true fail story (fuses_of-err (store story) fail f))
 
+  abbrev IsRead : FusesState → Story → Type 0
+  IsRead fuses story = IsReady b fuses story × IsBehind s story
+
   -- its image was called untrusted for this cause
   abbrev IsTold : FusesState → ActiveFail → Story → Type 0
-  IsTold fuses cause story = IsReady b fuses story × IsAgainst cause b (mine b story) (store story) s.accepts
+  IsTold fuses cause story = IsRead fuses story × IsAgainst cause b (mine b story) (store story) s.accepts
 
   told_so : (fuses : FusesState) (cause : ActiveFail) (story : Story) → IsTold fuses cause story → IsTold fuses cause (noted (λ _. what.Untrusted b cause) story)
   told_so fuses cause story p = (
-    ready_noted b fuses (λ _. what.Untrusted b cause) story p.0,
+    (ready_noted b fuses (λ _. what.Untrusted b cause) story p.0.0, Precedes-move (story_of s.first) story (Says (λ _. what.Untrusted b cause)) p.0.1),
     subst (λ (image : List ℕ). IsAgainst cause b image (store story) s.accepts) (sym (image_noted (device_of b) (λ _. what.Untrusted b cause) story)) p.1,
   )
 
-  true_walks : Walks (IsTrue s) s.accepts b Any (λ fuses story. IsReady b fuses story) IsTold (λ fuses story. IsReady b fuses story)
+  true_walks : Walks (IsTrue s) s.accepts b (IsBehind s) IsRead IsTold (λ fuses story. IsReady b fuses story)
   true_walks = record {
     asks = λ which story own. tt;
-    ready = λ fuses story q e. ready_found b fuses story e;
+    ready = λ fuses story q e. (ready_found b fuses story e, q);
     unready = λ cause story q e. (refl, unready_true (fuses_of (store story)) cause story refl e);
-    released = λ fuses m story r j. (refl, trusted_with fuses m story r j);
+    released = λ fuses m story r j. (refl, trusted_with fuses m story r.0 j);
     untrusted = λ fuses cause story r j.
-        let against : IsAgainst cause b (mine b story) (store story) s.accepts = record { fuses = fuses; provisioned = r.provisioned; layout = r.layout; judged = j } in
+        let against : IsAgainst cause b (mine b story) (store story) s.accepts = record { fuses = fuses; provisioned = r.0.provisioned; layout = r.0.layout; judged = j } in
         (against, told_so fuses cause story (r, against));
-    no_image = λ fuses cause other story n j. (refl, λ bytes. (n.1, record { fuses = fuses; provisioned = n.0.provisioned; judged = j }));
+    no_image = λ fuses cause other story n j. (refl, λ bytes. (n.1, record { fuses = fuses; provisioned = n.0.0.provisioned; judged = j }));
     restores = λ fuses cause capsule story n j.
         let here : WasRestorable s b story = record {
           at = story;
+          since = n.0.1;
           before = Precedes-refl story;
-          was = λ bytes. (not_trusted cause b (mine b story) (store story) s.accepts n.1, good_recovery fuses capsule story n.0 bytes j);
+          was = λ bytes. (not_trusted cause b (mine b story) (store story) s.accepts n.1, good_recovery s.accepts b fuses capsule story n.0.0 bytes j);
         } in
-        ((restored_true fuses capsule).safe story (n.0, here), (restored_true fuses capsule).ends story (n.0, here));
+        ((restored_true fuses capsule).safe story (n.0.0, here), (restored_true fuses capsule).ends story (n.0.0, here));
     again = λ fuses m story r j. (refl, trusted_with fuses m story r j);
   }
 
-  pub brought_true : (story : Story) → AllSafe (IsTrue s) (brought_up s.accepts b story) story
-  brought_true story = walk_safe (IsTrue s) s.accepts b Any (λ fuses there. IsReady b fuses there) IsTold (λ fuses there. IsReady b fuses there) true_walks story refl tt
+  pub brought_true : (story : Story) → IsBehind s story → AllSafe (IsTrue s) (brought_up s.accepts b story) story
+  brought_true story since = walk_safe (IsTrue s) s.accepts b (IsBehind s) IsRead IsTold (λ fuses there. IsReady b fuses there) true_walks story refl (Precedes-move (story_of s.first) story (Says (what.Held b)) since)
 
 -- ---- and calls its device and the store alone, and notes no loss
 abbrev pub IsLoss : What → Type 0

@@ -206,7 +206,7 @@ module _ (accepts : Acceptance) (which : Bank) where
       → between (count_at which begin) (count_at which there) more.ops ≡ ops → between begin.nv there.nv later.ops ≡ nv_ops
       → count_at which end ≤ count_at which there → end.nv ≤ there.nv → count_at which there ≤ length more.ops → there.nv ≤ length later.ops
       → ((t : IsTrustedAt accepts which mine nv begin) → AreSpared which t.fuses t.manifest (between (count_at which begin) (count_at which end) mine.ops) (between begin.nv end.nv nv.ops)
-          → AreSpared which t.fuses t.manifest ops nv_ops)
+      → AreSpared which t.fuses t.manifest ops nv_ops)
       → IsKept accepts which mine nv begin end → IsKept accepts which more later begin there
   grown mine more nv later ops nv_ops begin end there u v x y m n done done_store spares p =
       let all : SpareTrust accepts which (past_upto mine (count_at which begin)) (past_upto nv begin.nv) ops nv_ops = record { each = λ t. spares t (p.spared.each t) } in
@@ -218,7 +218,7 @@ module _ (accepts : Acceptance) (which : Bank) where
     same_upto =
         ap (λ (xs : List ℕ). play xs (take begin more.ops)) start
         ∙ ap (λ (ops : List Operation). play past.start ops)
-            (sym (take-take begin end more.ops forth) ∙ ap (λ (ops : List Operation). take begin ops) same ∙ take-take begin end past.ops forth)
+        (sym (take-take begin end more.ops forth) ∙ ap (λ (ops : List Operation). take begin ops) same ∙ take-take begin end past.ops forth)
 
     same_between : between begin end more.ops ≡ between begin end past.ops
     same_between = ap (λ (ops : List Operation). drop begin ops) same
@@ -266,7 +266,7 @@ module _ (accepts : Acceptance) (which : Bank) where
       (longer_upto mine op (count_at which begin) (omega (arith, p.forth, h))) refl (one_more mine.ops op (count_at which begin) (count_at which here) (count_at which there) p.forth h t)
       (ap (λ (n : ℕ). between begin.nv n nv.ops) same) (omega (arith, h, t, more)) (omega (arith, same)) (omega (arith, t)) (omega (arith, p.done_store, same))
       (λ trust all. let one = spares trust in
-          record { image = All-push (LeavesImage _ trust.manifest) _ op all.image one.image; recovery = All-push (Leaves _ _) _ op all.recovery one.recovery; store = all.store }) p
+      record { image = All-push (LeavesImage _ trust.manifest) _ op all.image one.image; recovery = All-push (Leaves _ _) _ op all.recovery one.recovery; store = all.store }) p
 
   grown_store : (mine nv : Past) (op : Operation) (begin here there : Counts) → here.nv ≡ length nv.ops → there.nv ≡ length (with_op nv op).ops → count_at which there ≡ count_at which here
       → ((t : IsTrustedAt accepts which mine nv begin) → LeavesStore t.fuses which op) → IsKept accepts which mine nv begin here → IsKept accepts which mine (with_op nv op) begin there

@@ -38,18 +38,25 @@ use Rattle.pfr_story.specs.Story.{Past, Story, Move, Says, after, noted, counts_
 use Rattle.pfr_story.specs.Plans.{mine, store, ready_of, judged_active, judged_recovery, restore_ops, restored, by_second, checked_again, by_recovery, by_active, by_ready, brought_up}
 use Rattle.pfr_story.specs.Promises.{count_at}
 use Rattle.pfr_story.specs.Causes.{IsNotTrusted, IsAgainst, IsDue, IsRestorable}
-use Rattle.pfr_story.specs.Bringing.{ReleasedSoon}
 use Rattle.pfr_story.proofs.Sequence.{after-append}
 use Rattle.pfr_story.proofs.SafetyLaws.{image_noted, past_called}
-use Rattle.pfr_story.proofs.Made.{said, noted_first, noted_next, Whichever, AllSay, said_all}
+use Rattle.pfr_story.proofs.Made.{said, noted_first, noted_next, Whichever, AllSay}
 use Rattle.pfr_story.specs.Safety.{Rule}
-use Rattle.pfr_story.proofs.BringRules.{AllowsBank, allowed_behind, allowed_safe, Making, safe_made}
+use Rattle.pfr_story.proofs.BringRules.{AllowsBank, allowed_safe, Making, safe_made}
 use Rattle.pfr_story.proofs.RestoreLaws.{stand_for, RestoresFrom, restored_judged}
 
 -- ---- what is noted behind Held
 count_is : (b : Bank) (story : Story) → count_at b (counts_of story) ≡ length (past_at (device_of b) story).ops
 count_is bank.Bmc story = refl
 count_is bank.Pch story = refl
+
+-- it is noted to be released, after at most so many operations of its device
+pub record ReleasesSoon (b : Bank) (at : Counts) (most : ℕ) (notes : List Note) : Type 0 where
+  pub svn : ℕ
+  pub then : Counts
+  pub noted : IsNoted notes (what.Released b svn then)
+  pub forth : count_at b at ≤ count_at b then
+  pub few : count_at b then ≤ count_at b at + most
 
 module _ (accepts : Acceptance) (b : Bank) where
   -- what is noted behind Held
@@ -89,7 +96,7 @@ module _ (accepts : Acceptance) (b : Bank) where
       by_check a.fuses story (Err cause) a.provisioned a.layout a.judged
       ∙ ap (λ (r : Result CapsuleState CapsuleFail). distrusted a.fuses cause r story) j
 
-  judged_told : (fuses : FusesState) (w : Counts → What) (story : Story) → judged_recovery accepts b fuses (noted w story) ≡ judged_recovery accepts b fuses story
+  pub judged_told : (fuses : FusesState) (w : Counts → What) (story : Story) → judged_recovery accepts b fuses (noted w story) ≡ judged_recovery accepts b fuses story
   judged_told fuses w story = ap (λ (image : List ℕ). judge_area Recovery b image fuses accepts) (image_noted (device_of b) w story)
 
   -- its cause is named
@@ -170,7 +177,7 @@ module _ (accepts : Acceptance) (b : Bank) where
       omega (arith, strokes, active_few (ActiveFromRecovery 1) image capsule layout)
 
   good_releases : (story : Story) (g : HasGoodRecovery b (mine b story) (store story) accepts) (checked : Result Manifest ActiveFail) → judged_active accepts b g.fuses story ≡ checked
-      → AreBytes (mine b story) → IsBankSize (length (mine b story)) → ReleasedSoon b (counts_of story) (34 * (length (mine b story) / 4096)) (behind story)
+      → AreBytes (mine b story) → IsBankSize (length (mine b story)) → ReleasesSoon b (counts_of story) (34 * (length (mine b story) / 4096)) (behind story)
   good_releases story g (Ok m) j bytes size = record {
     svn = m.svn;
     then = counts_of story;
@@ -206,46 +213,40 @@ module _ (accepts : Acceptance) (b : Bank) where
 
   -- A bank with a good recovery area ends released.
   pub tail_releases : (story : Story) → HasGoodRecovery b (mine b story) (store story) accepts → AreBytes (mine b story) → IsBankSize (length (mine b story))
-      → ReleasedSoon b (counts_of story) (34 * (length (mine b story) / 4096)) (behind story)
+      → ReleasesSoon b (counts_of story) (34 * (length (mine b story) / 4096)) (behind story)
   tail_releases story g bytes size = good_releases story g (judged_active accepts b g.fuses story) refl bytes size
 
--- ---- a bank is noted to be held once
-abbrev pub IsHeldOf : Bank → What → Type 0
-IsHeldOf which (what.Held b at) = b ≡ which
-IsHeldOf which that = ⊥
+-- ---- what is noted of the other bank
+-- it is noted of this bank
+abbrev pub IsOf : Bank → What → Type 0
+IsOf which (what.Held b at) = b ≡ which
+IsOf which (what.Released b svn at) = b ≡ which
+IsOf which (what.Locked b cause at) = b ≡ which
+IsOf which (what.Untrusted b cause) = b ≡ which
+IsOf which (what.Restored b level) = b ≡ which
+IsOf which that = ⊥
 
-abbrev pub HoldsNot : Bank → What → Type 0
-HoldsNot which that = ¬ IsHeldOf which that
+abbrev pub Apart : Bank → What → Type 0
+Apart which that = ¬ IsOf which that
 
--- none of these moves notes that this bank is held
-abbrev pub NoneHolds : Bank → List Move → Type 0
-NoneHolds which moves = AllSay (HoldsNot which) moves
+-- none of these moves notes anything of this bank
+abbrev pub NoneOf : Bank → List Move → Type 0
+NoneOf which moves = AllSay (Apart which) moves
 
--- nothing behind Held notes that a bank is held
-module _ (accepts : Acceptance) (which b : Bank) where
-  abbrev NotHeld : Rule
-  NotHeld = Making Whichever (λ w. (at : Counts) → HoldsNot which (w at))
+-- the other bank's part
+module _ (accepts : Acceptance) (which b : Bank) (other : ¬ (b ≡ which)) where
+  abbrev Others : Rule
+  Others = Making Whichever (λ w. (at : Counts) → Apart which (w at))
 
-  not_held : AllowsBank NotHeld b
-  not_held = record {
-    released = λ svn story at h. h;
-    locked = λ cause story at h. h;
-    untrusted = λ cause story at h. h;
-    restored = λ level story at h. h;
+  others_alone : AllowsBank Others b
+  others_alone = record {
+    released = λ svn story at e. other e;
+    locked = λ cause story at e. other e;
+    untrusted = λ cause story at e. other e;
+    restored = λ level story at e. other e;
     asks = λ d story own. tt;
     works = λ op story. tt;
   }
 
-  behind_holds : (story : Story) → NoneHolds which (by_ready accepts b (ready_of b story) story)
-  behind_holds story = safe_made Whichever _ (by_ready accepts b (ready_of b story) story) story (allowed_behind NotHeld accepts b not_held story)
-
-  -- the other bank's part
-  pub brought_holds : ¬ (b ≡ which) → (story : Story) → NoneHolds which (brought_up accepts b story)
-  brought_holds apart story = safe_made Whichever _ (brought_up accepts b story) story (allowed_safe NotHeld accepts b not_held story (λ at e. apart e))
-
--- the own part
-pub brought_once : (accepts : Acceptance) (b : Bank) (story : Story) (at : Counts) → IsNoted (said (brought_up accepts b story) story) (what.Held b at) → at ≡ counts_of story
-brought_once accepts b story at (inl e) = cc
-brought_once accepts b story at (inr n) =
-    let held : Story = noted (what.Held b) story in
-    absurd (said_all (HoldsNot b) (by_ready accepts b (ready_of b held) held) held (behind_holds accepts b b held) (what.Held b at) n refl)
+  pub brought_apart : (story : Story) → NoneOf which (brought_up accepts b story)
+  brought_apart story = safe_made Whichever _ (brought_up accepts b story) story (allowed_safe Others accepts b others_alone story (λ at e. other e))

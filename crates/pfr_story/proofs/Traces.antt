@@ -1,5 +1,5 @@
 -- The world moved by good moves.
-use Rattle.std.proofs.Common.{◌≡◌, ◌∙◌, refl, sym, ap, subst, arith, ℕ, List, [], ◌∷◌, ◌++◌, length, take, drop, append_assoc, ◌⊎◌, inl, inr}
+use Rattle.std.proofs.Common.{◌≡◌, ◌∙◌, refl, sym, ap, subst, arith, ℕ, ◌≤◌, List, [], ◌∷◌, ◌++◌, length, length-append, take, drop, append_assoc, ◌⊎◌, inl, inr}
 use Rattle.std.proofs.lemmas.List.{append-nil, take_all, take-append-le}
 use Rattle.std.proofs.Math.Seq.{drop-append_seam}
 use Rattle.pfr_flash.specs.Bytes.{AreBytes}
@@ -14,10 +14,11 @@ use Rattle.pfr_report.specs.Texts.{IsNoted}
 use Rattle.pfr_report.specs.declared.note.Note.{Note}
 use Rattle.pfr_report.specs.declared.note.What.{What}
 use Rattle.pfr_report.specs.declared.note.What.TheVariants as what
-use Rattle.pfr_story.specs.Story.{Past, Story, Move, Says, Does, Asks, after, moved_by, noted, with_op, counts_of, image_at, image_of, called}
+use Rattle.pfr_story.specs.Story.{Past, Story, Move, Says, Does, Asks, after, moved_by, noted, with_op, operated, counts_of, image_at, image_of, called}
 use Rattle.pfr_story.specs.World.{World, past_of, story_of, AllMoved, added}
 use Rattle.pfr_story.specs.Goes.{Ran, Stopped}
 use Rattle.pfr_story.specs.Safety.{Rule, AllGood, AllSafe, Keeps}
+use Rattle.pfr_story.specs.Promises.{NotBefore}
 use Rattle.pfr_story.proofs.WorldLaws.{AllMoved-trans}
 use Rattle.pfr_story.proofs.Sequence.{after-append}
 use Rattle.pfr_story.proofs.SafetyLaws.{AllGood-append, safe_whole, safe_cut, kept_by, notes_operated, called_any}
@@ -95,6 +96,13 @@ begins_trans a b c p q = record {
 
 pub Precedes-trans : (a b c : Story) → Precedes a b → Precedes b c → Precedes a c
 Precedes-trans a b c p q = record { bmc = begins_trans a.bmc b.bmc c.bmc p.bmc q.bmc; pch = begins_trans a.pch b.pch c.pch p.pch q.pch; nv = begins_trans a.nv b.nv c.nv p.nv q.nv }
+
+-- so no device had done fewer operations then
+begins_fewer : (a b : Past) → Begins a b → length a.ops ≤ length b.ops
+begins_fewer a b p = omega (arith, ap (λ (ops : List Operation). length ops) p.ops, length-append a.ops p.more)
+
+pub not_before : (a b : Story) → Precedes a b → NotBefore (counts_of a) (counts_of b)
+not_before a b p = record { bmc = begins_fewer a.bmc b.bmc p.bmc; pch = begins_fewer a.pch b.pch p.pch; nv = begins_fewer a.nv b.nv p.nv }
 
 -- what a device held at a moment, by its count then
 pub upto_begins : (a b : Past) → Begins a b → play_first (length a.ops) b.start b.ops ≡ image_of a
@@ -183,3 +191,18 @@ Traced-known F old new traced that n =
     let k = Traced-keeps (Saying F) (Known F old.notes.list) (known_moves F old.notes.list) old new traced none in
     let e : added old new ≡ k.more = ap (λ (notes : List Note). drop (length old.notes.list) notes) k.is ∙ drop-append_seam old.notes.list k.more in
     k.all that (subst (λ (notes : List Note). IsNoted notes that) e n)
+
+-- ---- behind the first moment
+since : (F : What → Story → Type 0) (first : Story) (trace : List Move) (story : Story) → Precedes first story → AllGood (Saying F) trace story
+    → AllGood (Saying (λ note at. F note at × Precedes first at)) trace story
+since F first [] story p good = tt
+since F first (Says w ∷ trace) story p good = ((good.0, p), since F first trace (noted w story) (Precedes-move first story (Says w) p) good.1)
+since F first (Does which op ∷ trace) story p good = (tt, since F first trace (operated which op story) (Precedes-move first story (Does which op) p) good.1)
+since F first (Asks which ∷ trace) story p good = (tt, since F first trace story p good.1)
+
+-- And it was true at a moment behind the first.
+pub Traced-since : (F : What → Story → Type 0) (old new : World) → Traced (Saying F) old new → (that : What) → IsNoted (added old new) that
+    → KnownBefore (λ note at. F note at × Precedes (story_of old) at) that (story_of new)
+Traced-since F old new traced =
+    Traced-known (λ note at. F note at × Precedes (story_of old) at) old new
+    (record { trace = traced.trace; is = traced.is; good = since F (story_of old) traced.trace (story_of old) (Precedes-refl (story_of old)) traced.good; moved = traced.moved })

@@ -20,16 +20,16 @@ use Rattle.pfr_story.specs.World.{World, story_of, state_at, AllMoved, NoneLost,
 use Rattle.pfr_story.specs.Safety.{AllGood, AllSafe, AllMake}
 use Rattle.pfr_story.specs.Course.{Stretch, Follows, Calm}
 use Rattle.pfr_story.specs.Standing.{standing_of, is_off}
-use Rattle.pfr_story.specs.Plans.{store, migrated, provisioned, provisioned_in, migration_in}
-use Rattle.pfr_story.specs.Turn.{bank_stretch, fuse_stretch, provision_stretch, where_off, ignored, off_course, provision_course, course, begun, Turn}
+use Rattle.pfr_story.specs.Plans.{store, brought_up, migrated, provisioned, provisioned_in, migration_in}
+use Rattle.pfr_story.specs.Turn.{fault_of, unreadable, bank_stretch, fuse_stretch, provision_stretch, where_off, ignored, power_course, off_course, provision_course, course, begun, Turn}
 use Rattle.pfr_story.specs.Promises.{IsSwitchedOff}
 use Rattle.pfr_story.proofs.WorldLaws.{AllMoved-refl, AllMoved-trans}
 use Rattle.pfr_story.proofs.SafetyLaws.{AllSafe-append, AllMake-append, AllMake-called, cut_makes}
 use Rattle.pfr_story.proofs.Courses.{Steps-moved, Follows-calm}
-use Rattle.pfr_story.proofs.Traces.{call_says, Traced, Traced-known, KnownBefore}
+use Rattle.pfr_story.proofs.Traces.{Traced, Traced-known, Traced-since, KnownBefore, Precedes, Precedes-after, precedes_moved, call_says}
 use Rattle.pfr_story.proofs.StepTraces.{Between, AllowsLosses, IsGoodStretch, noted_along, power_along, provision_along}
 use Rattle.pfr_story.proofs.BringRules.{Any, IsOwn}
-use Rattle.pfr_story.proofs.Facts.{Setting, Fact, IsTrue, brought_true, IsNoLoss, brought_makes, lock_true}
+use Rattle.pfr_story.proofs.Facts.{Setting, IsBehind, Fact, IsTrue, brought_true, IsNoLoss, brought_makes, lock_true}
 
 -- A step in which no count of losses or faults rose is calm.
 pub Turn-calm : (accepts : Acceptance) (e : Event) (old new : World) → Turn accepts e old new → NoneLost old new → NoneRose old new → Calm (course accepts e (story_of old)) (begun old) new
@@ -61,13 +61,19 @@ provisioned_makes root story = (refl, tried_makes root (judge_provision (store s
 
 module _ (s : Setting) where
   abbrev pub IsTrueStretch : Stretch → Type 0
-  IsTrueStretch stretch = IsGoodStretch (IsTrue s) s.first s.last Any Any stretch Any
+  IsTrueStretch stretch = IsGoodStretch (IsTrue s) s.first s.last Any (IsBehind s) stretch (IsBehind s)
+
+  behind_moves : (moves more : List Move) (story : Story) → IsBehind s story → IsBehind s (after more (after moves story))
+  behind_moves moves more story p = Precedes-after (story_of s.first) (after moves story) more (Precedes-after (story_of s.first) story moves p)
 
   bank_true : (b : Bank) → IsTrueStretch (bank_stretch s.accepts b)
   bank_true b = record {
-    plan = record { safe = λ story p. brought_true s b story; ends = λ story p. tt };
+    plan = record {
+      safe = λ story p. brought_true s b story p.1;
+      ends = λ story p. Precedes-after (story_of s.first) story (brought_up s.accepts b story) p.1;
+    };
     noted = λ which story trace p cut rose. ((refl, lock_true s b which (after trace story) (cut_makes (IsOwn b) IsNoLoss which _ trace story (brought_makes s.accepts b story) cut).0 rose), tt);
-    on = λ which story trace p cut e. tt;
+    on = λ which story trace p cut e. behind_moves trace (Says (what.Locked b (fault_of which)) ∷ []) story p.1;
   }
 
   store_rose : (which : Device) → IsStore which → Rose (state_at which s.first).faults (state_at which s.last).faults → Rose s.first.nv.faults s.last.nv.faults
@@ -75,11 +81,14 @@ module _ (s : Setting) where
 
   fuse_true : IsTrueStretch fuse_stretch
   fuse_true = record {
-    plan = record { safe = λ story p. (tt, call_says (Fact s) device.Nv (migration_in (fuses_of (store story))) story); ends = λ story p. tt };
+    plan = record {
+      safe = λ story p. (tt, call_says (Fact s) device.Nv (migration_in (fuses_of (store story))) story);
+      ends = λ story p. Precedes-after (story_of s.first) story (migrated story) p.1;
+    };
     noted = λ which story trace p cut rose.
         let nv = store_rose which (cut_makes IsStore IsNoLoss which _ trace story (migrated_makes story) cut).0 rose in
         (refl, ((refl, nv), (refl, ((refl, nv), tt))));
-    on = λ which story trace p cut e. tt;
+    on = λ which story trace p cut e. behind_moves trace unreadable story p.1;
   }
 
   provisioned_true : (root : RootSlot) (judged : Result ℕ FuseFail) (story : Story) → AllSafe (IsTrue s) (provisioned_in root judged story) story
@@ -89,11 +98,14 @@ module _ (s : Setting) where
 
   provision_true : (root : RootSlot) → IsTrueStretch (provision_stretch root)
   provision_true root = record {
-    plan = record { safe = λ story p. (tt, provisioned_true root _ story); ends = λ story p. tt };
+    plan = record {
+      safe = λ story p. (tt, provisioned_true root _ story);
+      ends = λ story p. Precedes-after (story_of s.first) story (provisioned root story) p.1;
+    };
     noted = λ which story trace p cut rose.
         let nv = store_rose which (cut_makes IsStore IsNoLoss which _ trace story (provisioned_makes root story) cut).0 rose in
         ((refl, nv), ((refl, nv), tt));
-    on = λ which story trace p cut e. tt;
+    on = λ which story trace p cut e. behind_moves trace ((provision_stretch root).on_fault which) story p.1;
   }
 
   -- ---- a whole step
@@ -105,6 +117,9 @@ module _ (s : Setting) where
     allows : AllowsLosses (IsTrue s) s.first s.last
     allows which story fell = ((refl, fell), tt)
 
+    behind : IsBehind s (story_of (begun old))
+    behind = precedes_moved s.first (begun old) within.before
+
     noted_true : (moves : List Move) → Follows (record { first = moves; stretches = [] }) (begun old) new → AllGood (IsTrue s) moves (story_of (begun old)) → Traced (IsTrue s) (begun old) new
     noted_true moves t good = noted_along (IsTrue s) s.first s.last Any (λ w moved. tt) allows (begun old) new within moves t good
 
@@ -114,11 +129,11 @@ module _ (s : Setting) where
 
     try_true : (root : RootSlot) (off : Bool) → Follows (where_off off ignored (provision_course root)) (begun old) new → Traced (IsTrue s) (begun old) new
     try_true root true t = noted_true ignored.first t (tt, tt)
-    try_true root false t = provision_along (IsTrue s) s.first s.last Any (λ w moved. tt) allows (begun old) new within root Any Any (provision_true root) tt t
+    try_true root false t = provision_along (IsTrue s) s.first s.last Any (λ w moved. tt) allows (begun old) new within root (IsBehind s) (IsBehind s) (provision_true root) behind t
 
   pub Turn-true : (e : Event) (old new : World) → Between s.first s.last (begun old) new → MaySwitch e old → Turn s.accepts e old new → Traced (IsTrue s) (begun old) new
   Turn-true event.Power old new within may t =
-      power_along (IsTrue s) s.first s.last Any (λ w moved. tt) (allows event.Power old new within) (begun old) new within s.accepts Any Any Any Any fuse_true (bank_true bank.Bmc) (bank_true bank.Pch) tt tt t
+      power_along (IsTrue s) s.first s.last Any (λ w moved. tt) (allows event.Power old new within) (begun old) new within s.accepts (IsBehind s) (IsBehind s) (IsBehind s) (IsBehind s) fuse_true (bank_true bank.Bmc) (bank_true bank.Pch) tt (Precedes-after (story_of s.first) (story_of (begun old)) (power_course s.accepts).first (behind event.Power old new within)) t
   Turn-true event.Off old new within may t =
       off_true event.Off old new within (is_off (standing_of bank.Bmc old.notes.list)) (λ off. may (λ on. absurd (let k = off in cc))) t
   Turn-true (event.Provision root) old new within may t = try_true (event.Provision root) old new within root (is_off (standing_of bank.Bmc old.notes.list)) t
@@ -127,12 +142,24 @@ module _ (s : Setting) where
 unfoldable pub step_of : Acceptance → Event → World → World → Setting
 step_of accepts e old new = record { accepts = accepts; first = old; last = new; IsSwitched = IsSwitchedOff e old }
 
+-- Each note of a step is true where it is made.
+pub Turn-traced : (accepts : Acceptance) (e : Event) (old new : World) → Turn accepts e old new → Traced (IsTrue (step_of accepts e old new)) (begun old) new
+unfolding step_of
+Turn-traced accepts e old new t =
+    let same = AllMoved-refl old in
+    let within : Between old new (begun old) new = record { before = record { bmc = same.bmc; pch = same.pch; nv = same.nv }; behind = AllMoved-refl new } in
+    Turn-true (step_of accepts e old new) e old new within (λ off. off) t
+
 -- what is known of each note that a step added
 pub Turn-known : (accepts : Acceptance) (e : Event) (old new : World) → Turn accepts e old new → (that : What) → IsNoted (added old new) that
     → KnownBefore (Fact (step_of accepts e old new)) that (story_of new)
-unfolding step_of
 Turn-known accepts e old new t that n =
-    let s : Setting = record { accepts = accepts; first = old; last = new; IsSwitched = IsSwitchedOff e old } in
-    let same = AllMoved-refl old in
-    let within : Between old new (begun old) new = record { before = record { bmc = same.bmc; pch = same.pch; nv = same.nv }; behind = AllMoved-refl new } in
-    Traced-known (Fact s) (begun old) new (Turn-true s e old new within (λ off. off) t) that n
+    let s : Setting = step_of accepts e old new in
+    Traced-known (Fact s) (begun old) new (Turn-traced accepts e old new t) that n
+
+-- and at a moment of the step
+pub Turn-since : (accepts : Acceptance) (e : Event) (old new : World) → Turn accepts e old new → (that : What) → IsNoted (added old new) that
+    → KnownBefore (λ note at. Fact (step_of accepts e old new) note at × Precedes (story_of (begun old)) at) that (story_of new)
+Turn-since accepts e old new t that n =
+    let s : Setting = step_of accepts e old new in
+    Traced-since (Fact s) (begun old) new (Turn-traced accepts e old new t) that n

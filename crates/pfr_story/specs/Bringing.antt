@@ -1,5 +1,5 @@
 -- What a power-on promises of each bank, where no call fails while the bank is in work.
-use Rattle.std.specs.Prelude.{ℕ, ◌+◌, ◌*◌, ◌/◌, ◌≤◌, List, Option}
+use Rattle.std.specs.Prelude.{◌≡◌, ◌⊎◌, ℕ, ◌+◌, ◌*◌, ◌/◌, ◌≤◌, List, ◌∷◌, ◌++◌, Option}
 use Rattle.pfr_flash.specs.FlashState.{size_of}
 use Rattle.pfr_flash.specs.declared.names.Bank.{Bank}
 use Rattle.pfr_flash.specs.declared.names.Bank.TheVariants as bank
@@ -14,10 +14,11 @@ use Rattle.pfr_report.specs.Texts.{IsNoted}
 use Rattle.pfr_report.specs.declared.note.LockWhy.{LockWhy}
 use Rattle.pfr_report.specs.declared.note.LockWhy.TheVariants as why
 use Rattle.pfr_report.specs.declared.note.Note.{Note}
+use Rattle.pfr_report.specs.declared.note.What.{What}
 use Rattle.pfr_report.specs.declared.note.What.TheVariants.{Held, Released, Locked, Lost, Untrusted, Restored}
 use Rattle.pfr_story.specs.Story.{device_of}
 use Rattle.pfr_story.specs.World.{World, state_at, added}
-use Rattle.pfr_story.specs.Causes.{IsAgainst, IsDue, IsRestorable}
+use Rattle.pfr_story.specs.Causes.{IsTrustedWith, IsAgainst, IsDue, IsRestorable}
 use Rattle.pfr_story.specs.Promises.{count_at, AtCounts}
 
 -- the work on the bank was over: on the BMC's it was where the PCH is held behind it
@@ -32,25 +33,41 @@ pub record IsCalm (which : Bank) (notes : List Note) : Type 0 where
   pub store : (at : Counts) → ¬ IsNoted notes (Locked which why.StoreFault at)
   pub on : (device : Option Device) (at : Counts) → IsNoted notes (Lost device at) → IsOver which notes
 
--- it was released, after at most so many operations of its device
+-- this was noted, and that behind it
+pub record IsNotedBehind (this that : What) (notes : List Note) : Type 0 where
+  pub before : List Note
+  pub item : ℕ
+  pub behind : List Note
+  pub is : notes ≡ before ++ record { item = item; what = this } ∷ behind
+  pub noted : IsNoted behind that
+
+-- it was released behind the note that it is held at these counts, after at most so many operations of its device
 pub record ReleasedSoon (which : Bank) (at : Counts) (most : ℕ) (notes : List Note) : Type 0 where
   pub svn : ℕ
   pub then : Counts
-  pub noted : IsNoted notes (Released which svn then)
+  pub noted : IsNotedBehind (Held which at) (Released which svn then) notes
   pub forth : count_at which at ≤ count_at which then
   pub few : count_at which then ≤ count_at which at + most
 
 -- What is noted of a bank that is held at these counts, by the contents then.
 pub record BringsUp (accepts : Acceptance) (which : Bank) (w : World) (notes : List Note) (at : Counts) : Type 0 where
+  -- It is held once.
   pub held : IsNoted notes (Held which at)
-  -- It is released where its image is trusted,
+  pub once : (again : Counts) → IsNoted notes (Held which again) → again ≡ at
+  -- It is released where its image is trusted, and else only behind a restore.
   pub trusted : (t : AtCounts (λ image nv. IsTrusted image nv which accepts) which at w) → IsNoted notes (Released which t.manifest.svn at)
-  -- locked where the contents call for it,
+  pub released : (svn : ℕ) (then : Counts) → IsNoted notes (Released which svn then)
+      → AtCounts (λ image nv. IsTrustedWith svn image nv which accepts) which then w × ((then ≡ at) ⊎ IsNoted notes (Restored which 1))
+  -- It is locked only with a cause, and always where there is one.
+  pub locked : (cause : LockWhy) (then : Counts) → IsNoted notes (Locked which cause then)
+      → (then ≡ at) × AtCounts (λ image nv. IsDue cause which image nv accepts) which at w
   pub due : (cause : LockWhy) → AtCounts (λ image nv. IsDue cause which image nv accepts) which at w → IsNoted notes (Locked which cause at)
-  -- and called untrusted where its check names a cause.
+  -- Its image is called untrusted exactly with the first cause against it.
+  pub distrusted : (cause : ActiveFail) → IsNoted notes (Untrusted which cause) → AtCounts (λ image nv. IsAgainst cause which image nv accepts) which at w
   pub named : (cause : ActiveFail) → AtCounts (λ image nv. IsAgainst cause which image nv accepts) which at w → IsNoted notes (Untrusted which cause)
-  -- Where it isn't trusted and a good capsule stands in its recovery area, it is restored at level 1.
-  pub restored : AtCounts (λ image nv. IsRestorable which image nv accepts) which at w → IsNoted notes (Restored which 1)
+  -- It is restored, at level 1, exactly where its image isn't trusted and a good capsule stands in its recovery area.
+  pub restored : (level : ℕ) → IsNoted notes (Restored which level) → (level ≡ 1) × AtCounts (λ image nv. IsRestorable which image nv accepts) which at w
+  pub restorable : AtCounts (λ image nv. IsRestorable which image nv accepts) which at w → IsNoted notes (Restored which 1)
 
 -- A power-on brings each bank up.
 abbrev pub BringsUpCalm : Event → Acceptance → World → World → Type 0

@@ -1,5 +1,5 @@
 -- What each step promises of its notes.
-use Rattle.std.specs.Prelude.{◌≡◌, ◌↔◌, ℕ, ◌+◌, ◌<◌, List, [], ◌∷◌, ◌++◌, Option, Some, None, Result, Ok, Err, true}
+use Rattle.std.specs.Prelude.{◌≡◌, ◌↔◌, ℕ, ◌+◌, ◌<◌, ◌≤◌, List, [], ◌∷◌, ◌++◌, Option, Some, None, Result, Ok, Err, true}
 use Rattle.pfr_flash.specs.FlashState.{now, upto, Rose, size_of}
 use Rattle.pfr_flash.specs.declared.names.Bank.{Bank}
 use Rattle.pfr_flash.specs.declared.names.Bank.TheVariants as bank
@@ -36,6 +36,17 @@ count_at bank.Pch counts = counts.pch
 abbrev pub AtCounts : (List ℕ → List ℕ → Type 0) → Bank → Counts → World → Type 0
 AtCounts P which at w = P (upto (state_at (device_of which) w) (count_at which at)) (upto w.nv at.nv)
 
+-- no device had done fewer operations at the second of these counts
+pub record NotBefore (first second : Counts) : Type 0 where
+  pub bmc : first.bmc ≤ second.bmc
+  pub pch : first.pch ≤ second.pch
+  pub nv : first.nv ≤ second.nv
+
+-- counts of a moment of the step
+pub record IsMoment (old new : World) (at : Counts) : Type 0 where
+  pub behind : NotBefore (counts_in old) at
+  pub before : NotBefore at (counts_in new)
+
 -- Released is noted of a bank only where it was trusted at the counts of the note, with this security version number.
 abbrev pub ReleasesTrusted : Acceptance → World → World → Type 0
 ReleasesTrusted accepts old new = (which : Bank) (svn : ℕ) (at : Counts) → IsNoted (added old new) (Released which svn at)
@@ -61,13 +72,13 @@ LocksHaveCauses accepts old new = (which : Bank) (cause : LockWhy) (at : Counts)
 -- An image is called untrusted only with the first cause against it, at a moment of the step; also where a call fails behind it.
 abbrev pub DistrustsWithCause : Acceptance → World → World → Type 0
 DistrustsWithCause accepts old new = (which : Bank) (cause : ActiveFail) → IsNoted (added old new) (Untrusted which cause)
-    → (at : Counts) × AtCounts (λ image nv. IsAgainst cause which image nv accepts) which at new
+    → (at : Counts) × IsMoment old new at × AtCounts (λ image nv. IsAgainst cause which image nv accepts) which at new
 
 -- A bank is restored only at level 1, and where its image isn't trusted and a good capsule stands in its recovery area, at a
 -- moment of the step.
 abbrev pub RestoresGood : Acceptance → World → World → Type 0
 RestoresGood accepts old new = (which : Bank) (level : ℕ) → IsNoted (added old new) (Restored which level)
-    → (level ≡ 1) × ((at : Counts) × AtCounts (λ image nv. IsRestorable which image nv accepts) which at new)
+    → (level ≡ 1) × ((at : Counts) × IsMoment old new at × AtCounts (λ image nv. IsRestorable which image nv accepts) which at new)
 
 -- no bank is locked for a fault
 pub record IsUndisturbed (notes : List Note) : Type 0 where

@@ -11,7 +11,7 @@ use Rattle.pfr_story.specs.Story.{Story, Says, Does, Asks, operated}
 use Rattle.pfr_story.specs.World.{World, counts_in, added}
 use Rattle.pfr_story.specs.Safety.{Rule}
 use Rattle.pfr_story.specs.Plans.{mine, store}
-use Rattle.pfr_story.specs.Promises.{AtCounts}
+use Rattle.pfr_story.specs.Promises.{AtCounts, NotBefore}
 
 -- what is true of the bytes of a bank and of the store is true of a story
 abbrev pub HoldsIn : (List ℕ → List ℕ → Type 0) → Bank → Story → Type 0
@@ -37,6 +37,15 @@ moments_with what others = others
 abbrev pub moments_of : List Note → List Counts
 moments_of [] = []
 moments_of (note ∷ notes) = moments_with note.what (moments_of notes)
+
+-- the counts rise from each moment to the next
+abbrev pub Rise : Counts → List Counts → Type 0
+Rise from [] = Unit {0}
+Rise from (to ∷ others) = NotBefore from to × Rise to others
+
+-- The counts of a step's notes are those of its moments.
+abbrev pub CountsRise : World → World → Type 0
+CountsRise old new = Rise (counts_in old) (moments_of (added old new) ++ counts_in new ∷ [])
 
 -- from each moment to the next, what is true stays true
 abbrev pub StaysAlong : (Counts → Type 0) → Counts → List Counts → Type 0

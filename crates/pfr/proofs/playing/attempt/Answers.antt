@@ -1,6 +1,6 @@
 use Rattle.std.proofs.Common.{ap, List}
 use Rattle.pfr_engine.specs.declared.row.Row.{Row}
-use Rattle.pfr_machine.specs.PlatformState.{PlatformState}
+use Rattle.pfr_machine.specs.Worlds.{PlatformState}
 use Rattle.pfr.proofs.PlayedLemmas.{can_fresh, PlayedOf-from}
 use Rattle.pfr.proofs.playing.attempt.Goals as goal
 

@@ -1,8 +1,8 @@
 use Rattle.std.proofs.Common.{◌≡◌, ◌<◌, length, List, ap, ◌∙◌, arith, slice_index_or}
 use Rattle.pfr_engine.specs.Accepting.{acceptance}
 use Rattle.pfr_script.specs.declared.item.Item.{Item}
-use Rattle.pfr_calm.specs.Run.{Did}
-use Rattle.pfr_calm.proofs.RunLaws.{Reached-more, CanRun-more}
+use Rattle.pfr_story.specs.Run.{Did}
+use Rattle.pfr_story.proofs.RunLaws.{Reached-more, CanRun-more}
 use Rattle.pfr.proofs.GrowLemmas.{then_lasts}
 use Rattle.pfr.proofs.playing.play.Goals as goal
 

@@ -1,7 +1,7 @@
 use Rattle.std.proofs.Common.{◌≡◌, length, take, drop}
 use Rattle.pfr_engine.specs.Accepting.{acceptance}
 use Rattle.pfr_report.specs.Texts.{AllText}
-use Rattle.pfr_calm.specs.Run.{Did, Reached, CanRun}
+use Rattle.pfr_story.specs.Run.{Did, Reached, CanRun}
 use Rattle.pfr.specs.Played.{StoreLasts}
 use Rattle.pfr.proofs.playing.play.Given as goal
 

@@ -1,4 +1,4 @@
-use Rattle.pfr_machine.proofs.RecoveryLemmas.{stands_bank}
+use Rattle.pfr_machine.proofs.JudgeLemmas.{stands_bank}
 use Rattle.pfr_machine.proofs.verdicts.judge_area.Goals as goal
 
 pub returns-in-Ok-clause-good : goal.returns-in-Ok-clause-good

@@ -1,6 +1,6 @@
 use Rattle.pfr_flash.proofs.RangeLemmas.{length-now}
 use Rattle.pfr_flash.proofs.EndsLemmas.{EndsAt-refl}
-use Rattle.pfr_machine.proofs.WorldLemmas.{judge_as}
+use Rattle.pfr_machine.proofs.JudgeLemmas.{judge_as}
 use Rattle.pfr_machine.proofs.verdicts.judge_provisioned.Goals as goal
 
 pub returns-in-Err-clause-ends : goal.returns-in-Err-clause-ends

@@ -1,0 +1,353 @@
+-- A bank is held, released or locked, or the power goes.
+use Rattle.std.proofs.Common.{◌≡◌, ◌≢◌, ◌∙◌, refl, sym, ap, subst, ℕ, ◌≤◌, true, false, [], ◌∷◌, Option}
+use Rattle.pfr_flash.specs.FlashState.{FlashState, size_of}
+use Rattle.pfr_flash.specs.Layout.{IsBankSize}
+use Rattle.pfr_flash.specs.declared.names.Bank.{Bank}
+use Rattle.pfr_flash.specs.declared.names.Bank.TheVariants as bank
+use Rattle.pfr_flash.specs.declared.names.Counts.{Counts}
+use Rattle.pfr_flash.specs.declared.names.Device.{Device}
+use Rattle.pfr_report.specs.Texts.{HasText}
+use Rattle.pfr_report.specs.declared.note.LockWhy.{LockWhy}
+use Rattle.pfr_report.specs.declared.note.LockWhy.TheVariants.{NoGoodImage}
+use Rattle.pfr_report.specs.declared.note.Note.{Note}
+use Rattle.pfr_report.specs.declared.note.What.{What}
+use Rattle.pfr_report.specs.declared.note.What.TheVariants.{Held, Released, Locked, Lost}
+use Rattle.pfr_story.specs.Standing.{Standing, standing_after, standing_by, standing_of}
+use Rattle.pfr_story.specs.Story.{Says, device_of}
+use Rattle.pfr_story.specs.World.{World, IsDark, counts_in, state_at}
+use Rattle.pfr_story.specs.Goes.{Ran}
+use Rattle.pfr_story.specs.declared.line.Line.{Line}
+use Rattle.pfr_story.specs.declared.line.Line.TheVariants as line
+use Rattle.pfr_story.proofs.Lift.{Ran-uncalled}
+use Rattle.pfr_machine.specs.Inside.{AreBeside, AreSides, IsBoard, IsDesk, IsSeat}
+use Rattle.pfr_machine.specs.Ready.{IsText, LeavesSeated}
+use Rattle.pfr_machine.specs.Worlds.{AddsNotes, IsAwake, bank_in, desk_world, flash_in, line_in, other_of, pushed, sides_world, with_note}
+use Rattle.pfr_machine.specs.declared.board.Board.{Board}
+use Rattle.pfr_machine.specs.declared.sides.Sides.{Sides}
+use Rattle.pfr_machine.proofs.DeskLemmas.{leaves_seated, state_mine, state_other, state_store}
+use Rattle.pfr_machine.proofs.WorldLemmas.{AddsNotes-noted, after_locked, after_released, other_locked, other_released, standing_noted, seat_noted, board_noted}
+
+-- a note of this item
+abbrev note_in : World → What → Note
+note_in w what = record { item = w.item; what = what }
+
+-- ---- a lock's causes
+pub lock_text : (b : Bank) (why : LockWhy) (at : Counts) → IsText why → HasText (Locked b why at)
+lock_text b (NoGoodImage active recovery) at h = h
+lock_text b _ at h = tt
+
+-- ---- power
+pub powered_as : (old new : FlashState) → new ≡ old → old.powered ≡ true → new ≡ record old { powered = true }
+powered_as old new same on = same ∙ ap (λ on. record old { powered = on }) on
+
+-- what holding a bank does to its device, by how it stood
+pub powered_up : (how : Line) (old new : FlashState) → (how ≡ line.Off → new ≡ record old { powered = true }) → (how ≢ line.Off → new ≡ old) → (how ≢ line.Off → old.powered ≡ true)
+    → new ≡ record old { powered = true }
+powered_up line.Off old new off on was = off refl
+powered_up line.Locked old new off on was = powered_as old new (on (λ e. cc)) (was (λ e. cc))
+powered_up line.Running old new off on was = powered_as old new (on (λ e. cc)) (was (λ e. cc))
+
+-- the bank's device and the store get power
+abbrev pub with_power : Bank → World → World
+with_power bank.Bmc w = record w { bmc = record w.bmc { powered = true }; nv = record w.nv { powered = true } }
+with_power bank.Pch w = record w { pch = record w.pch { powered = true }; nv = record w.nv { powered = true } }
+
+-- the bank's device does
+abbrev pub with_mine : Bank → World → World
+with_mine bank.Bmc w = record w { bmc = record w.bmc { powered = true } }
+with_mine bank.Pch w = record w { pch = record w.pch { powered = true } }
+
+-- no device has power
+abbrev pub darkened : World → World
+darkened w = record w { bmc = record w.bmc { powered = false }; pch = record w.pch { powered = false }; nv = record w.nv { powered = false } }
+
+-- ---- a bank is held
+held_at : (b : Bank) (w : World) → Ran (Says (Held b) ∷ []) w (with_note (Held b (counts_in w)) (with_power b w))
+held_at bank.Bmc w = Ran-uncalled (Says (Held bank.Bmc) ∷ []) w (with_note (Held bank.Bmc (counts_in w)) (with_power bank.Bmc w)) (record { bmc = refl; pch = refl; nv = refl }) refl
+held_at bank.Pch w = Ran-uncalled (Says (Held bank.Pch) ∷ []) w (with_note (Held bank.Pch (counts_in w)) (with_power bank.Pch w)) (record { bmc = refl; pch = refl; nv = refl }) refl
+
+pub held_ran : (b : Bank) (at : Counts) (w new : World) → at ≡ counts_in w → new ≡ with_note (Held b at) (with_power b w) → Ran (Says (Held b) ∷ []) w new
+held_ran b at w new counts e =
+    subst (λ (x : World). Ran (Says (Held b) ∷ []) w x) (sym (e ∙ ap (λ (c : Counts). with_note (Held b c) (with_power b w)) counts)) (held_at b w)
+
+pub held_desk : (b owner other_owner : Bank) (mine other : Line) (at : Counts) (w : World) → AreBeside b owner other_owner mine other w
+    → IsDesk b owner other_owner other (with_note (Held b at) (with_power b w))
+held_desk bank.Bmc owner other_owner mine other at w h =
+    let new : World = with_note (Held bank.Bmc at) (with_power bank.Bmc w) in
+    record {
+      owner = h.mine.owner;
+      size = h.mine.size;
+      stands = standing_noted bank.Bmc w.notes.list (note_in w (Held bank.Bmc at));
+      other = seat_noted bank.Pch other_owner other (note_in w (Held bank.Bmc at)) w new refl refl h.other.stands h.other.on h.other.owner h.other.size;
+      board = board_noted (note_in w (Held bank.Bmc at)) w new refl refl tt h.board;
+    }
+held_desk bank.Pch owner other_owner mine other at w h =
+    let new : World = with_note (Held bank.Pch at) (with_power bank.Pch w) in
+    record {
+      owner = h.mine.owner;
+      size = h.mine.size;
+      stands = standing_noted bank.Pch w.notes.list (note_in w (Held bank.Pch at));
+      other = seat_noted bank.Bmc other_owner other (note_in w (Held bank.Pch at)) w new refl refl h.other.stands h.other.on h.other.owner h.other.size;
+      board = board_noted (note_in w (Held bank.Pch at)) w new refl refl tt h.board;
+    }
+
+pub held_awake : (b : Bank) (what : What) (w : World) → IsAwake b (with_note what (with_power b w))
+held_awake bank.Bmc what w = record { mine = refl; nv = refl }
+held_awake bank.Pch what w = record { mine = refl; nv = refl }
+
+pub held_notes : (b : Bank) (what : What) (w : World) → 1 ≤ w.notes.spare → AddsNotes 1 w.notes (with_note what (with_power b w)).notes
+held_notes bank.Bmc what w room = AddsNotes-noted what (with_power bank.Bmc w) room
+held_notes bank.Pch what w room = AddsNotes-noted what (with_power bank.Pch w) room
+
+module _ {F : Type 0} (dev : F → FlashState) where
+  held_by : (b : Bank) (what : What) (mine other nv : FlashState) (board : Board F) (store : F)
+      → desk_world b (record mine { powered = true }) other (record nv { powered = true }) (pushed what (record board { nv = store })) ≡ with_note what (with_power b (desk_world b mine other nv board))
+  held_by bank.Bmc what mine other nv board store = refl
+  held_by bank.Pch what mine other nv board store = refl
+
+  pub held_world : (b : Bank) (what : What) (mine later other nv : FlashState) (board next : Board F) (store : F)
+      → later ≡ record mine { powered = true } → dev store ≡ record nv { powered = true } → next ≡ pushed what (record board { nv = store })
+      → desk_world b later other (dev next.nv) next ≡ with_note what (with_power b (desk_world b mine other nv board))
+  held_world b what mine later other nv board next store m s e =
+      ap (λ (x : Board F). desk_world b later other (dev x.nv) x) e
+      ∙ (ap (λ (d : FlashState). desk_world b d other (dev store) (pushed what (record board { nv = store }))) m
+      ∙ (ap (λ (d : FlashState). desk_world b (record mine { powered = true }) other d (pushed what (record board { nv = store }))) s
+      ∙ held_by b what mine other nv board store))
+
+-- ---- a bank is locked, whose device has power from there on
+locked_at : (b : Bank) (why : LockWhy) (w : World) → Ran (Says (Locked b why) ∷ []) w (with_note (Locked b why (counts_in w)) (with_mine b w))
+locked_at bank.Bmc why w = Ran-uncalled (Says (Locked bank.Bmc why) ∷ []) w (with_note (Locked bank.Bmc why (counts_in w)) (with_mine bank.Bmc w)) (record { bmc = refl; pch = refl; nv = refl }) refl
+locked_at bank.Pch why w = Ran-uncalled (Says (Locked bank.Pch why) ∷ []) w (with_note (Locked bank.Pch why (counts_in w)) (with_mine bank.Pch w)) (record { bmc = refl; pch = refl; nv = refl }) refl
+
+pub locked_ran : (b : Bank) (why : LockWhy) (at : Counts) (w new : World) → at ≡ counts_in w → new ≡ with_note (Locked b why at) (with_mine b w) → Ran (Says (Locked b why) ∷ []) w new
+locked_ran b why at w new counts e =
+    subst (λ (x : World). Ran (Says (Locked b why) ∷ []) w x) (sym (e ∙ ap (λ (c : Counts). with_note (Locked b why c) (with_mine b w)) counts)) (locked_at b why w)
+
+pub locked_notes : (b : Bank) (what : What) (w : World) → 1 ≤ w.notes.spare → AddsNotes 1 w.notes (with_note what (with_mine b w)).notes
+locked_notes bank.Bmc what w room = AddsNotes-noted what (with_mine bank.Bmc w) room
+locked_notes bank.Pch what w room = AddsNotes-noted what (with_mine bank.Pch w) room
+
+pub locked_store : (b : Bank) (what : What) (w : World) → (with_note what (with_mine b w)).nv ≡ w.nv
+locked_store bank.Bmc what w = refl
+locked_store bank.Pch what w = refl
+
+-- a bank stands otherwise by a note, and its device has power
+pub stands_beside : (b owner other_owner : Bank) (later other : Line) (what : What) (w : World)
+    → standing_after b what (standing_of b w.notes.list) ≡ standing_by later → standing_after (other_of b) what (standing_of (other_of b) w.notes.list) ≡ standing_by other → HasText what
+    → owner ≡ b → IsBankSize (size_of (state_at (device_of b) w)) → IsSeat (other_of b) other_owner other w → IsBoard w
+    → AreBeside b owner other_owner later other (with_note what (with_mine b w))
+stands_beside bank.Bmc owner other_owner later other what w after others text owned size seat board =
+    let new : World = with_note what (with_mine bank.Bmc w) in
+    record {
+      mine = seat_noted bank.Bmc owner later (note_in w what) w new refl refl after (λ on. refl) owned size;
+      other = seat_noted bank.Pch other_owner other (note_in w what) w new refl refl others seat.on seat.owner seat.size;
+      board = board_noted (note_in w what) w new refl refl text board;
+    }
+stands_beside bank.Pch owner other_owner later other what w after others text owned size seat board =
+    let new : World = with_note what (with_mine bank.Pch w) in
+    record {
+      mine = seat_noted bank.Pch owner later (note_in w what) w new refl refl after (λ on. refl) owned size;
+      other = seat_noted bank.Bmc other_owner other (note_in w what) w new refl refl others seat.on seat.owner seat.size;
+      board = board_noted (note_in w what) w new refl refl text board;
+    }
+
+module _ {F : Type 0} (dev : F → FlashState) where
+  noted_by : (b : Bank) (what : What) (mine other nv : FlashState) (board : Board F)
+      → desk_world b (record mine { powered = true }) other nv (pushed what board) ≡ with_note what (with_mine b (desk_world b mine other nv board))
+  noted_by bank.Bmc what mine other nv board = refl
+  noted_by bank.Pch what mine other nv board = refl
+
+  -- the board got a note, and the bank's device has power
+  pub noted_world : (b : Bank) (what : What) (mine later other : FlashState) (board next : Board F)
+      → later ≡ record mine { powered = true } → next ≡ pushed what board
+      → desk_world b later other (dev next.nv) next ≡ with_note what (with_mine b (desk_world b mine other (dev board.nv) board))
+  noted_world b what mine later other board next m e =
+      ap (λ (x : Board F). desk_world b later other (dev x.nv) x) e
+      ∙ (ap (λ (d : FlashState). desk_world b d other (dev board.nv) (pushed what board)) m ∙ noted_by b what mine other (dev board.nv) board)
+
+-- the same where it had power before
+mine_powered : (b : Bank) (w : World) → (state_at (device_of b) w).powered ≡ true → with_mine b w ≡ w
+mine_powered bank.Bmc w on = ap (λ on. record w { bmc = record w.bmc { powered = on } }) (sym on)
+mine_powered bank.Pch w on = ap (λ on. record w { pch = record w.pch { powered = on } }) (sym on)
+
+pub with_mine_on : (b : Bank) (what : What) (w : World) → (state_at (device_of b) w).powered ≡ true → with_note what (with_mine b w) ≡ with_note what w
+with_mine_on b what w on = ap (λ (x : World). with_note what x) (mine_powered b w on)
+
+-- ---- the power goes
+pub lost_ran : (device : Option Device) (at : Counts) (w new : World) → at ≡ counts_in w → new ≡ with_note (Lost device at) (darkened w) → Ran (Says (Lost device) ∷ []) w new
+lost_ran device at w new counts e =
+    let same : new ≡ with_note (Lost device (counts_in w)) (darkened w) = e ∙ ap (λ (c : Counts). with_note (Lost device c) (darkened w)) counts in
+    subst (λ (x : World). Ran (Says (Lost device) ∷ []) w x) (sym same)
+    (Ran-uncalled (Says (Lost device) ∷ []) w (with_note (Lost device (counts_in w)) (darkened w)) (record { bmc = refl; pch = refl; nv = refl }) refl)
+
+pub lost_dark : (what : What) (w new : World) → new ≡ with_note what (darkened w) → IsDark new
+lost_dark what w new e = subst (λ (x : World). IsDark x) (sym e) (record { bmc = refl; pch = refl; nv = refl })
+
+pub lost_notes : (what : What) (w : World) → 1 ≤ w.notes.spare → AddsNotes 1 w.notes (with_note what (darkened w)).notes
+lost_notes what w room = AddsNotes-noted what (darkened w) room
+
+lost_seat : (which owner : Bank) (device : Option Device) (at : Counts) (w new : World)
+    → size_of (state_at (device_of which) new) ≡ size_of (state_at (device_of which) w) → new.notes.list ≡ (with_note (Lost device at) w).notes.list
+    → owner ≡ which → IsBankSize (size_of (state_at (device_of which) w)) → IsSeat which owner line.Off new
+lost_seat which owner device at w new size list owned bank_size =
+    seat_noted which owner line.Off (note_in w (Lost device at)) w new size list refl (λ on. absurd (on refl)) owned bank_size
+
+pub lost_beside : (b owner other_owner : Bank) (device : Option Device) (at : Counts) (w : World)
+    → owner ≡ b → IsBankSize (size_of (state_at (device_of b) w)) → other_owner ≡ other_of b → IsBankSize (size_of (state_at (device_of (other_of b)) w)) → IsBoard w
+    → AreBeside b owner other_owner line.Off line.Off (with_note (Lost device at) (darkened w))
+lost_beside bank.Bmc owner other_owner device at w owned size others other_size board =
+    let new : World = with_note (Lost device at) (darkened w) in
+    record {
+      mine = lost_seat bank.Bmc owner device at w new refl refl owned size;
+      other = lost_seat bank.Pch other_owner device at w new refl refl others other_size;
+      board = board_noted (note_in w (Lost device at)) w new refl refl tt board;
+    }
+lost_beside bank.Pch owner other_owner device at w owned size others other_size board =
+    let new : World = with_note (Lost device at) (darkened w) in
+    record {
+      mine = lost_seat bank.Pch owner device at w new refl refl owned size;
+      other = lost_seat bank.Bmc other_owner device at w new refl refl others other_size;
+      board = board_noted (note_in w (Lost device at)) w new refl refl tt board;
+    }
+
+module _ {F : Type 0} (dev : F → FlashState) where
+  dark_by : (b : Bank) (what : What) (mine other nv : FlashState) (board : Board F) (store : F)
+      → desk_world b (record mine { powered = false }) (record other { powered = false }) (record nv { powered = false }) (record (pushed what board) { nv = store })
+      ≡ with_note what (darkened (desk_world b mine other nv board))
+  dark_by bank.Bmc what mine other nv board store = refl
+  dark_by bank.Pch what mine other nv board store = refl
+
+  pub dark_world : (b : Bank) (what : What) (mine dark other dark_other nv : FlashState) (board next : Board F) (store : F)
+      → dark ≡ record mine { powered = false } → dark_other ≡ record other { powered = false } → dev store ≡ record nv { powered = false } → next ≡ pushed what board
+      → desk_world b dark dark_other (dev store) (record next { nv = store }) ≡ with_note what (darkened (desk_world b mine other nv board))
+  dark_world b what mine dark other dark_other nv board next store m o s e =
+      ap (λ (x : Board F). desk_world b dark dark_other (dev store) (record x { nv = store })) e
+      ∙ (ap (λ (d : FlashState). desk_world b d dark_other (dev store) (record (pushed what board) { nv = store })) m
+      ∙ (ap (λ (d : FlashState). desk_world b (record mine { powered = false }) d (dev store) (record (pushed what board) { nv = store })) o
+      ∙ (ap (λ (d : FlashState). desk_world b (record mine { powered = false }) (record other { powered = false }) d (record (pushed what board) { nv = store })) s
+      ∙ dark_by b what mine other nv board store)))
+
+-- ---- the seats of both banks, of which this one is held or locked
+module _ {F : Type 0} (dev : F → FlashState) (s : Sides F) (seated : AreSides dev s) (flash : FlashState)
+    (off : line_in s.mine ≡ line.Off → flash ≡ record (dev (flash_in s.mine)) { powered = true }) (on : line_in s.mine ≢ line.Off → flash ≡ dev (flash_in s.mine)) where
+  flash_up : flash ≡ record (dev (flash_in s.mine)) { powered = true }
+  flash_up =
+      powered_up (line_in s.mine) (dev (flash_in s.mine)) flash off on
+      (λ some. subst (λ (d : FlashState). d.powered ≡ true) (state_mine s.bank (dev (flash_in s.mine)) (dev (flash_in s.other)) (dev s.board.nv) s.board) (seated.mine.on some))
+
+  pub held_sides : (what : What) (store : F) (next : Board F) → dev store ≡ record (dev s.board.nv) { powered = true } → next ≡ pushed what (record s.board { nv = store })
+      → desk_world s.bank flash (dev (flash_in s.other)) (dev next.nv) next ≡ with_note what (with_power s.bank (sides_world dev s))
+  held_sides what store next up e = held_world dev s.bank what (dev (flash_in s.mine)) flash (dev (flash_in s.other)) (dev s.board.nv) s.board next store flash_up up e
+
+  pub held_is_desk : (at : Counts) (whose : Bank) (store : F) (next : Board F) → whose ≡ bank_in s.mine → dev store ≡ record (dev s.board.nv) { powered = true }
+      → next ≡ pushed (Held s.bank at) (record s.board { nv = store })
+      → IsDesk s.bank whose (bank_in s.other) (line_in s.other) (desk_world s.bank flash (dev (flash_in s.other)) (dev next.nv) next)
+  held_is_desk at whose store next owned up e =
+      subst (λ (x : Bank). IsDesk s.bank x (bank_in s.other) (line_in s.other) (desk_world s.bank flash (dev (flash_in s.other)) (dev next.nv) next)) (sym owned)
+      (subst (λ (w : World). IsDesk s.bank (bank_in s.mine) (bank_in s.other) (line_in s.other) w) (sym (held_sides (Held s.bank at) store next up e))
+      (held_desk s.bank (bank_in s.mine) (bank_in s.other) (line_in s.mine) (line_in s.other) at (sides_world dev s) seated))
+
+  pub held_says : (b : Bank) (at : Counts) (self : World) (store : F) (next : Board F) → s.bank ≡ b → sides_world dev s ≡ self → at ≡ counts_in self
+      → dev store ≡ record (dev s.board.nv) { powered = true } → next ≡ pushed (Held s.bank at) (record s.board { nv = store })
+      → Ran (Says (Held b) ∷ []) self (desk_world s.bank flash (dev (flash_in s.other)) (dev next.nv) next)
+  held_says b at self store next is same counts up e =
+      subst (λ (x : Bank). Ran (Says (Held x) ∷ []) self (desk_world s.bank flash (dev (flash_in s.other)) (dev next.nv) next)) is
+      (subst (λ (w : World). Ran (Says (Held s.bank) ∷ []) w (desk_world s.bank flash (dev (flash_in s.other)) (dev next.nv) next)) same
+      (held_ran s.bank at (sides_world dev s) (desk_world s.bank flash (dev (flash_in s.other)) (dev next.nv) next) (counts ∙ ap counts_in (sym same)) (held_sides (Held s.bank at) store next up e)))
+
+  pub locked_sides : (what : What) (next : Board F) → next ≡ pushed what s.board
+      → desk_world s.bank flash (dev (flash_in s.other)) (dev next.nv) next ≡ with_note what (with_mine s.bank (sides_world dev s))
+  locked_sides what next e = noted_world dev s.bank what (dev (flash_in s.mine)) flash (dev (flash_in s.other)) s.board next flash_up e
+
+  pub locked_are_beside : (why : LockWhy) (at : Counts) (whose : Bank) (next : Board F) → whose ≡ bank_in s.mine → IsText why → next ≡ pushed (Locked s.bank why at) s.board
+      → AreBeside s.bank whose (bank_in s.other) line.Locked (line_in s.other) (desk_world s.bank flash (dev (flash_in s.other)) (dev next.nv) next)
+  locked_are_beside why at whose next owned text e =
+      subst (λ (w : World). AreBeside s.bank whose (bank_in s.other) line.Locked (line_in s.other) w) (sym (locked_sides (Locked s.bank why at) next e))
+      (stands_beside s.bank whose (bank_in s.other) line.Locked (line_in s.other) (Locked s.bank why at) (sides_world dev s)
+      (after_locked s.bank why at (standing_of s.bank (sides_world dev s).notes.list))
+      (other_locked s.bank why at (standing_of (other_of s.bank) (sides_world dev s).notes.list) ∙ seated.other.stands)
+      (lock_text s.bank why at text) (owned ∙ seated.mine.owner) seated.mine.size seated.other seated.board)
+
+  pub locked_says : (b : Bank) (why : LockWhy) (at : Counts) (self : World) (next : Board F) → s.bank ≡ b → sides_world dev s ≡ self → at ≡ counts_in self
+      → next ≡ pushed (Locked s.bank why at) s.board → Ran (Says (Locked b why) ∷ []) self (desk_world s.bank flash (dev (flash_in s.other)) (dev next.nv) next)
+  locked_says b why at self next is same counts e =
+      subst (λ (x : Bank). Ran (Says (Locked x why) ∷ []) self (desk_world s.bank flash (dev (flash_in s.other)) (dev next.nv) next)) is
+      (subst (λ (w : World). Ran (Says (Locked s.bank why) ∷ []) w (desk_world s.bank flash (dev (flash_in s.other)) (dev next.nv) next)) same
+      (locked_ran s.bank why at (sides_world dev s) (desk_world s.bank flash (dev (flash_in s.other)) (dev next.nv) next) (counts ∙ ap counts_in (sym same)) (locked_sides (Locked s.bank why at) next e)))
+
+  pub locked_adds : (what : What) (self : World) (next : Board F) → sides_world dev s ≡ self → 1 ≤ self.notes.spare → next ≡ pushed what s.board
+      → AddsNotes 1 self.notes (desk_world s.bank flash (dev (flash_in s.other)) (dev next.nv) next).notes
+  locked_adds what self next same room e =
+      let before : 1 ≤ (sides_world dev s).notes.spare = subst (λ (w : World). 1 ≤ w.notes.spare) (sym same) room in
+      subst (λ (w : World). AddsNotes 1 w.notes (desk_world s.bank flash (dev (flash_in s.other)) (dev next.nv) next).notes) same
+      (subst (λ (w : World). AddsNotes 1 (sides_world dev s).notes w.notes) (sym (locked_sides what next e)) (locked_notes s.bank what (sides_world dev s) before))
+
+-- ---- a desk's bank stands otherwise, whose device has power
+module _ {F : Type 0} (dev : F → FlashState) (b whose other_whose : Bank) (how : Line) (mine later other : FlashState) (board : Board F)
+    (desk : IsDesk b whose other_whose how (desk_world b mine other (dev board.nv) board)) (on : mine.powered ≡ true) (same : later ≡ mine) where
+  later_up : later ≡ record mine { powered = true }
+  later_up = powered_as mine later same on
+
+  my_power : (state_at (device_of b) (desk_world b mine other (dev board.nv) board)).powered ≡ true
+  my_power = subst (λ (d : FlashState). d.powered ≡ true) (sym (state_mine b mine other (dev board.nv) board)) on
+
+  pub desk_noted_is : (what : What) (next : Board F) → next ≡ pushed what board → desk_world b later other (dev next.nv) next ≡ with_note what (desk_world b mine other (dev board.nv) board)
+  desk_noted_is what next e = noted_world dev b what mine later other board next later_up e ∙ with_mine_on b what (desk_world b mine other (dev board.nv) board) my_power
+
+  pub desk_beside : (later_line : Line) (what : What) (later_whose : Bank) (next : Board F) → later_whose ≡ whose → next ≡ pushed what board → HasText what
+      → ((s : Standing) → standing_after b what s ≡ standing_by later_line) → ((s : Standing) → standing_after (other_of b) what s ≡ s)
+      → AreBeside b later_whose other_whose later_line how (desk_world b later other (dev next.nv) next)
+  desk_beside later_line what later_whose next owned e text after others =
+      subst (λ (w : World). AreBeside b later_whose other_whose later_line how w) (sym (noted_world dev b what mine later other board next later_up e))
+      (stands_beside b later_whose other_whose later_line how what (desk_world b mine other (dev board.nv) board) (after (standing_of b (desk_world b mine other (dev board.nv) board).notes.list))
+      (others (standing_of (other_of b) (desk_world b mine other (dev board.nv) board).notes.list) ∙ desk.other.stands) text (owned ∙ desk.owner) desk.size desk.other desk.board)
+
+  pub desk_locks : (why : LockWhy) (at : Counts) (next : Board F) → at ≡ counts_in (desk_world b mine other (dev board.nv) board) → next ≡ pushed (Locked b why at) board
+      → Ran (Says (Locked b why) ∷ []) (desk_world b mine other (dev board.nv) board) (desk_world b later other (dev next.nv) next)
+  desk_locks why at next counts e =
+      locked_ran b why at (desk_world b mine other (dev board.nv) board) (desk_world b later other (dev next.nv) next) counts (noted_world dev b (Locked b why at) mine later other board next later_up e)
+
+  pub desk_leaves : (later_line : Line) (what : What) (next : Board F) → 1 ≤ (desk_world b mine other (dev board.nv) board).notes.spare → (dev board.nv).powered ≡ true
+      → next ≡ pushed what board → HasText what → later_line ≢ line.Off
+      → ((s : Standing) → standing_after b what s ≡ standing_by later_line) → ((s : Standing) → standing_after (other_of b) what s ≡ s)
+      → LeavesSeated 1 (record { bank = b; other = how; world = desk_world b mine other (dev board.nv) board }) (desk_world b later other (dev next.nv) next)
+  desk_leaves later_line what next room fed e text some after others =
+      leaves_seated b whose other_whose later_line how 1 (desk_world b mine other (dev board.nv) board) (desk_world b later other (dev next.nv) next) some
+      (desk_beside later_line what whose next refl e text after others)
+      (subst (λ (w : World). AddsNotes 1 (desk_world b mine other (dev board.nv) board).notes w.notes) (sym (desk_noted_is what next e)) (AddsNotes-noted what (desk_world b mine other (dev board.nv) board) room))
+      (ap (λ (w : World). w.nv.powered) (desk_noted_is what next e) ∙ (ap (λ (d : FlashState). d.powered) (state_store b mine other (dev board.nv) board) ∙ fed))
+
+-- it was released
+pub released_leaves : {F : Type 0} (dev : F → FlashState) (b whose other_whose : Bank) (how : Line) (mine other : FlashState) (board : Board F)
+    → IsDesk b whose other_whose how (desk_world b mine other (dev board.nv) board) → mine.powered ≡ true → (svn : ℕ) (at : Counts)
+    → 1 ≤ (desk_world b mine other (dev board.nv) board).notes.spare → (dev board.nv).powered ≡ true
+    → LeavesSeated 1 (record { bank = b; other = how; world = desk_world b mine other (dev board.nv) board }) (with_note (Released b svn at) (desk_world b mine other (dev board.nv) board))
+released_leaves dev b whose other_whose how mine other board desk on svn at room fed =
+    let what : What = Released b svn at in
+    subst (λ (w : World). LeavesSeated 1 (record { bank = b; other = how; world = desk_world b mine other (dev board.nv) board }) w)
+    (desk_noted_is dev b whose other_whose how mine mine other board desk on refl what (pushed what board) refl)
+    (desk_leaves dev b whose other_whose how mine mine other board desk on refl line.Running what (pushed what board) room fed refl tt (λ e. cc) (after_released b svn at) (other_released b svn at))
+
+-- ---- the power goes from a desk
+module _ {F : Type 0} (dev : F → FlashState) (b : Bank) (mine dark other dark_other : FlashState) (board next : Board F) (store : F) (device : Option Device) (at : Counts)
+    (m : dark ≡ record mine { powered = false }) (o : dark_other ≡ record other { powered = false }) (n : dev store ≡ record (dev next.nv) { powered = false })
+    (e : next ≡ pushed (Lost device at) board) where
+  pub dark_is : desk_world b dark dark_other (dev store) (record next { nv = store }) ≡ with_note (Lost device at) (darkened (desk_world b mine other (dev board.nv) board))
+  dark_is = dark_world dev b (Lost device at) mine dark other dark_other (dev board.nv) board next store m o (n ∙ ap (λ (x : Board F). record (dev x.nv) { powered = false }) e) e
+
+  pub dark_beside : (whose other_whose : Bank) → whose ≡ b → IsBankSize (size_of mine) → other_whose ≡ other_of b → IsBankSize (size_of other) → IsBoard (desk_world b mine other (dev board.nv) board)
+      → AreBeside b whose other_whose line.Off line.Off (desk_world b dark dark_other (dev store) (record next { nv = store }))
+  dark_beside whose other_whose owned size others other_size is_board =
+      subst (λ (w : World). AreBeside b whose other_whose line.Off line.Off w) (sym dark_is)
+      (lost_beside b whose other_whose device at (desk_world b mine other (dev board.nv) board) owned
+      (subst (λ (d : FlashState). IsBankSize (size_of d)) (sym (state_mine b mine other (dev board.nv) board)) size) others
+      (subst (λ (d : FlashState). IsBankSize (size_of d)) (sym (state_other b mine other (dev board.nv) board)) other_size) is_board)
+
+  pub dark_says : at ≡ counts_in (desk_world b mine other (dev board.nv) board)
+      → Ran (Says (Lost device) ∷ []) (desk_world b mine other (dev board.nv) board) (desk_world b dark dark_other (dev store) (record next { nv = store }))
+  dark_says counts = lost_ran device at (desk_world b mine other (dev board.nv) board) (desk_world b dark dark_other (dev store) (record next { nv = store })) counts dark_is
+
+  pub dark_adds : 1 ≤ (desk_world b mine other (dev board.nv) board).notes.spare
+      → AddsNotes 1 (desk_world b mine other (dev board.nv) board).notes (desk_world b dark dark_other (dev store) (record next { nv = store })).notes
+  dark_adds room =
+      subst (λ (w : World). AddsNotes 1 (desk_world b mine other (dev board.nv) board).notes w.notes) (sym dark_is) (lost_notes (Lost device at) (desk_world b mine other (dev board.nv) board) room)

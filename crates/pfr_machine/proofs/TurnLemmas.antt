@@ -1,0 +1,148 @@
+-- A whole step, from what was done at its event.
+use Rattle.std.proofs.Common.{◌≡◌, ◌∙◌, refl, sym, ap, subst, ℕ, Bool, true, false, List, [], ◌∷◌, length, inr, arith, Result, Ok, Err, OnOk}
+use Rattle.pfr_flash.specs.FlashState.{FlashState, size_of}
+use Rattle.pfr_flash.specs.Layout.{IsBankSize}
+use Rattle.pfr_flash.specs.declared.flash.FlashFail.{FlashFail}
+use Rattle.pfr_flash.specs.declared.flash.FlashFail.TheVariants as fail
+use Rattle.pfr_flash.specs.declared.names.Bank.TheVariants as bank
+use Rattle.pfr_flash.specs.declared.names.Device.{Device}
+use Rattle.pfr_flash.specs.declared.names.Device.TheVariants as device
+use Rattle.pfr_engine.specs.Acceptance.{Acceptance}
+use Rattle.pfr_report.specs.declared.note.Note.{Note}
+use Rattle.pfr_report.specs.declared.note.What.TheVariants.{Power}
+use Rattle.pfr_script.specs.declared.event.Event.{Event}
+use Rattle.pfr_script.specs.declared.event.Event.TheVariants as event
+use Rattle.pfr_story.specs.Course.{Stretch, Course, CrossesOrFaults, LosesPower, Steps, Follows}
+use Rattle.pfr_story.specs.Goes.{Ran, Stopped}
+use Rattle.pfr_story.specs.Plans.{migrated}
+use Rattle.pfr_story.specs.Standing.{Standing, is_off}
+use Rattle.pfr_story.specs.Story.{Story, Move, Says, after}
+use Rattle.pfr_story.specs.Turn.{bank_stretch, fuse_stretch, unreadable, power_course, course, where_off, begun, Turn}
+use Rattle.pfr_story.specs.World.{World, story_of}
+use Rattle.pfr_story.proofs.Courses.{Steps-next, Steps-ended}
+use Rattle.pfr_story.proofs.RunLaws.{Turn-item}
+use Rattle.pfr_story.proofs.Turns.{Turn-moved}
+use Rattle.pfr_story.proofs.Lift.{Ran-uncalled}
+use Rattle.pfr_story.proofs.Sequence.{Ran-refl}
+use Rattle.pfr_machine.specs.Worlds.{with_note, with_state}
+use Rattle.pfr_machine.specs.Inside.{HasSizes, IsWhole}
+use Rattle.pfr_machine.specs.Ready.{Brings, BringsBoth, BroughtUp, LeavesWhole}
+use Rattle.pfr_machine.specs.declared.bringing.Dark.{Dark}
+use Rattle.pfr_machine.proofs.WorldLemmas.{AddsNotes-then}
+
+-- a step that only notes something
+pub only_noted : (moves : List Move) (old new : World) → Ran moves old new → Follows (record { first = moves; stretches = [] }) old new
+only_noted moves old new p = (new, p, Ran-refl new)
+
+-- ---- both banks are brought up
+pub both_steps : (first second : Stretch) (old mid new : World) → first.goes_on ≡ true → second.goes_on ≡ true → CrossesOrFaults first old mid → CrossesOrFaults second mid new
+    → Steps (first ∷ second ∷ []) old new
+both_steps first second old mid new a b p q = Steps-next first (second ∷ []) old mid new a p (Steps-next second [] mid new new b q (Ran-refl new))
+
+pub second_lost : (first second : Stretch) (old mid new : World) → first.goes_on ≡ true → CrossesOrFaults first old mid → LosesPower second mid new → Steps (first ∷ second ∷ []) old new
+second_lost first second old mid new a p q = Steps-next first (second ∷ []) old mid new a p (inr (inr q))
+
+-- where the second bank's work leads, once the first one was brought up
+pub both_brought : {F : Type 0} (first second : Stretch) (old mid : World) (r : Result World (Dark F)) → first.goes_on ≡ true → second.goes_on ≡ true
+    → CrossesOrFaults first old mid × BroughtUp bank.Bmc 5 old mid → Brings second bank.Pch 5 mid r → BringsBoth (first ∷ second ∷ []) 10 old r
+both_brought first second old mid (Ok new) a b p q = (
+  both_steps first second old mid new a b p.0 q.0,
+  record {
+    bmc = λ e. p.1.mine (sym q.1.other ∙ e);
+    pch = q.1.mine;
+    notes = AddsNotes-then 5 5 old.notes mid.notes new.notes p.1.notes q.1.notes;
+    nv = q.1.nv;
+  },
+)
+both_brought first second old mid (Err dark) a b p q =
+    (second_lost first second old mid dark.inner a p.0 q.0, q.1, AddsNotes-then 5 5 old.notes mid.notes dark.inner.notes p.1.notes q.2)
+
+-- ---- the power comes on
+stopped_as : (moves : List Move) (which : Device) (found end : FlashFail) (old new : World) → found ≡ end → Stopped moves which found old new → Stopped moves which end old new
+stopped_as moves which found end old new e s = subst (λ (x : FlashFail). Stopped moves which x old new) e s
+
+-- the store gets power, and that is noted
+power_noted : (old lit noted : World) → lit ≡ with_state device.Nv (record old.nv { powered = true }) old → noted ≡ with_note Power lit → Ran (Says (λ _. Power) ∷ []) old noted
+power_noted old lit noted a b =
+    let is : noted ≡ with_note Power (with_state device.Nv (record old.nv { powered = true }) old) = rw b (ap (λ (w : World). with_note Power w) a) in
+    subst (λ (w : World). Ran (Says (λ _. Power) ∷ []) old w) (sym is)
+    (Ran-uncalled (Says (λ _. Power) ∷ []) old (with_note Power (with_state device.Nv (record old.nv { powered = true }) old)) (record { bmc = refl; pch = refl; nv = refl }) refl)
+
+module _ (accepts : Acceptance) where
+  abbrev banks : List Stretch
+  banks = bank_stretch accepts bank.Bmc ∷ bank_stretch accepts bank.Pch ∷ []
+
+  pub unread : (which : Device) (found : FlashFail) (old mid new : World) → found ≡ fail.Fault → Stopped (migrated (story_of old)) which found old mid → Ran unreadable mid new
+      → Steps (fuse_stretch ∷ banks) old new
+  unread which found old mid new e p q =
+      Steps-ended fuse_stretch banks old new refl (record { which = which; at = mid; stopped = stopped_as (migrated (story_of old)) which found fail.Fault old mid e p; noted = q })
+
+  pub powered : (old lit noted new : World) → lit ≡ with_state device.Nv (record old.nv { powered = true }) old → noted ≡ with_note Power lit → Steps (fuse_stretch ∷ banks) noted new
+      → Follows (power_course accepts) old new
+  powered old lit noted new a b p = (noted, power_noted old lit noted a b, p)
+
+-- where the banks aren't off
+pub at_on : (off : Bool) (s : Standing) (a b : Course) (old new : World) → off ≡ is_off s → off ≡ false → Follows b old new → Follows (where_off (is_off s) a b) old new
+at_on off s a b old new e f p = rw (← e, f) p
+
+-- ---- an item was begun
+pub record Begun (old next : World) : Type 0 where
+  pub is : next ≡ record (begun old) { notes = next.notes }
+  pub list : next.notes.list ≡ old.notes.list
+
+module _ (old next : World) (b : Begun old next) where
+  story_begun : story_of next ≡ story_of (begun old)
+  story_begun = ap story_of b.is ∙ ap (λ (l : List Note). record (story_of (begun old)) { notes = l }) b.list
+
+  ran_begun : (moves : List Move) (mid : World) → Ran moves next mid → Ran moves (begun old) mid
+  ran_begun moves mid p =
+      let q = subst (λ (w : World). Ran moves w mid) b.is p in
+      record {
+        is = p.is ∙ ap (λ (s : Story). after moves s) story_begun;
+        moved = record { bmc = q.moved.bmc; pch = q.moved.pch; nv = q.moved.nv };
+        none_lost = record { bmc = q.none_lost.bmc; pch = q.none_lost.pch; nv = q.none_lost.nv };
+        none_failed = record { bmc = q.none_failed.bmc; pch = q.none_failed.pch; nv = q.none_failed.nv };
+      }
+
+  course_of : (accepts : Acceptance) (e : Event) (s t : Story) → s.notes ≡ t.notes → course accepts e s ≡ course accepts e t
+  course_of accepts event.Power s t p = refl
+  course_of accepts event.Off s t p = rw p refl
+  course_of accepts (event.Provision what) s t p = rw p refl
+
+  pub turned : (accepts : Acceptance) (e : Event) (new : World) → Follows (course accepts e (story_of next)) next new → Turn accepts e old new
+  turned accepts e new (mid, p, q) =
+      let same : course accepts e (story_of next) ≡ course accepts e (story_of old) = course_of accepts e (story_of next) (story_of old) b.list in
+      subst (λ (c : Course). Follows c (begun old) new) same (mid, ran_begun _ mid p, q)
+
+  pub still_whole : (accepts : Acceptance) (e : Event) (new : World) → IsWhole old → Follows (course accepts e (story_of next)) next new → LeavesWhole 64 next new → IsWhole new
+  still_whole accepts e new h f l = record {
+    together = l.together;
+    apart = l.apart;
+    on = l.on;
+    few =
+        let item = Turn-item accepts e old new (turned accepts e new f) in
+        let list : length next.notes.list ≡ length old.notes.list = ap (λ (l : List Note). length l) b.list in
+        omega (arith, h.few, l.notes.few, item, list);
+  }
+
+-- ---- what holds of a step where it was done
+pub by_turn : {A B : Type 0} {T U : Type 0} (r : Result T U) → OnOk r A → (A → B) → OnOk r B
+by_turn (Ok x) a f = f a
+by_turn (Err e) a f = tt
+
+pub by_both : {A B C : Type 0} {T U : Type 0} (r : Result T U) → OnOk r A → OnOk r B → (A → B → C) → OnOk r C
+by_both (Ok x) a b f = f a b
+by_both (Err e) a b f = tt
+
+-- the sizes of devices stay
+size_before : (old new : FlashState) → new.start ≡ old.start → size_of new ≡ size_of old
+size_before old new e = ap (λ (bytes : List ℕ). length bytes) e
+
+pub sizes_before : (accepts : Acceptance) (e : Event) (old new : World) → Turn accepts e old new → HasSizes new → HasSizes old
+sizes_before accepts e old new t h =
+    let m = Turn-moved accepts e old new t in
+    record {
+      bmc = subst (λ (n : ℕ). IsBankSize n) (size_before old.bmc new.bmc m.bmc.start) h.bmc;
+      pch = subst (λ (n : ℕ). IsBankSize n) (size_before old.pch new.pch m.pch.start) h.pch;
+      nv = sym (size_before old.nv new.nv m.nv.start) ∙ h.nv;
+    }

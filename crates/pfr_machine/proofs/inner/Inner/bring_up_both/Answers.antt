@@ -1,0 +1,10 @@
+use Rattle.std.proofs.Common.{refl}
+use Rattle.pfr_flash.specs.declared.names.Bank.TheVariants.{Bmc, Pch}
+use Rattle.pfr_story.specs.Turn.{bank_stretch}
+use Rattle.pfr_machine.proofs.TurnLemmas.{both_brought}
+use Rattle.pfr_machine.proofs.inner.Inner.bring_up_both.Goals as goal
+
+pub returns : goal.returns
+returns g c =
+    let accepts = g.E.Engine.accepts c.args.engine.now in
+    both_brought (bank_stretch accepts Bmc) (bank_stretch accepts Pch) _ _ c.bring_up-2.result refl refl c.in_ok-bring_up.ensures c.bring_up-2.ensures

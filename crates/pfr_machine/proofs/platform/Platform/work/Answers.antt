@@ -1,0 +1,10 @@
+use Rattle.std.proofs.Common.{Option, subst, sym}
+use Rattle.pfr_story.specs.World.{World}
+use Rattle.pfr_machine.specs.Inside.{IsThere}
+use Rattle.pfr_machine.proofs.TurnLemmas.{still_whole}
+use Rattle.pfr_machine.proofs.platform.Platform.work.Goals as goal
+
+pub invariant_of-self : goal.invariant_of-self
+invariant_of-self g c =
+    let whole = subst (λ (o : Option World). IsThere o) (sym c.in-Some.ensures.value) c.self.invariant in
+    still_whole _ _ (record { is = c.in-Ok.ensures.begun; list = c.in-Ok.ensures.list }) _ c.args.event.now _ whole c.turn.ensures.follows c.turn.ensures.leaves

@@ -1,0 +1,13 @@
+use Rattle.std.proofs.Common.{◌∙◌}
+use Rattle.pfr_flash.proofs.RangeLemmas.{length-now}
+use Rattle.pfr_fuses.proofs.StandsLemmas.{fuses_of-stands}
+use Rattle.pfr_machine.proofs.StoreLemmas.{two_by_number, none_to_do}
+use Rattle.pfr_machine.proofs.preparing.migrate_fuses.Goals as goal
+
+pub migrate-requires-clause-stands : goal.migrate-requires-clause-stands
+migrate-requires-clause-stands g c = fuses_of-stands _ _ (length-now (g.F.Flash.device c.args.nv.now) ∙ c.requires.size) c.requires.found
+
+pub returns-else-profile-eq1 : goal.returns-else-profile-eq1
+returns-else-profile-eq1 g c = record {
+  follows = none_to_do _ _ (two_by_number c.args.fuses.now.profile c.args.fuses.now (λ e. c.if-profile-eq1.false (c.profile.ensures ∙ e)));
+}

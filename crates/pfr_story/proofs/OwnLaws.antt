@@ -1,0 +1,81 @@
+-- All that is noted of a bank behind Held, where no call fails, has its cause in the contents then.
+use Rattle.std.proofs.Common.{◌≡◌, refl, sym, subst, List, [], ◌∷◌, ◌++◌, ◌⊎◌, inl, inr, Result, Ok, Err}
+use Rattle.pfr_flash.specs.Bytes.{AreBytes}
+use Rattle.pfr_flash.specs.Operation.{Operation}
+use Rattle.pfr_flash.specs.declared.names.Bank.{Bank}
+use Rattle.pfr_flash.specs.declared.names.Counts.{Counts}
+use Rattle.pfr_engine.specs.Acceptance.{Acceptance}
+use Rattle.pfr_fuses.specs.FusesState.{FusesState}
+use Rattle.pfr_fuses.specs.RootSlot.{layout_of}
+use Rattle.pfr_manifest.specs.declared.manifest.Manifest.{Manifest}
+use Rattle.pfr_capsule.specs.CapsuleState.{CapsuleState}
+use Rattle.pfr_capsule.specs.declared.fail.CapsuleFail.{CapsuleFail}
+use Rattle.pfr_auth.specs.declared.fail.ActiveFail.{ActiveFail}
+use Rattle.pfr_report.specs.Texts.{IsNoted}
+use Rattle.pfr_report.specs.declared.note.LockWhy.{LockWhy}
+use Rattle.pfr_report.specs.declared.note.What.{What}
+use Rattle.pfr_report.specs.declared.note.What.TheVariants as what
+use Rattle.pfr_story.specs.Story.{Story, Says, after, noted, counts_of, device_of, called}
+use Rattle.pfr_story.specs.Plans.{mine, store, ready_of, judged_active, judged_recovery, restore_ops, restored, by_second, checked_again, by_recovery, by_active, by_ready}
+use Rattle.pfr_story.specs.Causes.{IsAgainst, IsRestorable}
+use Rattle.pfr_story.proofs.BringRules.{IsReady, ready_found}
+use Rattle.pfr_story.proofs.SafetyLaws.{AllMake-append, AllMake-called}
+use Rattle.pfr_story.proofs.Facts.{not_trusted, good_recovery}
+use Rattle.pfr_story.proofs.Made.{said, Whichever, AllSay, said_all}
+use Rattle.pfr_story.proofs.TailLaws.{behind, judged_told, tail_restored}
+
+-- ---- what is noted
+module _ (accepts : Acceptance) (b : Bank) (story : Story) where
+  -- the cause of a note of a bank that is held in this story
+  abbrev pub Cause : What → Type 0
+  Cause (what.Held c at) = ⊥
+  Cause (what.Released c svn at) = (at ≡ counts_of story) ⊎ IsNoted (behind accepts b story) (what.Restored b 1)
+  Cause (what.Locked c cause at) = at ≡ counts_of story
+  Cause (what.Untrusted c cause) = IsAgainst cause b (mine b story) (store story) accepts
+  Cause (what.Restored c level) = (level ≡ 1) × IsRestorable b (mine b story) (store story) accepts
+  Cause that = Unit {0}
+
+  abbrev told : ActiveFail → Story
+  told cause = noted (λ _. what.Untrusted b cause) story
+
+  second_caused : (judged : Result Manifest ActiveFail) (there : Story) → IsNoted (behind accepts b story) (what.Restored b 1) → AllSay Cause (by_second b judged there)
+  second_caused (Ok m) there n = ((λ at. inr n), tt)
+  second_caused (Err cause) there n = tt
+
+  restored_caused : (fuses : FusesState) (capsule : CapsuleState) (here : Story) → IsRestorable b (mine b story) (store story) accepts → AllSay Cause (restored b 1 fuses capsule here)
+  restored_caused fuses capsule here h =
+      let ops : List Operation = restore_ops 1 (mine b here) capsule (layout_of fuses.provision b) in
+      AllMake-append Whichever (λ w. (at : Counts) → Cause (w at)) (called (device_of b) ops) (Says (λ _. what.Restored b 1) ∷ [])
+      (AllMake-called Whichever (λ w. (at : Counts) → Cause (w at)) (device_of b) ops tt) ((λ at. (refl, h)), tt)
+
+  module _ (bytes : AreBytes (mine b story)) where
+    recovery_caused : (fuses : FusesState) (cause : ActiveFail) (judged : Result CapsuleState CapsuleFail) → IsReady b fuses story → IsAgainst cause b (mine b story) (store story) accepts
+        → judged_recovery accepts b fuses story ≡ judged → (that : What) → IsNoted (said (by_recovery accepts b fuses cause judged (told cause)) (told cause)) that → Cause that
+    recovery_caused fuses cause (Ok capsule) r a j that n =
+        let h : IsRestorable b (mine b story) (store story) accepts = (not_trusted cause b (mine b story) (store story) accepts a, good_recovery accepts b fuses capsule story r bytes j) in
+        let there : Story = after (restored b 1 fuses capsule (told cause)) (told cause) in
+        said_all Cause (restored b 1 fuses capsule (told cause) ++ checked_again accepts b fuses there) (told cause)
+        (AllMake-append Whichever (λ w. (at : Counts) → Cause (w at)) (restored b 1 fuses capsule (told cause)) (checked_again accepts b fuses there)
+        (restored_caused fuses capsule (told cause) h) (tt, second_caused (judged_active accepts b fuses there) there (tail_restored accepts b story bytes h))) that n
+    recovery_caused fuses cause (Err other) r a j that (inl e) = subst Cause e refl
+    recovery_caused fuses cause (Err other) r a j that (inr none) = absurd none
+
+    active_caused : (fuses : FusesState) (judged : Result Manifest ActiveFail) → IsReady b fuses story → judged_active accepts b fuses story ≡ judged
+        → (that : What) → IsNoted (said (by_active accepts b fuses judged story) story) that → Cause that
+    active_caused fuses (Ok m) r j that (inl e) = subst Cause e (inl refl)
+    active_caused fuses (Ok m) r j that (inr none) = absurd none
+    active_caused fuses (Err cause) r j that n =
+        let against : IsAgainst cause b (mine b story) (store story) accepts = record { fuses = fuses; provisioned = r.provisioned; layout = r.layout; judged = j } in
+        elim n [
+          | inl e ↦ subst Cause e against
+          | inr m ↦ recovery_caused fuses cause (judged_recovery accepts b fuses (told cause)) r against (sym (judged_told accepts b fuses (λ _. what.Untrusted b cause) story)) that m
+        ]
+
+    ready_caused : (ready : Result FusesState LockWhy) → ready_of b story ≡ ready → (that : What) → IsNoted (said (by_ready accepts b ready story) story) that → Cause that
+    ready_caused (Ok fuses) e that n = active_caused fuses (judged_active accepts b fuses story) (ready_found b fuses story e) refl that n
+    ready_caused (Err cause) e that (inl same) = subst Cause same refl
+    ready_caused (Err cause) e that (inr none) = absurd none
+
+    -- Each note behind Held has its cause.
+    pub tail_caused : (that : What) → IsNoted (behind accepts b story) that → Cause that
+    tail_caused that n = ready_caused (ready_of b story) refl that n
