@@ -30,3 +30,4 @@ pub mod EventLaws
 pub mod ProvisionLaws
 pub mod GrowthLaws
 pub mod RunLaws
+pub mod KeepingLaws
