@@ -35,14 +35,14 @@ use Rattle.pfr_report.specs.declared.note.LockWhy.TheVariants as why
 use Rattle.pfr_report.specs.declared.note.What.{What}
 use Rattle.pfr_report.specs.declared.note.What.TheVariants as what
 use Rattle.pfr_story.specs.Story.{Story, Says, Does, Asks, after, noted, operated, counts_of, device_of, then, says, called}
-use Rattle.pfr_story.specs.World.{World, state_at}
+use Rattle.pfr_story.specs.World.{World, story_of, state_at}
 use Rattle.pfr_story.specs.Safety.{Rule, AllSafe, AllMake, Leads}
 use Rattle.pfr_story.specs.Plans.{mine, store, ready_in, ready_of, judged_active, judged_recovery, restore_ops, copied, restored, by_second, checked_again, by_recovery, by_active, by_ready, brought_up}
 use Rattle.pfr_story.specs.Causes.{IsTrustedWith, IsNotTrusted, IsAgainst, IsRestorable, IsDue}
 use Rattle.pfr_story.specs.Turn.{fault_of}
 use Rattle.pfr_story.proofs.SafetyLaws.{Leads-then}
 use Rattle.pfr_story.proofs.CallLaws.{image_noted, image_operated, called_safe, AllMake-append, AllMake-called}
-use Rattle.pfr_story.proofs.Traces.{Precedes, Precedes-refl, Precedes-after}
+use Rattle.pfr_story.proofs.Traces.{Precedes, Precedes-refl, Precedes-move, Precedes-after}
 
 -- What is looked at: the worlds at the two ends, the engine, and where the power is switched off.
 pub record Setting : Type 1 where
@@ -56,9 +56,10 @@ LockFact s why.FlashFault b story = Rose (state_at (device_of b) s.first).faults
 LockFact s why.StoreFault b story = Rose s.first.nv.faults s.last.nv.faults
 LockFact s cause b story = AreBytes (mine b story) → IsDue cause b (mine b story) (store story) s.accepts
 
--- a moment before at which the bank was to be restored
+-- a moment before, behind the first, at which the bank was to be restored
 pub record WasRestorable (s : Setting) (b : Bank) (story : Story) : Type 0 where
   pub at : Story
+  pub since : Precedes (story_of s.first) at
   pub before : Precedes at story
   pub was : AreBytes (mine b at) → IsRestorable b (mine b at) (store at) s.accepts
 
@@ -112,7 +113,7 @@ ready_called : (b : Bank) (fuses : FusesState) (ops : List Operation) (story : S
 ready_called b fuses [] story r = r
 ready_called b fuses (op ∷ ops) story r = ready_called b fuses ops (operated (device_of b) op story) (ready_operated b fuses op story r)
 
-not_trusted : (cause : ActiveFail) (b : Bank) (image nv : List ℕ) (accepts : Acceptance) → IsAgainst cause b image nv accepts → IsNotTrusted b image nv accepts
+pub not_trusted : (cause : ActiveFail) (b : Bank) (image nv : List ℕ) (accepts : Acceptance) → IsAgainst cause b image nv accepts → IsNotTrusted b image nv accepts
 not_trusted cause b image nv accepts a = record {
   fuses = a.fuses;
   provisioned = a.provisioned;
@@ -120,17 +121,17 @@ not_trusted cause b image nv accepts a = record {
   distrusted = λ t. absurd (let e = trusted_found image nv b accepts a.fuses (stands_whole nv a.fuses b a.provisioned) t in let j = a.judged in cc);
 }
 
-module _ (s : Setting) (b : Bank) where
-  good_recovery : (fuses : FusesState) (capsule : CapsuleState) (story : Story) → IsReady b fuses story → AreBytes (mine b story) → judged_recovery s.accepts b fuses story ≡ Ok capsule → HasGoodRecovery b (mine b story) (store story) s.accepts
-  good_recovery fuses capsule story r bytes j =
-      let stands : StandForBank (store story) fuses b = record { all = fuses; provisioned = r.provisioned; provision = refl; floor = refl; capsule_row = refl; manifest_row = refl } in
-      let layout : Layout = layout_of fuses.provision b in
-      record {
-        fuses = fuses;
-        provisioned = r.provisioned;
-        good = (judged_good (mine b story) (store story) layout.recovery_at layout.area_len b s.accepts fuses capsule stands r.layout bytes j).0;
-      }
+pub good_recovery : (accepts : Acceptance) (b : Bank) (fuses : FusesState) (capsule : CapsuleState) (story : Story) → IsReady b fuses story → AreBytes (mine b story) → judged_recovery accepts b fuses story ≡ Ok capsule → HasGoodRecovery b (mine b story) (store story) accepts
+good_recovery accepts b fuses capsule story r bytes j =
+    let stands : StandForBank (store story) fuses b = record { all = fuses; provisioned = r.provisioned; provision = refl; floor = refl; capsule_row = refl; manifest_row = refl } in
+    let layout : Layout = layout_of fuses.provision b in
+    record {
+      fuses = fuses;
+      provisioned = r.provisioned;
+      good = (judged_good (mine b story) (store story) layout.recovery_at layout.area_len b accepts fuses capsule stands r.layout bytes j).0;
+    }
 
+module _ (s : Setting) (b : Bank) where
   -- what is released by a check is trusted
   trusted_with : (fuses : FusesState) (m : Manifest) (story : Story) → IsReady b fuses story → judged_active s.accepts b fuses story ≡ Ok m
       → AreBytes (mine b story) → IsTrustedWith m.svn (mine b story) (store story) b s.accepts
@@ -150,7 +151,7 @@ module _ (s : Setting) (b : Bank) where
   CanRestore fuses story = IsReady b fuses story × WasRestorable s b story
 
   was_later : (fuses : FusesState) (ops : List Operation) (story : Story) → WasRestorable s b story → WasRestorable s b (after (called (device_of b) ops) story)
-  was_later fuses ops story p = record { at = p.at; before = Precedes-after p.at story (called (device_of b) ops) p.before; was = p.was }
+  was_later fuses ops story p = record { at = p.at; since = p.since; before = Precedes-after p.at story (called (device_of b) ops) p.before; was = p.was }
 
   -- it is restored, and checked again
   copied_true : (fuses : FusesState) (capsule : CapsuleState) → Leads (IsTrue s) (CanRestore fuses) (copied b 1 fuses capsule) (CanRestore fuses)
@@ -173,31 +174,32 @@ module _ (s : Setting) (b : Bank) where
       (Leads-then (IsTrue s) (CanRestore fuses) (CanRestore fuses) (IsReady b fuses) (copied b 1 fuses capsule) (says (λ _. what.Restored b 1)) (copied_true fuses capsule) (told_true fuses))
       (again_true fuses)
 
-  recovery_true : (cause : ActiveFail) (fuses : FusesState) (judged : Result CapsuleState CapsuleFail) (story : Story) → IsReady b fuses story
+  recovery_true : (cause : ActiveFail) (fuses : FusesState) (judged : Result CapsuleState CapsuleFail) (story : Story) → Precedes (story_of s.first) story → IsReady b fuses story
       → IsAgainst cause b (mine b story) (store story) s.accepts → judged_recovery s.accepts b fuses story ≡ judged → AllSafe (IsTrue s) (by_recovery s.accepts b fuses cause judged story) story
-  recovery_true cause fuses (Ok capsule) story r a j =
+  recovery_true cause fuses (Ok capsule) story since r a j =
       let here : WasRestorable s b story = record {
         at = story;
+        since = since;
         before = Precedes-refl story;
-        was = λ bytes. (not_trusted cause b (mine b story) (store story) s.accepts a, good_recovery fuses capsule story r bytes j);
+        was = λ bytes. (not_trusted cause b (mine b story) (store story) s.accepts a, good_recovery s.accepts b fuses capsule story r bytes j);
       } in
       (restored_true fuses capsule).safe story (r, here)
-  recovery_true cause fuses (Err other) story r a j = ((refl, λ bytes. (a, record { fuses = fuses; provisioned = r.provisioned; judged = j })), tt)
+  recovery_true cause fuses (Err other) story since r a j = ((refl, λ bytes. (a, record { fuses = fuses; provisioned = r.provisioned; judged = j })), tt)
 
-  active_true : (fuses : FusesState) (judged : Result Manifest ActiveFail) (story : Story) → IsReady b fuses story → judged_active s.accepts b fuses story ≡ judged
+  active_true : (fuses : FusesState) (judged : Result Manifest ActiveFail) (story : Story) → Precedes (story_of s.first) story → IsReady b fuses story → judged_active s.accepts b fuses story ≡ judged
       → AllSafe (IsTrue s) (by_active s.accepts b fuses judged story) story
-  active_true fuses (Ok m) story r j = ((refl, trusted_with fuses m story r j), tt)
-  active_true fuses (Err cause) story r j =
+  active_true fuses (Ok m) story since r j = ((refl, trusted_with fuses m story r j), tt)
+  active_true fuses (Err cause) story since r j =
       let against : IsAgainst cause b (mine b story) (store story) s.accepts = record { fuses = fuses; provisioned = r.provisioned; layout = r.layout; judged = j } in
       let told : Story = noted (λ _. what.Untrusted b cause) story in
       let here : IsAgainst cause b (mine b told) (store told) s.accepts =
       subst (λ (image : List ℕ). IsAgainst cause b image (store story) s.accepts) (sym (image_noted (device_of b) (λ _. what.Untrusted b cause) story)) against in
-      (against, (tt, recovery_true cause fuses (judged_recovery s.accepts b fuses told) told (ready_noted b fuses (λ _. what.Untrusted b cause) story r) here refl))
+      (against, (tt, recovery_true cause fuses (judged_recovery s.accepts b fuses told) told (Precedes-move (story_of s.first) story (Says (λ _. what.Untrusted b cause)) since) (ready_noted b fuses (λ _. what.Untrusted b cause) story r) here refl))
 
-  layout_true : (fuses : FusesState) (judged : Result (Unit {0}) LayoutRule) (story : Story) → fuses_of (store story) ≡ Ok fuses
+  layout_true : (fuses : FusesState) (judged : Result (Unit {0}) LayoutRule) (story : Story) → Precedes (story_of s.first) story → fuses_of (store story) ≡ Ok fuses
       → judge_layout (layout_of fuses.provision b) (length (mine b story)) ≡ judged → AllSafe (IsTrue s) (by_ready s.accepts b (told_as (λ rule. why.Layout rule) judged >> Ok fuses) story) story
-  layout_true fuses (Ok valid) story f l = (tt, active_true fuses (judged_active s.accepts b fuses story) story (record { provisioned = f; layout = judged_valid _ _ l }) refl)
-  layout_true fuses (Err rule) story f l = ((refl, λ bytes. record { fuses = fuses; provisioned = f; broken = l }), tt)
+  layout_true fuses (Ok valid) story since f l = (tt, active_true fuses (judged_active s.accepts b fuses story) story since (record { provisioned = f; layout = judged_valid _ _ l }) refl)
+  layout_true fuses (Err rule) story since f l = ((refl, λ bytes. record { fuses = fuses; provisioned = f; broken = l }), tt)
 
   unset_true : (cause : FuseFail) (story : Story) → IsUnset (store story) × (((cause ≡ fuse.NotProvisioned) × HasBlank (store story)) ⊎ ((cause ≡ fuse.SlotsSpent) × ¬ HasBlank (store story)))
       → AllSafe (IsTrue s) (by_ready s.accepts b (ready_in b (length (mine b story)) (Err cause)) story) story
@@ -206,13 +208,13 @@ module _ (s : Setting) (b : Bank) where
   unset_true cause story (u, inr full) =
       subst (λ (c : FuseFail). AllSafe (IsTrue s) (by_ready s.accepts b (ready_in b (length (mine b story)) (Err c)) story) story) (sym full.0) ((refl, λ bytes. (u, full.1)), tt)
 
-  ready_true : (read : Result FusesState FuseFail) (story : Story) → fuses_of (store story) ≡ read
+  ready_true : (read : Result FusesState FuseFail) (story : Story) → Precedes (story_of s.first) story → fuses_of (store story) ≡ read
       → AllSafe (IsTrue s) (by_ready s.accepts b (ready_in b (length (mine b story)) read) story) story
-  ready_true (Ok fuses) story f = layout_true fuses (judge_layout (layout_of fuses.provision b) (length (mine b story))) story f refl
-  ready_true (Err cause) story f = unset_true cause story (fuses_of-err (store story) cause f)
+  ready_true (Ok fuses) story since f = layout_true fuses (judge_layout (layout_of fuses.provision b) (length (mine b story))) story since f refl
+  ready_true (Err cause) story since f = unset_true cause story (fuses_of-err (store story) cause f)
 
-  pub brought_true : (story : Story) → AllSafe (IsTrue s) (brought_up s.accepts b story) story
-  brought_true story = let held : Story = noted (what.Held b) story in (refl, (tt, ready_true (fuses_of (store held)) held refl))
+  pub brought_true : (story : Story) → Precedes (story_of s.first) story → AllSafe (IsTrue s) (brought_up s.accepts b story) story
+  brought_true story since = let held : Story = noted (what.Held b) story in (refl, (tt, ready_true (fuses_of (store held)) held (Precedes-move (story_of s.first) story (Says (what.Held b)) since) refl))
 
 -- ---- and calls its device and the store alone, and notes no loss
 abbrev pub IsOwn : Bank → Device → Type 0

@@ -15,12 +15,14 @@ pub mod Noting
 pub mod FaultLaws
 pub mod LossLaws
 pub mod TailLaws
+pub mod OwnLaws
 pub mod BringLaws
 pub mod RecoverableLaws
 pub mod Bytes
 pub mod SpanLaws
 pub mod SpanSteps
 pub mod MomentLaws
+pub mod RiseLaws
 pub mod KeepLaws
 pub mod RecoveryLaws
 pub mod StepRules

@@ -14,12 +14,12 @@ use Rattle.pfr_story.specs.Story.{Story, counts_of, device_of}
 use Rattle.pfr_story.specs.World.{World, story_of, state_at}
 use Rattle.pfr_story.specs.Plans.{mine, store}
 use Rattle.pfr_story.specs.Causes.{IsTrustedWith, IsAgainst, IsRestorable, IsDue}
-use Rattle.pfr_story.specs.Turn.{Turn}
+use Rattle.pfr_story.specs.Turn.{begun, Turn}
 use Rattle.pfr_story.specs.Promises.{count_at, AtCounts, ReleasesTrusted, IsFaultLock, FaultsHaveCauses, LocksHaveCauses, DistrustsWithCause, RestoresGood}
-use Rattle.pfr_story.proofs.Traces.{Precedes, Precedes-trans, upto_begins}
+use Rattle.pfr_story.proofs.Traces.{Precedes, Precedes-trans, not_before, upto_begins}
 use Rattle.pfr_story.proofs.Bytes.{HaveBytes, images_then}
 use Rattle.pfr_story.proofs.Facts.{Setting, LockFact}
-use Rattle.pfr_story.proofs.Turns.{step_of, Turn-known}
+use Rattle.pfr_story.proofs.Turns.{step_of, Turn-known, Turn-since}
 
 -- ---- what was held at a moment, by the counts then
 bank_then : (which : Bank) (at : Story) (new : World) → Precedes at (story_of new) → upto (state_at (device_of which) new) (count_at which (counts_of at)) ≡ mine which at
@@ -53,8 +53,8 @@ module _ (accepts : Acceptance) (e : Event) (old new : World) (t : Turn accepts 
   pub Turn-distrusts : DistrustsWithCause accepts old new
   unfolding step_of
   Turn-distrusts which cause n =
-      let k = Turn-known accepts e old new t (what.Untrusted which cause) n in
-      (counts_of k.0, at_moment (λ image nv. IsAgainst cause which image nv accepts) which k.0 (counts_of k.0) new refl k.2 k.1)
+      let k = Turn-since accepts e old new t (what.Untrusted which cause) n in
+      (counts_of k.0, record { behind = not_before (story_of (begun old)) k.0 k.1.1; before = not_before k.0 (story_of new) k.2 }, at_moment (λ image nv. IsAgainst cause which image nv accepts) which k.0 (counts_of k.0) new refl k.2 k.1.0)
 
   -- A bank is released only where it was trusted.
   pub Turn-releases : HaveBytes new → ReleasesTrusted accepts old new
@@ -78,4 +78,4 @@ module _ (accepts : Acceptance) (e : Event) (old new : World) (t : Turn accepts 
       let k = Turn-known accepts e old new t (what.Restored which level) n in
       let r = k.1.1 in
       let before : Precedes r.at (story_of new) = Precedes-trans r.at k.0 (story_of new) r.before k.2 in
-      (k.1.0, (counts_of r.at, at_moment (λ image nv. IsRestorable which image nv accepts) which r.at (counts_of r.at) new refl before (r.was (images_then r.at new before held (device_of which)))))
+      (k.1.0, (counts_of r.at, record { behind = not_before (story_of old) r.at r.since; before = not_before r.at (story_of new) before }, at_moment (λ image nv. IsRestorable which image nv accepts) which r.at (counts_of r.at) new refl before (r.was (images_then r.at new before held (device_of which)))))

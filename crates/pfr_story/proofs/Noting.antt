@@ -82,7 +82,7 @@ never_noted P old new w that n = w.all that (subst (λ (notes : List Note). IsNo
 
 -- ---- notes that were made between
 module _ (P Q : What → Type 0) (old a b new : World) (notes : List Note) (front : Wrote P old a) (is : b.notes.list ≡ a.notes.list ++ notes) (back : Wrote Q b new) where
-  added_is : added old new ≡ front.more ++ (notes ++ back.more)
+  pub added_is : added old new ≡ front.more ++ (notes ++ back.more)
   added_is =
       let whole : new.notes.list ≡ old.notes.list ++ (front.more ++ (notes ++ back.more)) =
       back.is ∙ ap (λ (xs : List Note). xs ++ back.more) (is ∙ ap (λ (xs : List Note). xs ++ notes) front.is)

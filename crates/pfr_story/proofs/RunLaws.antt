@@ -191,7 +191,15 @@ fact_later accepts e old new first last before behind (what.Locked b (why.NoGood
 fact_later accepts e old new first last before behind (what.Lost (Some which) counts) at f = (f.0, omega (arith, before.losses which, behind.losses which, f.1))
 fact_later accepts e old new first last before behind (what.Lost None counts) at f = (f.0, tt)
 fact_later accepts e old new first last before behind (what.Untrusted b cause) at f = f
-fact_later accepts e old new first last before behind (what.Restored b level) at f = (f.0, record { at = f.1.at; before = f.1.before; was = f.1.was })
+fact_later accepts e old new first last before behind (what.Restored b level) at f = (
+  f.0,
+  record {
+    at = f.1.at;
+    since = Precedes-trans (story_of first) (story_of old) f.1.at before.precedes f.1.since;
+    before = f.1.before;
+    was = f.1.was;
+  },
+)
 fact_later accepts e old new first last before behind _ at f = tt
 
 pub record IsSafe (accepts : Acceptance) (first last : World) (story : Story) : Type 0 where

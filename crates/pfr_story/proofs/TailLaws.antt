@@ -39,17 +39,24 @@ use Rattle.pfr_story.specs.Story.{Story, Move, Says, after, noted, counts_of, pa
 use Rattle.pfr_story.specs.Plans.{mine, store, ready_of, judged_active, judged_recovery, restore_ops, restored, by_second, checked_again, by_recovery, by_active, by_ready, brought_up}
 use Rattle.pfr_story.specs.Promises.{count_at}
 use Rattle.pfr_story.specs.Causes.{IsNotTrusted, IsAgainst, IsDue, IsRestorable}
-use Rattle.pfr_story.specs.Bringing.{ReleasedSoon}
 use Rattle.pfr_story.proofs.Sequence.{after-append}
 use Rattle.pfr_story.proofs.CallLaws.{image_noted, AllMake-append, AllMake-called}
 use Rattle.pfr_story.proofs.Made.{said}
-use Rattle.pfr_story.proofs.Noting.{noted_first, noted_next, Whichever, AllSay, said_all}
+use Rattle.pfr_story.proofs.Noting.{noted_first, noted_next, Whichever, AllSay}
 use Rattle.pfr_story.proofs.RestoreLaws.{called_after, RestoresFrom, restored_judged}
 
 -- ---- what is noted behind Held
 count_is : (b : Bank) (story : Story) → count_at b (counts_of story) ≡ length (past_at (device_of b) story).ops
 count_is bank.Bmc story = refl
 count_is bank.Pch story = refl
+
+-- it is noted to be released, after at most so many operations of its device
+pub record ReleasesSoon (b : Bank) (at : Counts) (most : ℕ) (notes : List Note) : Type 0 where
+  pub svn : ℕ
+  pub then : Counts
+  pub noted : IsNoted notes (what.Released b svn then)
+  pub forth : count_at b at ≤ count_at b then
+  pub few : count_at b then ≤ count_at b at + most
 
 module _ (accepts : Acceptance) (b : Bank) where
   -- what is noted behind Held
@@ -89,7 +96,7 @@ module _ (accepts : Acceptance) (b : Bank) where
       by_check a.fuses story (Err cause) a.provisioned a.layout a.judged
       ∙ ap (λ (r : Result CapsuleState CapsuleFail). distrusted a.fuses cause r story) j
 
-  judged_told : (fuses : FusesState) (w : Counts → What) (story : Story) → judged_recovery accepts b fuses (noted w story) ≡ judged_recovery accepts b fuses story
+  pub judged_told : (fuses : FusesState) (w : Counts → What) (story : Story) → judged_recovery accepts b fuses (noted w story) ≡ judged_recovery accepts b fuses story
   judged_told fuses w story = ap (λ (image : List ℕ). judge_area Recovery b image fuses accepts) (image_noted (device_of b) w story)
 
   -- its cause is named
@@ -171,7 +178,7 @@ module _ (accepts : Acceptance) (b : Bank) where
       omega (arith, strokes, active_few (ActiveFromRecovery 1) image capsule layout)
 
   good_releases : (story : Story) (g : HasGoodRecovery b (mine b story) (store story) accepts) (checked : Result Manifest ActiveFail) → judged_active accepts b g.fuses story ≡ checked
-      → AreBytes (mine b story) → IsBankSize (length (mine b story)) → ReleasedSoon b (counts_of story) (34 * (length (mine b story) / 4096)) (behind story)
+      → AreBytes (mine b story) → IsBankSize (length (mine b story)) → ReleasesSoon b (counts_of story) (34 * (length (mine b story) / 4096)) (behind story)
   good_releases story g (Ok m) j bytes size = record {
     svn = m.svn;
     then = counts_of story;
@@ -207,57 +214,54 @@ module _ (accepts : Acceptance) (b : Bank) where
 
   -- A bank with a good recovery area ends released.
   pub tail_releases : (story : Story) → HasGoodRecovery b (mine b story) (store story) accepts → AreBytes (mine b story) → IsBankSize (length (mine b story))
-      → ReleasedSoon b (counts_of story) (34 * (length (mine b story) / 4096)) (behind story)
+      → ReleasesSoon b (counts_of story) (34 * (length (mine b story) / 4096)) (behind story)
   tail_releases story g bytes size = good_releases story g (judged_active accepts b g.fuses story) refl bytes size
 
--- ---- a bank is noted to be held once
-abbrev pub IsHeldOf : Bank → What → Type 0
-IsHeldOf which (what.Held b at) = b ≡ which
-IsHeldOf which that = ⊥
+-- ---- what is noted of the other bank
+-- it is noted of this bank
+abbrev pub IsOf : Bank → What → Type 0
+IsOf which (what.Held b at) = b ≡ which
+IsOf which (what.Released b svn at) = b ≡ which
+IsOf which (what.Locked b cause at) = b ≡ which
+IsOf which (what.Untrusted b cause) = b ≡ which
+IsOf which (what.Restored b level) = b ≡ which
+IsOf which that = ⊥
 
-abbrev pub HoldsNot : Bank → What → Type 0
-HoldsNot which that = ¬ IsHeldOf which that
+abbrev pub Apart : Bank → What → Type 0
+Apart which that = ¬ IsOf which that
 
--- none of these moves notes that this bank is held
-abbrev pub NoneHolds : Bank → List Move → Type 0
-NoneHolds which moves = AllSay (HoldsNot which) moves
+-- none of these moves notes anything of this bank
+abbrev pub NoneOf : Bank → List Move → Type 0
+NoneOf which moves = AllSay (Apart which) moves
 
-module _ (accepts : Acceptance) (which b : Bank) where
+module _ (accepts : Acceptance) (which b : Bank) (other : ¬ (b ≡ which)) where
   abbrev Never : (Counts → What) → Type 0
-  Never w = (at : Counts) → HoldsNot which (w at)
+  Never w = (at : Counts) → Apart which (w at)
 
-  second_holds : (judged : Result Manifest ActiveFail) (story : Story) → NoneHolds which (by_second b judged story)
-  second_holds (Ok m) story = ((λ at h. h), tt)
-  second_holds (Err cause) story = tt
+  second_apart : (judged : Result Manifest ActiveFail) (story : Story) → NoneOf which (by_second b judged story)
+  second_apart (Ok m) story = ((λ at e. other e), tt)
+  second_apart (Err cause) story = tt
 
-  restored_holds : (fuses : FusesState) (capsule : CapsuleState) (story : Story) → NoneHolds which (restored b 1 fuses capsule story)
-  restored_holds fuses capsule story =
+  restored_apart : (fuses : FusesState) (capsule : CapsuleState) (story : Story) → NoneOf which (restored b 1 fuses capsule story)
+  restored_apart fuses capsule story =
       let ops : List Operation = restore_ops 1 (mine b story) capsule (layout_of fuses.provision b) in
-      AllMake-append Whichever Never (called (device_of b) ops) (Says (λ _. what.Restored b 1) ∷ []) (AllMake-called Whichever Never (device_of b) ops tt) ((λ at h. h), tt)
+      AllMake-append Whichever Never (called (device_of b) ops) (Says (λ _. what.Restored b 1) ∷ []) (AllMake-called Whichever Never (device_of b) ops tt) ((λ at e. other e), tt)
 
-  recovery_holds : (fuses : FusesState) (cause : ActiveFail) (judged : Result CapsuleState CapsuleFail) (story : Story) → NoneHolds which (by_recovery accepts b fuses cause judged story)
-  recovery_holds fuses cause (Ok capsule) story =
+  recovery_apart : (fuses : FusesState) (cause : ActiveFail) (judged : Result CapsuleState CapsuleFail) (story : Story) → NoneOf which (by_recovery accepts b fuses cause judged story)
+  recovery_apart fuses cause (Ok capsule) story =
       let end : Story = after (restored b 1 fuses capsule story) story in
-      AllMake-append Whichever Never (restored b 1 fuses capsule story) (checked_again accepts b fuses end) (restored_holds fuses capsule story) (tt, second_holds (judged_active accepts b fuses end) end)
-  recovery_holds fuses cause (Err other) story = ((λ at h. h), tt)
+      AllMake-append Whichever Never (restored b 1 fuses capsule story) (checked_again accepts b fuses end) (restored_apart fuses capsule story) (tt, second_apart (judged_active accepts b fuses end) end)
+  recovery_apart fuses cause (Err cause_of) story = ((λ at e. other e), tt)
 
-  active_holds : (fuses : FusesState) (judged : Result Manifest ActiveFail) (story : Story) → NoneHolds which (by_active accepts b fuses judged story)
-  active_holds fuses (Ok m) story = ((λ at h. h), tt)
-  active_holds fuses (Err cause) story =
+  active_apart : (fuses : FusesState) (judged : Result Manifest ActiveFail) (story : Story) → NoneOf which (by_active accepts b fuses judged story)
+  active_apart fuses (Ok m) story = ((λ at e. other e), tt)
+  active_apart fuses (Err cause) story =
       let told : Story = noted (λ _. what.Untrusted b cause) story in
-      ((λ at h. h), (tt, recovery_holds fuses cause (judged_recovery accepts b fuses told) told))
+      ((λ at e. other e), (tt, recovery_apart fuses cause (judged_recovery accepts b fuses told) told))
 
-  pub ready_holds : (ready : Result FusesState LockWhy) (story : Story) → NoneHolds which (by_ready accepts b ready story)
-  ready_holds (Ok fuses) story = (tt, active_holds fuses (judged_active accepts b fuses story) story)
-  ready_holds (Err cause) story = ((λ at h. h), tt)
+  ready_apart : (ready : Result FusesState LockWhy) (story : Story) → NoneOf which (by_ready accepts b ready story)
+  ready_apart (Ok fuses) story = (tt, active_apart fuses (judged_active accepts b fuses story) story)
+  ready_apart (Err cause) story = ((λ at e. other e), tt)
 
-  -- the other bank's part
-  pub brought_holds : ¬ (b ≡ which) → (story : Story) → NoneHolds which (brought_up accepts b story)
-  brought_holds apart story = ((λ at e. apart e), (tt, ready_holds (ready_of b (noted (what.Held b) story)) (noted (what.Held b) story)))
-
--- the own part
-pub brought_once : (accepts : Acceptance) (b : Bank) (story : Story) (at : Counts) → IsNoted (said (brought_up accepts b story) story) (what.Held b at) → at ≡ counts_of story
-brought_once accepts b story at (inl e) = cc
-brought_once accepts b story at (inr n) =
-    let held : Story = noted (what.Held b) story in
-    absurd (said_all (HoldsNot b) (by_ready accepts b (ready_of b held) held) held (ready_holds accepts b b (ready_of b held) held) (what.Held b at) n refl)
+  pub brought_apart : (story : Story) → NoneOf which (brought_up accepts b story)
+  brought_apart story = ((λ at e. other e), (tt, ready_apart (ready_of b (noted (what.Held b) story)) (noted (what.Held b) story)))

@@ -1,5 +1,5 @@
 -- The world moved by good moves.
-use Rattle.std.proofs.Common.{◌≡◌, ◌∙◌, refl, sym, ap, subst, arith, ℕ, List, [], ◌∷◌, ◌++◌, length, take, drop, append_assoc, ◌⊎◌, inl, inr}
+use Rattle.std.proofs.Common.{◌≡◌, ◌∙◌, refl, sym, ap, subst, arith, ℕ, ◌≤◌, List, [], ◌∷◌, ◌++◌, length, length-append, take, drop, append_assoc, ◌⊎◌, inl, inr}
 use Rattle.std.proofs.lemmas.List.{append-nil, take_all, take-append-le}
 use Rattle.std.proofs.lemmas.List.Elements.{All-take}
 use Rattle.std.proofs.Math.Seq.{drop-append_seam}
@@ -19,7 +19,8 @@ use Rattle.pfr_report.specs.declared.note.What.{What}
 use Rattle.pfr_story.specs.Story.{Past, Story, Move, Says, Does, Asks, after, moved_by, noted, with_op, counts_of, image_at, image_of}
 use Rattle.pfr_story.specs.World.{World, past_of, story_of, AllMoved, AreDevices, added}
 use Rattle.pfr_story.specs.Goes.{Ran, Stopped}
-use Rattle.pfr_story.specs.Safety.{Rule, AllGood, AllSafe, Keeps}
+use Rattle.pfr_story.specs.Safety.{Rule, AllGood, AllSafe, Keeps, Both}
+use Rattle.pfr_story.specs.Promises.{NotBefore}
 use Rattle.pfr_story.proofs.WorldLaws.{AllMoved-trans}
 use Rattle.pfr_story.proofs.Sequence.{after-append}
 use Rattle.pfr_story.proofs.CallLaws.{notes_operated}
@@ -98,6 +99,13 @@ begins_trans a b c p q = record {
 
 pub Precedes-trans : (a b c : Story) → Precedes a b → Precedes b c → Precedes a c
 Precedes-trans a b c p q = record { bmc = begins_trans a.bmc b.bmc c.bmc p.bmc q.bmc; pch = begins_trans a.pch b.pch c.pch p.pch q.pch; nv = begins_trans a.nv b.nv c.nv p.nv q.nv }
+
+-- so no device had done fewer operations then
+begins_fewer : (a b : Past) → Begins a b → length a.ops ≤ length b.ops
+begins_fewer a b p = omega (arith, ap (λ (ops : List Operation). length ops) p.ops, length-append a.ops p.more)
+
+pub not_before : (a b : Story) → Precedes a b → NotBefore (counts_of a) (counts_of b)
+not_before a b p = record { bmc = begins_fewer a.bmc b.bmc p.bmc; pch = begins_fewer a.pch b.pch p.pch; nv = begins_fewer a.nv b.nv p.nv }
 
 -- what a device held at a moment, by its count then
 pub upto_begins : (a b : Past) → Begins a b → play_first (length a.ops) b.start b.ops ≡ image_of a
@@ -182,3 +190,24 @@ Traced-known G F tells old new traced that n =
     let k = Traced-keeps G (Known F old.notes.list) (known_moves G F tells old.notes.list) old new traced none in
     let e : added old new ≡ k.more = ap (λ (notes : List Note). drop (length old.notes.list) notes) k.is ∙ drop-append_seam old.notes.list k.more in
     k.all that (subst (λ (notes : List Note). IsNoted notes that) e n)
+
+-- ---- behind the first moment
+-- this story precedes each that a move is made of
+abbrev pub Since : Story → Rule
+Since first move story = Precedes first story
+
+good_since : (G : Rule) (first : Story) (trace : List Move) (story : Story) → Precedes first story → AllGood G trace story → AllGood (Both G (Since first)) trace story
+good_since G first [] story p good = tt
+good_since G first (move ∷ trace) story p good = ((good.0, p), good_since G first trace (moved_by move story) (Precedes-move first story move p) good.1)
+
+-- And it was true at a moment behind the first.
+pub Traced-since : (G : Rule) (F : What → Story → Type 0) → Tells G F → (old new : World) → Traced G old new → (that : What) → IsNoted (added old new) that
+    → KnownBefore (λ note at. F note at × Precedes (story_of old) at) that (story_of new)
+Traced-since G F tells old new traced that n =
+    let since : Traced (Both G (Since (story_of old))) old new = record {
+      trace = traced.trace;
+      is = traced.is;
+      good = good_since G (story_of old) traced.trace (story_of old) (Precedes-refl (story_of old)) traced.good;
+      moved = traced.moved;
+    } in
+    Traced-known (Both G (Since (story_of old))) (λ note at. F note at × Precedes (story_of old) at) (λ w story g. (tells w story g.0, g.1)) old new since that n

@@ -15,19 +15,19 @@ use Rattle.pfr_script.specs.declared.event.Event.TheVariants as event
 use Rattle.pfr_report.specs.Texts.{IsNoted}
 use Rattle.pfr_report.specs.declared.note.What.{What}
 use Rattle.pfr_report.specs.declared.note.What.TheVariants as what
-use Rattle.pfr_story.specs.Story.{Story, Says, called, after}
+use Rattle.pfr_story.specs.Story.{Story, Move, Says, called, after}
 use Rattle.pfr_story.specs.World.{World, story_of, state_at, AllMoved, NoneLost, NoneRose, added}
 use Rattle.pfr_story.specs.Safety.{AllGood, AllSafe, AllMake}
 use Rattle.pfr_story.specs.Course.{Stretch, Course, Follows, Calm}
 use Rattle.pfr_story.specs.Standing.{standing_of, is_off}
-use Rattle.pfr_story.specs.Plans.{store, migrated, provisioned, provisioned_in, migration_in}
-use Rattle.pfr_story.specs.Turn.{bank_stretch, fuse_stretch, provision_stretch, where_off, ignored, power_course, off_course, provision_course, course, begun, Turn}
+use Rattle.pfr_story.specs.Plans.{store, brought_up, migrated, provisioned, provisioned_in, migration_in}
+use Rattle.pfr_story.specs.Turn.{fault_of, unreadable, bank_stretch, fuse_stretch, provision_stretch, where_off, ignored, power_course, off_course, provision_course, course, begun, Turn}
 use Rattle.pfr_story.specs.Promises.{IsSwitchedOff}
 use Rattle.pfr_story.proofs.WorldLaws.{AllMoved-refl, AllMoved-trans}
 use Rattle.pfr_story.proofs.SafetyLaws.{AllSafe-append}
 use Rattle.pfr_story.proofs.CallLaws.{AllMake-append, AllMake-called, cut_makes}
 use Rattle.pfr_story.proofs.Courses.{Steps-moved, Follows-calm}
-use Rattle.pfr_story.proofs.Traces.{Traced, Traced-known, KnownBefore}
+use Rattle.pfr_story.proofs.Traces.{Traced, Traced-known, Traced-since, KnownBefore, Precedes, Precedes-after}
 use Rattle.pfr_story.proofs.StepTraces.{Between, AllowsLosses, IsGoodStretch, AreGood, AreGood-none, AreGood-next, Follows-good}
 use Rattle.pfr_story.proofs.Facts.{Setting, Fact, IsTrue, call_true, brought_true, IsOwn, IsNoLoss, brought_makes, lock_true}
 
@@ -63,14 +63,24 @@ pub provisioned_makes : (root : RootSlot) (story : Story) → AllMake IsStore Is
 provisioned_makes root story = (refl, tried_makes root (judge_provision (store story) root (length story.bmc.start) (length story.pch.start)) story)
 
 module _ (s : Setting) where
+  -- the first moment precedes it
+  abbrev IsBehind : Story → Type 0
+  IsBehind story = Precedes (story_of s.first) story
+
   abbrev pub IsTrueStretch : Stretch → Type 0
-  IsTrueStretch stretch = IsGoodStretch (IsTrue s) s.first s.last Any Any stretch Any
+  IsTrueStretch stretch = IsGoodStretch (IsTrue s) s.first s.last Any IsBehind stretch IsBehind
+
+  behind_moves : (moves more : List Move) (story : Story) → IsBehind story → IsBehind (after more (after moves story))
+  behind_moves moves more story p = Precedes-after (story_of s.first) (after moves story) more (Precedes-after (story_of s.first) story moves p)
 
   bank_true : (b : Bank) → IsTrueStretch (bank_stretch s.accepts b)
   bank_true b = record {
-    plan = record { safe = λ story p. brought_true s b story; ends = λ story p. tt };
+    plan = record {
+      safe = λ story p. brought_true s b story p.1;
+      ends = λ story p. Precedes-after (story_of s.first) story (brought_up s.accepts b story) p.1;
+    };
     noted = λ which story trace p cut rose. ((refl, lock_true s b which (after trace story) (cut_makes (IsOwn b) IsNoLoss which _ trace story (brought_makes s.accepts b story) cut).0 rose), tt);
-    on = λ which story trace p cut e. tt;
+    on = λ which story trace p cut e. behind_moves trace (Says (what.Locked b (fault_of which)) ∷ []) story p.1;
   }
 
   store_rose : (which : Device) → IsStore which → Rose (state_at which s.first).faults (state_at which s.last).faults → Rose s.first.nv.faults s.last.nv.faults
@@ -78,11 +88,14 @@ module _ (s : Setting) where
 
   fuse_true : IsTrueStretch fuse_stretch
   fuse_true = record {
-    plan = record { safe = λ story p. (tt, call_true s device.Nv (migration_in (fuses_of (store story))) story); ends = λ story p. tt };
+    plan = record {
+      safe = λ story p. (tt, call_true s device.Nv (migration_in (fuses_of (store story))) story);
+      ends = λ story p. Precedes-after (story_of s.first) story (migrated story) p.1;
+    };
     noted = λ which story trace p cut rose.
         let nv = store_rose which (cut_makes IsStore IsNoLoss which _ trace story (migrated_makes story) cut).0 rose in
         (refl, ((refl, nv), (refl, ((refl, nv), tt))));
-    on = λ which story trace p cut e. tt;
+    on = λ which story trace p cut e. behind_moves trace unreadable story p.1;
   }
 
   provisioned_true : (root : RootSlot) (judged : Result ℕ FuseFail) (story : Story) → AllSafe (IsTrue s) (provisioned_in root judged story) story
@@ -92,11 +105,14 @@ module _ (s : Setting) where
 
   provision_true : (root : RootSlot) → IsTrueStretch (provision_stretch root)
   provision_true root = record {
-    plan = record { safe = λ story p. (tt, provisioned_true root _ story); ends = λ story p. tt };
+    plan = record {
+      safe = λ story p. (tt, provisioned_true root _ story);
+      ends = λ story p. Precedes-after (story_of s.first) story (provisioned root story) p.1;
+    };
     noted = λ which story trace p cut rose.
         let nv = store_rose which (cut_makes IsStore IsNoLoss which _ trace story (provisioned_makes root story) cut).0 rose in
         ((refl, nv), ((refl, nv), tt));
-    on = λ which story trace p cut e. tt;
+    on = λ which story trace p cut e. behind_moves trace ((provision_stretch root).on_fault which) story p.1;
   }
 
   -- ---- a whole step
@@ -108,14 +124,21 @@ module _ (s : Setting) where
     allows : AllowsLosses (IsTrue s) s.first s.last
     allows which story fell = ((refl, fell), tt)
 
-    along : (c : Course) → Follows c (begun old) new → AllGood (IsTrue s) c.first (story_of (begun old)) → AreGood (IsTrue s) s.first s.last Any c.stretches → Traced (IsTrue s) (begun old) new
-    along c t first stretches = Follows-good (IsTrue s) s.first s.last Any c (begun old) new within t first tt stretches
+    along : (c : Course) → Follows c (begun old) new → AllGood (IsTrue s) c.first (story_of (begun old)) → AreGood (IsTrue s) s.first s.last IsBehind c.stretches → Traced (IsTrue s) (begun old) new
+    along c t first stretches =
+        let m = within.before in
+        let behind : IsBehind (story_of (begun old)) = record {
+          bmc = record { start = m.bmc.start; more = m.bmc.ops.more; ops = m.bmc.ops.is };
+          pch = record { start = m.pch.start; more = m.pch.ops.more; ops = m.pch.ops.is };
+          nv = record { start = m.nv.start; more = m.nv.ops.more; ops = m.nv.ops.is };
+        } in
+        Follows-good (IsTrue s) s.first s.last IsBehind c (begun old) new within t first (Precedes-after (story_of s.first) (story_of (begun old)) c.first behind) stretches
 
-    none : AreGood (IsTrue s) s.first s.last Any []
-    none = AreGood-none (IsTrue s) s.first s.last Any (λ w moved. tt) allows Any
+    none : AreGood (IsTrue s) s.first s.last IsBehind []
+    none = AreGood-none (IsTrue s) s.first s.last Any (λ w moved. tt) allows IsBehind
 
-    next : (stretch : Stretch) (stretches : List Stretch) → IsTrueStretch stretch → AreGood (IsTrue s) s.first s.last Any stretches → AreGood (IsTrue s) s.first s.last Any (stretch ∷ stretches)
-    next stretch stretches good rest = AreGood-next (IsTrue s) s.first s.last Any (λ w moved. tt) allows Any Any stretch stretches good rest
+    next : (stretch : Stretch) (stretches : List Stretch) → IsTrueStretch stretch → AreGood (IsTrue s) s.first s.last IsBehind stretches → AreGood (IsTrue s) s.first s.last IsBehind (stretch ∷ stretches)
+    next stretch stretches good rest = AreGood-next (IsTrue s) s.first s.last Any (λ w moved. tt) allows IsBehind IsBehind stretch stretches good rest
 
     ignored_true : Follows ignored (begun old) new → Traced (IsTrue s) (begun old) new
     ignored_true t = along ignored t (tt, tt) none
@@ -143,12 +166,24 @@ module _ (s : Setting) where
 unfoldable pub step_of : Acceptance → Event → World → World → Setting
 step_of accepts e old new = record { accepts = accepts; first = old; last = new; IsSwitched = IsSwitchedOff e old }
 
+-- Each note of a step is true where it is made.
+pub Turn-traced : (accepts : Acceptance) (e : Event) (old new : World) → Turn accepts e old new → Traced (IsTrue (step_of accepts e old new)) (begun old) new
+unfolding step_of
+Turn-traced accepts e old new t =
+    let same = AllMoved-refl old in
+    let within : Between old new (begun old) new = record { before = record { bmc = same.bmc; pch = same.pch; nv = same.nv }; behind = AllMoved-refl new } in
+    Turn-true (step_of accepts e old new) e old new within (λ off. off) t
+
 -- what is known of each note that a step added
 pub Turn-known : (accepts : Acceptance) (e : Event) (old new : World) → Turn accepts e old new → (that : What) → IsNoted (added old new) that
     → KnownBefore (Fact (step_of accepts e old new)) that (story_of new)
-unfolding step_of
 Turn-known accepts e old new t that n =
-    let s : Setting = record { accepts = accepts; first = old; last = new; IsSwitched = IsSwitchedOff e old } in
-    let same = AllMoved-refl old in
-    let within : Between old new (begun old) new = record { before = record { bmc = same.bmc; pch = same.pch; nv = same.nv }; behind = AllMoved-refl new } in
-    Traced-known (IsTrue s) (Fact s) (λ w story g. g) (begun old) new (Turn-true s e old new within (λ off. off) t) that n
+    let s : Setting = step_of accepts e old new in
+    Traced-known (IsTrue s) (Fact s) (λ w story g. g) (begun old) new (Turn-traced accepts e old new t) that n
+
+-- and at a moment of the step
+pub Turn-since : (accepts : Acceptance) (e : Event) (old new : World) → Turn accepts e old new → (that : What) → IsNoted (added old new) that
+    → KnownBefore (λ note at. Fact (step_of accepts e old new) note at × Precedes (story_of (begun old)) at) that (story_of new)
+Turn-since accepts e old new t that n =
+    let s : Setting = step_of accepts e old new in
+    Traced-since (IsTrue s) (Fact s) (λ w story g. g) (begun old) new (Turn-traced accepts e old new t) that n
