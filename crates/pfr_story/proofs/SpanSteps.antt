@@ -48,7 +48,8 @@ use Rattle.pfr_story.proofs.RestoreLaws.{image_called}
 use Rattle.pfr_story.proofs.Traces.{Traced, Traced-keeps}
 use Rattle.pfr_story.proofs.StepTraces.{IsGoodStretch, AreGood, AreGood-none, AreGood-next, Follows-good}
 use Rattle.pfr_story.proofs.FuseLaws.{profile_migrated, profile_kept, provisioned_refused}
-use Rattle.pfr_story.proofs.SpanLaws.{IsSettled, open_none, open_any, open_map, opens_push, IsOpen, Kept, SparesOpen, KeepsSpans, Kept-moves, none_or_settled}
+use Rattle.pfr_story.specs.Keeping.{IsSettled}
+use Rattle.pfr_story.proofs.SpanLaws.{open_none, open_any, open_map, opens_push, IsOpen, Kept, SparesOpen, KeepsSpans, Kept-moves, none_or_settled}
 
 abbrev pub Any : Story → Type 0
 Any story = Unit {0}
