@@ -1,7 +1,7 @@
 -- A whole step, from what was done at its event.
-use Rattle.std.proofs.Common.{◌≡◌, ◌∙◌, refl, sym, ap, subst, ℕ, Bool, true, false, List, [], ◌∷◌, length, inl, inr, arith, Result, Ok, Err, OnOk}
+use Rattle.std.proofs.Common.{◌≡◌, ◌∙◌, refl, sym, ap, subst, ℕ, Bool, true, false, List, [], ◌∷◌, length, inl, inr, arith, Option, Some, None, Result, Ok, Err, OnOk}
 use Rattle.std.specs.Prelude.{◌≢◌}
-use Rattle.pfr_flash.specs.FlashState.{FlashState, size_of}
+use Rattle.pfr_flash.specs.FlashState.{FlashState, now, size_of}
 use Rattle.pfr_flash.specs.Layout.{IsBankSize}
 use Rattle.pfr_flash.specs.declared.flash.FlashFail.{FlashFail}
 use Rattle.pfr_flash.specs.declared.flash.FlashFail.TheVariants as fail
@@ -10,6 +10,7 @@ use Rattle.pfr_flash.specs.declared.names.Bank.TheVariants as bank
 use Rattle.pfr_flash.specs.declared.names.Device.{Device}
 use Rattle.pfr_flash.specs.declared.names.Device.TheVariants as device
 use Rattle.pfr_engine.specs.Acceptance.{Acceptance}
+use Rattle.pfr_auth.specs.Trusted.{IsTrusted}
 use Rattle.pfr_report.specs.declared.note.Note.{Note}
 use Rattle.pfr_report.specs.declared.note.What.TheVariants.{Power}
 use Rattle.pfr_script.specs.declared.event.Event.{Event}
@@ -19,17 +20,21 @@ use Rattle.pfr_story.specs.Goes.{Ran, Stopped}
 use Rattle.pfr_story.specs.Plans.{migrated}
 use Rattle.pfr_story.specs.Promises.{AreOff, IsPower, HasPower}
 use Rattle.pfr_story.specs.Standing as standing
-use Rattle.pfr_story.specs.Standing.{Standing, standing_of, is_off}
+use Rattle.pfr_story.specs.Standing.{Standing, standing_of, standing_by, is_off}
 use Rattle.pfr_story.specs.Story.{Story, Move, Says, after, device_of}
 use Rattle.pfr_story.specs.Turn.{bank_stretch, fuse_stretch, unreadable, power_course, course, where_off, begun, Turn}
-use Rattle.pfr_story.specs.World.{World, IsDark, SameDevices, state_at, story_of}
+use Rattle.pfr_story.specs.World.{World, AreDevices, IsDark, SameDevices, state_at, story_of}
+use Rattle.pfr_story.proofs.Bytes.{have_bytes}
+use Rattle.pfr_story.proofs.KeepingLaws.{Turn-trusted_spans, trusted_now}
 use Rattle.pfr_story.proofs.Courses.{Steps-next, Steps-ended}
 use Rattle.pfr_story.proofs.RunLaws.{Turn-item}
 use Rattle.pfr_story.proofs.Turns.{Turn-moved}
 use Rattle.pfr_story.proofs.Lift.{Ran-uncalled}
 use Rattle.pfr_story.proofs.Sequence.{Ran-refl}
-use Rattle.pfr_machine.specs.Worlds.{with_note, with_state}
-use Rattle.pfr_machine.specs.Inside.{AreLit, HasSizes, IsWhole}
+use Rattle.pfr_story.specs.declared.line.Line.{Line}
+use Rattle.pfr_story.specs.declared.line.Line.TheVariants as line
+use Rattle.pfr_machine.specs.Worlds.{with_note, with_state, PlatformState}
+use Rattle.pfr_machine.specs.Inside.{AreLit, HasSizes, IsSound, IsThere, IsWhole, world_in}
 use Rattle.pfr_machine.specs.Ready.{Brings, BringsBoth, BroughtUp, IsTaken, LeavesWhole}
 use Rattle.pfr_machine.specs.declared.bringing.Dark.{Dark}
 use Rattle.pfr_machine.proofs.WorldLemmas.{AddsNotes-then}
@@ -193,6 +198,29 @@ module _ (old next : World) (b : Begun old next) where
         omega (arith, h.few, l.notes.few, item, list);
   }
 
+-- the sizes of devices stay
+size_before : (old new : FlashState) → new.start ≡ old.start → size_of new ≡ size_of old
+size_before old new e = ap (λ (bytes : List ℕ). length bytes) e
+
+pub sizes_before : (accepts : Acceptance) (e : Event) (old new : World) → Turn accepts e old new → HasSizes new → HasSizes old
+sizes_before accepts e old new t h =
+    let m = Turn-moved accepts e old new t in
+    record {
+      bmc = subst (λ (n : ℕ). IsBankSize n) (size_before old.bmc new.bmc m.bmc.start) h.bmc;
+      pch = subst (λ (n : ℕ). IsBankSize n) (size_before old.pch new.pch m.pch.start) h.pch;
+      nv = sym (size_before old.nv new.nv m.nv.start) ∙ h.nv;
+    }
+
+-- a step leaves a platform sound, whose devices hold bytes
+pub still_sound : (old next : World) → Begun old next → (accepts : Acceptance) (e : Event) (new : World) → IsSound accepts old → Follows (course accepts e (story_of next)) next new
+    → LeavesWhole 64 next new → AreDevices new → HasSizes new → IsSound accepts new
+still_sound old next b accepts e new h f l devices sizes =
+    let t : Turn accepts e old new = turned old next b accepts e new f in
+    record {
+      whole = still_whole old next b accepts e new h.whole f l;
+      trusted = λ which. Turn-trusted_spans accepts which e old new t (have_bytes new devices) (sizes_before accepts e old new t sizes).nv (h.trusted which);
+    }
+
 -- ---- what holds of a step that was done
 pub by_turn : {A B : Type 0} {T U : Type 0} (r : Result T U) → OnOk r A → (A → B) → OnOk r B
 by_turn (Ok x) a f = f a
@@ -210,15 +238,17 @@ has_power w lit h n = record {
   nv = h.on (λ e. n (ap is_off e));
 }
 
--- the sizes of devices stay
-size_before : (old new : FlashState) → new.start ≡ old.start → size_of new ≡ size_of old
-size_before old new e = ap (λ (bytes : List ℕ). length bytes) e
+-- ---- a bank that runs is trusted
+module _ {E : Type 0} (accepts : E → Acceptance) (which : Bank) where
+  runs_trusted : (o : Option World) (engine : E) (inner : World) → IsThere (accepts engine) o → o ≡ Some inner → standing_of which inner.notes.list ≡ standing.Running
+      → IsTrusted (now (state_at (device_of which) (world_in o))) (now (world_in o).nv) which (accepts engine)
+  runs_trusted (Some w) engine inner h e runs =
+      let same : w ≡ inner = cc in
+      trusted_now (accepts engine) which w (h.trusted which) (subst (λ (v : World). standing_of which v.notes.list ≡ standing.Running) (sym same) runs)
+  runs_trusted None engine inner h e runs = absurd h
 
-pub sizes_before : (accepts : Acceptance) (e : Event) (old new : World) → Turn accepts e old new → HasSizes new → HasSizes old
-sizes_before accepts e old new t h =
-    let m = Turn-moved accepts e old new t in
-    record {
-      bmc = subst (λ (n : ℕ). IsBankSize n) (size_before old.bmc new.bmc m.bmc.start) h.bmc;
-      pch = subst (λ (n : ℕ). IsBankSize n) (size_before old.pch new.pch m.pch.start) h.pch;
-      nv = sym (size_before old.nv new.nv m.nv.start) ∙ h.nv;
-    }
+  pub line_trusted : (p : PlatformState E) (o : Option World) (engine : E) (inner : World) (how : Line) → record { world = world_in o; engine = engine } ≡ p → IsThere (accepts engine) o → o ≡ Some inner
+      → standing_by how ≡ standing_of which inner.notes.list → how ≡ line.Running → IsTrusted (now (state_at (device_of which) p.world)) (now p.world.nv) which (accepts p.engine)
+  line_trusted p o engine inner how view h e stands runs =
+      subst (λ (q : PlatformState E). IsTrusted (now (state_at (device_of which) q.world)) (now q.world.nv) which (accepts q.engine)) view
+      (runs_trusted o engine inner h e (sym stands ∙ ap standing_by runs))
