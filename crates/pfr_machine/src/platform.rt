@@ -112,8 +112,8 @@ impl<F: Flash, E: Engine + Drop> Platform<F, E> {
         ensures provisions { OnOk result (ProvisionsSo event.now self.old.world self.new.world) }
         ensures belongs { OnOk result (NotesBelong event.now self.old.world self.new.world) }
 
-        // So far each bank was trusted throughout each span in which it stood released, and none of the bytes that its trust and its
-        // recovery rest on was written in it.
+        // So far each bank was trusted throughout each span in which it stood released, and in none of them a byte was written that
+        // its trust rests on, or one of its recovery area.
         ensures spans { OnOk result ((which : Bank) → ReleasedSpans (E.accepts self.old.engine) which (story_of self.new.world)) }
 
         // A bank with a good capsule in its recovery area has one after each note and at the end, whatever was cut or torn; and a
