@@ -1,11 +1,10 @@
 -- What work on the store alone is to the platform.
 use Rattle.std.proofs.Common.{◌≡◌, ◌∙◌, ◌≤◌, refl, sym, ap, subst, List, [], true, Result, Ok, Err}
-use Rattle.pfr_flash.specs.FlashState.{FlashState, now, size_of}
+use Rattle.pfr_flash.specs.FlashState.{FlashState, now}
 use Rattle.pfr_flash.specs.Operation.{Operation}
 use Rattle.pfr_flash.specs.Plan.{Follows}
 use Rattle.pfr_flash.specs.declared.flash.FlashFail.{FlashFail}
 use Rattle.pfr_flash.specs.declared.names.Bank.{Bank}
-use Rattle.pfr_flash.specs.declared.names.Bank.TheVariants as bank
 use Rattle.pfr_flash.specs.declared.names.Device.TheVariants as device
 use Rattle.pfr_flash.proofs.FollowsLemmas.{Follows-none}
 use Rattle.pfr_fuses.specs.FuseMap.{profile_number}
@@ -14,17 +13,14 @@ use Rattle.pfr_fuses.specs.FusesOf.{fuses_of}
 use Rattle.pfr_fuses.specs.declared.fuse_fail.FuseFail.{FuseFail}
 use Rattle.pfr_fuses.specs.declared.profile.Profile.{Profile}
 use Rattle.pfr_fuses.specs.declared.profile.Profile.TheVariants.{One, Two}
-use Rattle.pfr_report.specs.Texts.{AllText}
 use Rattle.pfr_report.specs.declared.note.What.{What}
 use Rattle.pfr_story.specs.Goes.{Goes}
 use Rattle.pfr_story.specs.Plans.{migration_by, migration_in, store}
 use Rattle.pfr_story.specs.Standing.{Standing, standing_after, standing_of}
 use Rattle.pfr_story.specs.Story.{Plan, called}
 use Rattle.pfr_story.specs.World.{World}
-use Rattle.pfr_story.specs.declared.line.Line.{Line}
 use Rattle.pfr_story.proofs.Lift.{OnlyAt, Goes-follows, at_device}
 use Rattle.pfr_machine.specs.Worlds.{AddsNotes, with_note, with_state}
-use Rattle.pfr_machine.specs.Inside.{AreSeated, IsSeat}
 use Rattle.pfr_machine.specs.Ready.{StaysSeated, StaysFed}
 use Rattle.pfr_machine.proofs.WorldLemmas.{AddsNotes-none, AddsNotes-then}
 use Rattle.pfr_machine.proofs.StandLemmas.{still_stands, noted_adds}
@@ -68,18 +64,6 @@ module _ (old new : World) (e : new ≡ with_state device.Nv new.nv old) where
     stands = λ which. ap (λ (w : World). standing_of which w.notes.list) e;
     notes = subst (λ (w : World). AddsNotes 0 old.notes w.notes) (sym e) (AddsNotes-none old.notes);
     nv = fed plan r on f;
-  }
-
-  seat_kept : (which owner : Bank) (how : Line) → IsSeat which owner how old → IsSeat which owner how new
-  seat_kept bank.Bmc owner how h = subst (λ (w : World). IsSeat bank.Bmc owner how w) (sym e) (record { owner = h.owner; size = h.size; stands = h.stands; on = h.on })
-  seat_kept bank.Pch owner how h = subst (λ (w : World). IsSeat bank.Pch owner how w) (sym e) (record { owner = h.owner; size = h.size; stands = h.stands; on = h.on })
-
-  -- the banks stay seated
-  pub store_seated : (bmc_owner pch_owner : Bank) (bmc pch : Line) → size_of new.nv ≡ size_of old.nv → AreSeated bmc_owner pch_owner bmc pch old → AreSeated bmc_owner pch_owner bmc pch new
-  store_seated bmc_owner pch_owner bmc pch size h = record {
-    bmc = seat_kept bank.Bmc bmc_owner bmc h.bmc;
-    pch = seat_kept bank.Pch pch_owner pch h.pch;
-    board = record { size = size ∙ h.board.size; texts = subst (λ (w : World). AllText w.notes.list) (sym e) h.board.texts };
   }
 
   pub spare_kept : 1 ≤ old.notes.spare → 1 ≤ new.notes.spare

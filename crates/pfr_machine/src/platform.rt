@@ -11,7 +11,7 @@ ghost use Rattle.pfr_story.specs.Bringing.{BringsUpCalm, PowerReleases};
 ghost use Rattle.pfr_story.specs.Course.{Calm};
 ghost use Rattle.pfr_story.specs.Guards.{first_guards};
 ghost use Rattle.pfr_story.specs.Promises.{ReleasesTrusted, LocksHaveCauses, RestoresGood, ProvisionsSo, FaultsAreNoted, FaultsHaveCauses, LossesAreNoted, LostEnds, LostIsDark, NotesOff, StaysQuiet, CallsNone, HasPower, DistrustsWithCause, NotesBelong, AreOff, IsPower, IsKnownSlot};
-ghost use Rattle.pfr_story.specs.Recovery.{StaysRecoverable};
+ghost use Rattle.pfr_story.specs.Recovery.{CountsRise, StaysRecoverable};
 ghost use Rattle.pfr_story.specs.Run.{armed, takes_arm};
 ghost use Rattle.pfr_story.specs.Spans.{ReleasedSpans};
 ghost use Rattle.pfr_story.specs.Standing.{standing_of, standing_by};
@@ -72,7 +72,14 @@ impl<F: Flash, E: Engine + Drop> Platform<F, E> {
         requires pch_size { IsBankSize (size_of (F.device pch)) }
         requires nv_size { size_of (F.device nv) ≡ 32768 }
         ensures { result ≡ record {
-          world = record { bmc = F.device bmc; pch = F.device pch; nv = F.device nv; item = 0; notes = record { list = []; spare = 0 }; guards = first_guards };
+          world = record {
+            bmc = F.device bmc;
+            pch = F.device pch;
+            nv = F.device nv;
+            item = 0;
+            notes = record { list = []; spare = 0 };
+            guards = first_guards;
+          };
           engine = engine;
         } }
     {
@@ -119,9 +126,11 @@ impl<F: Flash, E: Engine + Drop> Platform<F, E> {
         // A bank with a good capsule in its recovery area has one after each note and at the end, whatever was cut or torn; and a
         // power-on in which no call fails releases it.
         ensures recoverable { OnOk result
-            (StaysRecoverable (λ bank image nv. HasGoodRecovery bank image nv (E.accepts self.old.engine)) self.old.world self.new.world) }
+            (StaysRecoverable (λ bank image nv. HasGoodRecovery bank image nv (E.accepts self.old.engine))
+            self.old.world self.new.world) }
         ensures powers { OnOk result
-            (PowerReleases (λ bank image nv. HasGoodRecovery bank image nv (E.accepts self.old.engine)) event.now self.old.world self.new.world) }
+            (PowerReleases (λ bank image nv. HasGoodRecovery bank image nv (E.accepts self.old.engine))
+            event.now self.old.world self.new.world) }
 
         // A fault is noted only where it was counted, and a loss of power exactly where it was.
         ensures faults { OnOk result (FaultsHaveCauses self.old.world self.new.world) }
@@ -135,6 +144,8 @@ impl<F: Flash, E: Engine + Drop> Platform<F, E> {
         ensures untouched { OnOk result (CallsNone event.now self.old.world self.new.world) }
         ensures on { OnOk result (HasPower self.new.world) }
         ensures moved { OnOk result (AllMoved (begun self.old.world) self.new.world) }
+        // The counts that notes carry rise from the step's begin to its end.
+        ensures counted { OnOk result (CountsRise self.old.world self.new.world) }
 
         // Floors and cancellations never go back, and a provision stays, whatever was cut or torn.
         ensures grows { OnOk result (NeverGoesBack self.old.world.nv self.new.world.nv) }

@@ -9,6 +9,7 @@ ghost use Rattle.pfr_fuses.specs.RootSlot.{IsSlot};
 ghost use Rattle.pfr_story.specs.Course.{Follows};
 ghost use Rattle.pfr_story.specs.Goes.{Goes};
 ghost use Rattle.pfr_story.specs.Plans.{provisioned};
+ghost use Rattle.pfr_story.specs.Promises.{sizes_judged};
 ghost use Rattle.pfr_story.specs.Standing.{standing_of, Off};
 ghost use Rattle.pfr_story.specs.Turn.{provision_course};
 ghost use Rattle.pfr_story.specs.World.{IsDark};
@@ -33,7 +34,8 @@ fn provision_as_noted<F: Flash>(
     requires { size_of (F.device nv.old) ≡ 32768 }
     ensures follows { FollowsPlan (provision_ops what.now (judge_provision (now (F.device nv.old)) what.now bmc_size pch_size))
         (F.device nv.old) (F.device nv.new) result }
-    ensures noted { IfOk result (λ note. note ≡ provision_note (judge_provision (now (F.device nv.old)) what.now bmc_size pch_size)) }
+    ensures noted { IfOk result (λ note.
+        note ≡ provision_note (judge_provision (now (F.device nv.old)) what.now bmc_size pch_size)) }
     ensures spelled { IsSlot what.now }
 {
     let why = match provision(nv, what, bmc_size, pch_size) {
@@ -50,9 +52,8 @@ impl<F: Flash> Inner<F> {
     // Provisions the store, and gives what is to be noted.
     fn provision_store(&mut self, what: &RootSlot) -> Result<What, FlashFail>
         ensures same { self.new ≡ with_state Nv self.new.nv self.old }
-        ensures follows { FollowsPlan (provision_ops what.now (judge_provision (now self.old.nv) what.now (size_of self.old.bmc) (size_of self.old.pch)))
-            self.old.nv self.new.nv result }
-        ensures noted { IfOk result (λ note. note ≡ provision_note (judge_provision (now self.old.nv) what.now (size_of self.old.bmc) (size_of self.old.pch))) }
+        ensures follows { FollowsPlan (provision_ops what.now (sizes_judged what.now self.old)) self.old.nv self.new.nv result }
+        ensures noted { IfOk result (λ note. note ≡ provision_note (sizes_judged what.now self.old)) }
         ensures spelled { IsSlot what.now }
     {
         let (bmc, pch) = (self.bmc.size(), self.pch.size());

@@ -7,7 +7,7 @@ ghost use Rattle.pfr_story.specs.Course.{Follows, Steps};
 ghost use Rattle.pfr_story.specs.Goes.{Ran};
 ghost use Rattle.pfr_story.specs.Promises.{IsKnownSlot, IsPower};
 ghost use Rattle.pfr_story.specs.Standing.{standing_of, is_off, Off};
-ghost use Rattle.pfr_story.specs.Turn.{bank_stretch, begun, fuse_stretch, unreadable, ignored, off_course, power_course, provision_course, where_off, course};
+ghost use Rattle.pfr_story.specs.Turn.{bank_stretch, begun, unreadable, ignored, off_course, power_course, provision_course, where_off, course};
 ghost use Rattle.pfr_story.specs.World.{AreDevices, IsDark, SameDevices, story_of};
 ghost use Rattle.pfr_machine.specs.Inside.{AreLit, HasSizes, IsWhole};
 ghost use Rattle.pfr_machine.specs.Ready.{BringsBoth, IsTaken, LeavesWhole};
@@ -49,7 +49,8 @@ impl<F: Flash> Inner<F> {
     // Brings up the BMC's bank, and then the PCH's.
     fn bring_up_both<E: Engine>(self, engine: &E) -> Result<Inner<F>, Dark<F>>
         requires room { 10 ≤ self.notes.spare }
-        ensures { BringsBoth (bank_stretch (E.accepts engine.now) Bmc ∷ bank_stretch (E.accepts engine.now) Pch ∷ []) 10 self result }
+        ensures { BringsBoth (bank_stretch (E.accepts engine.now) Bmc ∷ bank_stretch (E.accepts engine.now) Pch ∷ [])
+            10 self result }
     {
         self.bring_up(Bank::Bmc, engine)?
             .bring_up(Bank::Pch, engine)
@@ -72,7 +73,7 @@ impl<F: Flash> Inner<F> {
     fn wake<E: Engine>(mut self, engine: &E) -> Inner<F>
         requires room { 11 ≤ self.notes.spare }
         requires on { self.nv.powered ≡ true }
-        ensures steps { Steps (fuse_stretch ∷ bank_stretch (E.accepts engine.now) Bmc ∷ bank_stretch (E.accepts engine.now) Pch ∷ []) self result }
+        ensures steps { Steps (power_course (E.accepts engine.now)).stretches self result }
         ensures leaves { LeavesWhole 11 self result }
         ensures dark { standing_of Bmc result.notes.list ≡ Off → IsDark result }
     {
@@ -145,7 +146,8 @@ impl<F: Flash> Inner<F> {
     fn provision_unless_off(mut self, what: &RootSlot) -> Inner<F>
         requires room { 64 ≤ self.notes.spare }
         requires whole { IsWhole self }
-        ensures follows { Follows (where_off (is_off (standing_of Bmc self.notes.list)) ignored (provision_course what.now)) self result }
+        ensures follows { Follows (where_off (is_off (standing_of Bmc self.notes.list)) ignored (provision_course what.now))
+            self result }
         ensures leaves { LeavesWhole 64 self result }
         ensures dark { standing_of Bmc self.notes.list ≢ Off → standing_of Bmc result.notes.list ≡ Off → IsDark result }
         ensures untouched { standing_of Bmc self.notes.list ≡ Off → SameDevices self result }

@@ -49,13 +49,14 @@ module _ (kind : JobKind) (active : ¬ (kind ≡ RecoveryFromStaging)) (image nv
       (manifest_copied kind active image g.capsule layout g.layout blocks bytes index bits manifest_in fits regions covered)
       (λ k d h static. region_restored kind active image g.capsule layout g.layout blocks bytes index bits manifest_in fits regions covered k d h static)
 
-  -- and so it is once the job's strokes were done
+  -- the job's strokes leave it so
+  pub restored_is : play image (strokes_of (active_page image g.capsule (layout_of g.fuses.provision bank)) (active_pages kind image g.capsule (layout_of g.fuses.provision bank)))
+      ≡ active_rebuilt kind image g.capsule (layout_of g.fuses.provision bank)
+  restored_is =
+      active_played kind active image g.capsule (layout_of g.fuses.provision bank) g.layout blocks bytes index bits (manifest_inside image nv place len bank accepts g within)
+      (manifest_fits image nv place len bank accepts g) (good_regions image nv place len bank accepts g) covered
+
+  -- and so it is trusted once they were done
   pub restored_played : (t : IsTrusted (play image (strokes_of (active_page image g.capsule (layout_of g.fuses.provision bank)) (active_pages kind image g.capsule (layout_of g.fuses.provision bank)))) nv bank accepts)
       × (t.manifest ≡ g.capsule.manifest)
-  restored_played =
-      let layout : Layout = layout_of g.fuses.provision bank in
-      let regions = good_regions image nv place len bank accepts g in
-      let manifest_in = manifest_inside image nv place len bank accepts g within in
-      let fits = manifest_fits image nv place len bank accepts g in
-      subst (λ (new : List ℕ). (t : IsTrusted new nv bank accepts) × (t.manifest ≡ g.capsule.manifest))
-      (sym (active_played kind active image g.capsule layout g.layout blocks bytes index bits manifest_in fits regions covered)) restored_trusted
+  restored_played = subst (λ (new : List ℕ). (t : IsTrusted new nv bank accepts) × (t.manifest ≡ g.capsule.manifest)) (sym restored_is) restored_trusted

@@ -31,13 +31,12 @@ use Rattle.pfr_story.specs.Causes.{IsAgainst, IsDue, IsRestorable}
 use Rattle.pfr_story.specs.Promises.{AtCounts, IsFaultLock, ReleasesTrusted, LocksHaveCauses}
 use Rattle.pfr_story.specs.Bringing.{IsOver, IsCalm, IsNotedBehind, ReleasedSoon, BringsUp, BringsUpCalm, PowerReleases}
 use Rattle.pfr_story.proofs.WorldLaws.{AllMoved-trans}
-use Rattle.pfr_story.proofs.CallLaws.{AllMake-called}
+use Rattle.pfr_story.proofs.SafetyLaws.{AllMake-called}
 use Rattle.pfr_story.proofs.Courses.{Steps-moved}
-use Rattle.pfr_story.proofs.Made.{said, notes_after, Steps-made}
-use Rattle.pfr_story.proofs.Traces.{Precedes}
+use Rattle.pfr_story.proofs.Made.{said, notes_after, Steps-made, Whichever, Wrote, Anything, wrote_then, wrote_by, wrote_cut, wrote_moves, never_noted, noted_left, added_is, in_added, only_between}
+use Rattle.pfr_story.proofs.Traces.{Precedes, precedes_moved}
 use Rattle.pfr_story.proofs.Bytes.{HaveBytes, images_then}
 use Rattle.pfr_story.proofs.NoteLaws.{at_moment, Turn-releases, Turn-locks}
-use Rattle.pfr_story.proofs.Noting.{Whichever, Wrote, Anything, wrote_then, wrote_by, wrote_cut, wrote_moves, never_noted, noted_left, added_is, in_added, only_between}
 use Rattle.pfr_story.proofs.TailLaws.{IsOf, Apart, NoneOf, brought_apart, behind, ReleasesSoon, tail_trusted, tail_due, tail_named, tail_restored, tail_releases}
 use Rattle.pfr_story.proofs.OwnLaws.{Cause, tail_caused}
 
@@ -189,11 +188,7 @@ module _ (accepts : Acceptance) (first new : World) where
   -- ---- what is noted of it
   module _ (have : HaveBytes new) (which : Bank) (c : Crossed which) where
     precedes : Precedes (held c) (story_of new)
-    precedes = record {
-      bmc = record { start = c.moved.bmc.start; more = c.moved.bmc.ops.more; ops = c.moved.bmc.ops.is };
-      pch = record { start = c.moved.pch.start; more = c.moved.pch.ops.more; ops = c.moved.pch.ops.is };
-      nv = record { start = c.moved.nv.start; more = c.moved.nv.ops.more; ops = c.moved.nv.ops.is };
-    }
+    precedes = let p = precedes_moved c.at new c.moved in record { bmc = p.bmc; pch = p.pch; nv = p.nv }
 
     bytes : AreBytes (mine which (held c))
     bytes = images_then (held c) new precedes have (device_of which)

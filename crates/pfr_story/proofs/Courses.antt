@@ -1,5 +1,5 @@
 -- One stretch after another.
-use Rattle.std.proofs.Common.{◌≡◌, ◌∙◌, ◌≤◌, sym, subst, arith, ℕ, Bool, true, false, List, [], ◌∷◌, inl, inr}
+use Rattle.std.proofs.Common.{◌≡◌, ◌∙◌, ◌≤◌, refl, sym, subst, arith, ℕ, Bool, true, false, List, [], ◌∷◌, inl, inr}
 use Rattle.pfr_flash.specs.FlashState.{Rose}
 use Rattle.pfr_flash.specs.declared.names.Device.{Device}
 use Rattle.pfr_story.specs.Story.{Story, after}
@@ -41,20 +41,21 @@ Halts-noted (s ∷ ss) which old mid new (inr (inr f)) r =
     inr (inl (f.0, f.1, goes_on_true s.goes_on (Steps ss) f.0 new f.2.0 (Halts-noted ss which f.0 mid new f.2.1 r)))
 
 -- ---- what the devices did
-moved_on : (on : Bool) (steps : World → World → Type 0) (mid new : World) → (steps mid new → AllMoved mid new) → goes_on_if on steps mid new → AllMoved mid new
-moved_on true steps mid new f r = f r
-moved_on false steps mid new f r = r.moved
+-- it went on, or ended
+pub went_on : (on : Bool) (steps : World → World → Type 0) (mid new : World) (R : Type 0) → (on ≡ true → steps mid new → R) → (Ends mid new → R) → goes_on_if on steps mid new → R
+went_on true steps mid new R go end p = go refl p
+went_on false steps mid new R go end p = end p
 
 pub Steps-moved : (ss : List Stretch) (old new : World) → Steps ss old new → AllMoved old new
 Steps-moved [] old new p = p.moved
 Steps-moved (s ∷ ss) old new (inl (mid, c, rest)) = AllMoved-trans old mid new c.moved (Steps-moved ss mid new rest)
 Steps-moved (s ∷ ss) old new (inr (inl (mid, f, rest))) =
-    AllMoved-trans old f.at new f.stopped.moved (AllMoved-trans f.at mid new f.noted.moved (moved_on s.goes_on (Steps ss) mid new (λ r. Steps-moved ss mid new r) rest))
+    AllMoved-trans old f.at new f.stopped.moved (AllMoved-trans f.at mid new f.noted.moved (went_on s.goes_on (Steps ss) mid new (AllMoved mid new) (λ e r. Steps-moved ss mid new r) (λ r. r.moved) rest))
 Steps-moved (s ∷ ss) old new (inr (inr l)) = AllMoved-trans old l.at new l.stopped.moved l.noted.moved
 
 -- behind a fault
 pub moved_behind : (s : Stretch) (ss : List Stretch) (mid new : World) → goes_on_if s.goes_on (Steps ss) mid new → AllMoved mid new
-moved_behind s ss mid new rest = moved_on s.goes_on (Steps ss) mid new (λ r. Steps-moved ss mid new r) rest
+moved_behind s ss mid new rest = went_on s.goes_on (Steps ss) mid new (AllMoved mid new) (λ e r. Steps-moved ss mid new r) (λ r. r.moved) rest
 
 -- a count that rose between is one that rose
 pub fault_rose : (s : Stretch) (old mid new : World) (f : Faults s old mid) → AllMoved mid new → Rose (state_at f.which old).faults (state_at f.which new).faults

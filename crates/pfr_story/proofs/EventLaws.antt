@@ -28,11 +28,10 @@ use Rattle.pfr_story.specs.Course.{Follows}
 use Rattle.pfr_story.specs.Standing.{standing_of, is_off}
 use Rattle.pfr_story.specs.Turn.{off_course, ignored, provision_course, where_off, begun, Turn}
 use Rattle.pfr_story.specs.Promises.{AreOff, IsPower, IsIgnored, StaysQuiet, LostEnds, LostIsDark, BelongsTo, NotesBelong}
-use Rattle.pfr_story.proofs.SafetyLaws.{AllSafe-append}
-use Rattle.pfr_story.proofs.CallLaws.{called_safe}
+use Rattle.pfr_story.proofs.SafetyLaws.{AllSafe-append, called_any}
 use Rattle.pfr_story.proofs.Traces.{Traced, Traced-known}
 use Rattle.pfr_story.proofs.Made.{Made, added_said}
-use Rattle.pfr_story.proofs.StepRules.{AllowsBanks, noted_good, power_good, provision_traced}
+use Rattle.pfr_story.proofs.StepTraces.{AllowsBanks, noted_good, power_good, provision_traced}
 use Rattle.pfr_story.proofs.StoreLaws.{judged_here}
 
 -- ---- what is so of all that is noted
@@ -65,17 +64,19 @@ module _ (P : What → Type 0) where
   saying_banks : HoldsOfBanks P → AllowsBanks (Saying P)
   saying_banks h = record {
     held = λ b story. h.held b (counts_of story);
-    released = λ b svn story. h.released b svn (counts_of story);
-    locked = λ b cause story. h.locked b cause (counts_of story);
-    untrusted = λ b cause story. h.untrusted b cause;
-    restored = λ b level story. h.restored b level;
+    bank = λ b. record {
+      released = λ svn story. h.released b svn (counts_of story);
+      locked = λ cause story. h.locked b cause (counts_of story);
+      untrusted = λ cause story. h.untrusted b cause;
+      restored = λ level story. h.restored b level;
+      asks = λ which story own. tt;
+      works = λ op story. tt;
+    };
     lost = λ which story. h.lost which (counts_of story);
-    asks = λ which story. tt;
-    works = λ b op story. tt;
   }
 
   call_says : (which : Device) (ops : List Operation) (story : Story) → AllSafe (Saying P) (called which ops) story
-  call_says which ops story = called_safe (Saying P) which (λ later. Unit {0}) (λ op later q. tt) (λ later. tt) ops story (λ added part. tt)
+  call_says which ops story = called_any (Saying P) which (λ op later. tt) (λ later. tt) ops story
 
   migrated_says : (story : Story) → AllSafe (Saying P) (migrated story) story
   migrated_says story = (tt, call_says device.Nv (migration_in (fuses_of (store story))) story)
@@ -92,13 +93,13 @@ module _ (P : What → Type 0) where
   Turn-says accepts event.Off old new h p t = by_off (is_off (standing_of bank.Bmc old.notes.list)) refl t
     where
       by_off : (b : Bool) → is_off (standing_of bank.Bmc old.notes.list) ≡ b → Follows (where_off b ignored off_course) (begun old) new → Traced (Saying P) (begun old) new
-      by_off true off t = noted_good (Saying P) (saying_banks h) (Says (λ _. what.Ignored) ∷ []) (begun old) new t (p.0 off, tt)
+      by_off true off t = noted_good (Saying P) (saying_banks h) (begun old) new (Says (λ _. what.Ignored) ∷ []) t (p.0 off, tt)
       by_off false on t =
-          noted_good (Saying P) (saying_banks h) (Says (what.Lost None) ∷ []) (begun old) new t (p.1 (λ off. false≢true (sym on ∙ off)) (counts_of (story_of old)), tt)
+          noted_good (Saying P) (saying_banks h) (begun old) new (Says (what.Lost None) ∷ []) t (p.1 (λ off. false≢true (sym on ∙ off)) (counts_of (story_of old)), tt)
   Turn-says accepts (event.Provision root) old new h p t = by_off (is_off (standing_of bank.Bmc old.notes.list)) refl t
     where
       by_off : (b : Bool) → is_off (standing_of bank.Bmc old.notes.list) ≡ b → Follows (where_off b ignored (provision_course root)) (begun old) new → Traced (Saying P) (begun old) new
-      by_off true off t = noted_good (Saying P) (saying_banks h) (Says (λ _. what.Ignored) ∷ []) (begun old) new t (p.0 off, tt)
+      by_off true off t = noted_good (Saying P) (saying_banks h) (begun old) new (Says (λ _. what.Ignored) ∷ []) t (p.0 off, tt)
       by_off false on t =
           provision_traced (Saying P) (saying_banks h) (λ story. Unit {0}) root (begun old) new
           (λ story any. (tt, provisioned_says root (judged_here root story) story (p.1 (λ off. false≢true (sym on ∙ off)) (judged_here root story)))) tt t

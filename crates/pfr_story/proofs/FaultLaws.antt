@@ -22,7 +22,8 @@ use Rattle.pfr_story.specs.Standing.{standing_of, is_off}
 use Rattle.pfr_story.specs.Turn.{bank_stretch, where_off, ignored, off_course, provision_course, course, begun, Turn}
 use Rattle.pfr_story.specs.Promises.{IsFaultLock, IsUndisturbed, FaultsAreNoted}
 use Rattle.pfr_story.proofs.WorldLaws.{NoneFailed-trans}
-use Rattle.pfr_story.proofs.Made.{said, Made, made_then, made_on, Steps-made, added_said}
+use Rattle.pfr_story.proofs.Made.{said, Made, made_then, Steps-made, added_said}
+use Rattle.pfr_story.proofs.Courses.{went_on}
 
 -- ---- moves that tell of a fault
 abbrev pub IsFault : (Counts → What) → Type 0
@@ -84,7 +85,7 @@ AllTell (s ∷ ss) = ((which : Device) → TellsFault (s.on_fault which)) × All
 
 fault_told : (s : Stretch) (ss : List Stretch) (old mid new : World) → ((which : Device) → TellsFault (s.on_fault which)) → Faults s old mid → goes_on_if s.goes_on (Steps ss) mid new → IsTold old new
 fault_told s ss old mid new tells f rest =
-    let behind = made_on s.goes_on (Steps ss) mid new (λ r. Steps-made ss mid new r) rest in
+    let behind = went_on s.goes_on (Steps ss) mid new (Made mid new) (λ e r. Steps-made ss mid new r) (λ r. record { trace = []; is = r.is }) rest in
     told_later old f.at new (record { trace = f.stopped.trace; is = f.stopped.is }) (
       made_then f.at mid new (record { trace = s.on_fault f.which; is = f.noted.is }) behind,
       tells_left (s.on_fault f.which) behind.trace (tells f.which),

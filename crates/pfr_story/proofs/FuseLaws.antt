@@ -2,8 +2,10 @@
 use Rattle.std.proofs.Common.{◌≡◌, ◌∙◌, refl, sym, ap, subst, ℕ, ◌<◌, arith, List, [], ◌∷◌, length, get_or, Ok, Err}
 use Rattle.std.specs.Prelude.{bit_and}
 use Rattle.std.specs.Int.Bits.{and_zero_r}
-use Rattle.pfr_flash.specs.Bytes.{bytes_at}
-use Rattle.pfr_flash.specs.Operation.{Erase, Program, applied, play}
+use Rattle.pfr_flash.specs.Bytes.{AreBytes, bytes_at, continued}
+use Rattle.pfr_flash.specs.Operation.{Operation, Erase, Program, applied, play}
+use Rattle.pfr_flash.specs.Plan.{IsPart}
+use Rattle.pfr_flash.proofs.AreBytesLemmas.{AreBytes-append, AreBytes-bytes_at, AreBytes-continued}
 use Rattle.pfr_flash.proofs.BytesLemmas.{get_or-bytes_at, get_or-written_inside, length-continued}
 use Rattle.pfr_flash.proofs.PlayLemmas.{length-play}
 use Rattle.pfr_flash.proofs.FuseLemmas.{applied-byte}
@@ -13,9 +15,11 @@ use Rattle.pfr_fuses.specs.FusesState.{FusesState}
 use Rattle.pfr_fuses.specs.FusesOf.{fuses_of, floor_fuses, row_fuses, fuses_with}
 use Rattle.pfr_fuses.specs.Provisioning.{judge_provision}
 use Rattle.pfr_fuses.specs.declared.fuse_fail.FuseFail.TheVariants.{AlreadyProvisioned}
-use Rattle.pfr_fuses.specs.declared.profile.Profile.TheVariants.{Two}
+use Rattle.pfr_fuses.specs.declared.profile.Profile.TheVariants.{One, Two}
 use Rattle.pfr_fuses.specs.declared.root_slot.RootSlot.{RootSlot}
-use Rattle.pfr_fuses.proofs.StandsLemmas.{fuses_of-ok, profile_two}
+use Rattle.pfr_fuses.specs.Slots.{slot_at}
+use Rattle.pfr_fuses.proofs.MigrationLemmas.{Holds, migration-part, first_holds}
+use Rattle.pfr_fuses.proofs.StandsLemmas.{fuses_of-ok, fuses_of-stands, profile_two}
 use Rattle.pfr_fuses.proofs.BlankLemmas.{judged-provisioned}
 
 -- ---- the profile
@@ -60,3 +64,23 @@ rows_with nv slot = record {
 
 pub rows_kept : (nv : List ℕ) (fuses : FusesState) → fuses_of nv ≡ Ok fuses → AreRows fuses
 rows_kept nv fuses f = let found = fuses_of-ok nv fuses f in subst AreRows (sym found.2) (rows_with nv _)
+
+-- and bytes, where the store holds bytes
+bytes_row : (nv : List ℕ) (at count n : ℕ) → AreBytes nv → AreBytes (continued (bytes_at nv at count) n)
+bytes_row nv at count n p = AreBytes-continued (bytes_at nv at count) n (AreBytes-bytes_at nv at count p)
+
+bytes_with : (nv slot : List ℕ) → AreBytes nv → AreBytes (migrated (fuses_with nv slot))
+unfolding floor_fuses row_fuses
+bytes_with nv slot p =
+    AreBytes-append _ _ (bytes_row nv _ _ 16 p) (AreBytes-append _ _ (bytes_row nv _ _ 16 p) (AreBytes-append _ _ (bytes_row nv _ _ 32 p)
+    (AreBytes-append _ _ (bytes_row nv _ _ 32 p) (AreBytes-append _ _ (bytes_row nv _ _ 32 p) (bytes_row nv _ _ 32 p)))))
+
+bytes_kept : (nv : List ℕ) (fuses : FusesState) → fuses_of nv ≡ Ok fuses → AreBytes nv → AreBytes (migrated fuses)
+bytes_kept nv fuses f p = let found = fuses_of-ok nv fuses f in subst (λ (x : FusesState). AreBytes (migrated x)) (sym found.2) (bytes_with nv (slot_at nv found.0) p)
+
+-- Whatever is done of a migration, the store holds what these fuses say.
+pub part_holds : (nv : List ℕ) (fuses : FusesState) (added : List Operation) → length nv ≡ 32768 → AreBytes nv → fuses_of nv ≡ Ok fuses → fuses.profile ≡ One → IsPart nv (migration fuses) added
+    → Holds nv fuses (play nv added)
+part_holds nv fuses added size bytes f one part =
+    let are = bytes_kept nv fuses f bytes in
+    migration-part nv fuses size (sym (profile_kept nv fuses f) ∙ one) (rows_kept nv fuses f) (λ i below. are i) (first_holds nv fuses (fuses_of-stands nv fuses size f)) added part

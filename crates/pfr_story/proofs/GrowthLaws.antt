@@ -1,36 +1,32 @@
 -- Fuses are never taken back, and a provision never changes.
-use Rattle.std.proofs.Common.{◌≡◌, ◌∙◌, refl, sym, ap, subst, ℕ, ◌≤◌, arith, Bool, true, false, List, [], length, take, length-append, Result, Ok, Err, inr}
+use Rattle.std.proofs.Common.{◌≡◌, ◌∙◌, refl, sym, ap, ℕ, ◌≤◌, arith, Bool, true, false, List, [], length, Result, Ok, Err, inr}
 use Rattle.std.proofs.lemmas.Bool.{false≢true}
 use Rattle.std.proofs.lemmas.List.{append-nil}
-use Rattle.std.proofs.lemmas.List.Elements.{All-take}
-use Rattle.pfr_flash.specs.Bytes.{AreBytes, bytes_at, continued}
+use Rattle.pfr_flash.specs.Bytes.{AreBytes}
 use Rattle.pfr_flash.specs.FlashState.{FlashState, now, upto, size_of, op_count_of}
-use Rattle.pfr_flash.specs.Holding.{WritesBytes, HoldsBytes}
 use Rattle.pfr_flash.specs.Operation.{Operation, play}
 use Rattle.pfr_flash.specs.Plan.{IsPart, DoesPart}
 use Rattle.pfr_flash.specs.Range.{AllWithin}
 use Rattle.pfr_flash.specs.declared.names.Bank.TheVariants as bank
-use Rattle.pfr_flash.proofs.AreBytesLemmas.{AreBytes-append, AreBytes-bytes_at, AreBytes-continued, AreBytes-play}
+use Rattle.pfr_flash.specs.declared.names.Device.TheVariants as device
 use Rattle.pfr_flash.proofs.CutLemmas.{at_each}
 use Rattle.pfr_flash.proofs.PlayLemmas.{length-play}
 use Rattle.pfr_engine.specs.Acceptance.{Acceptance}
-use Rattle.pfr_fuses.specs.Changes.{migration, migrated, AreRows}
+use Rattle.pfr_fuses.specs.Changes.{migration, AreRows}
 use Rattle.pfr_fuses.specs.FusesState.{FusesState}
-use Rattle.pfr_fuses.specs.FusesOf.{fuses_of, fuses_with, floor_fuses, row_fuses}
+use Rattle.pfr_fuses.specs.FusesOf.{fuses_of}
 use Rattle.pfr_fuses.specs.Growth.{NeverGoesBack, KeepsProvision}
 use Rattle.pfr_fuses.specs.Provisioning.{judge_provision, provision_plan}
 use Rattle.pfr_fuses.specs.RootSlot.{IsSlot}
-use Rattle.pfr_fuses.specs.Slots.{slot_at}
 use Rattle.pfr_fuses.specs.declared.fuse_fail.FuseFail.{FuseFail}
 use Rattle.pfr_fuses.specs.declared.profile.Profile.{Profile}
 use Rattle.pfr_fuses.specs.declared.profile.Profile.TheVariants.{One, Two}
 use Rattle.pfr_fuses.specs.declared.root_slot.RootSlot.{RootSlot}
 use Rattle.pfr_fuses.proofs.BlankLemmas.{judged-ok}
 use Rattle.pfr_fuses.proofs.GrowthLemmas.{KeepsProvision-plan, KeepsProvision-none, NeverGoesBack-programs}
-use Rattle.pfr_fuses.proofs.MigrationLemmas.{Holds, migration_within, migration-part, first_holds, Grows-holds}
+use Rattle.pfr_fuses.proofs.MigrationLemmas.{Holds, migration_within, Grows-holds}
 use Rattle.pfr_fuses.proofs.ProvisionLemmas.{KeepsProvision-slot}
 use Rattle.pfr_fuses.proofs.RootSlotLemmas.{length-slot}
-use Rattle.pfr_fuses.proofs.StandsLemmas.{fuses_of-ok, fuses_of-stands}
 use Rattle.pfr_script.specs.declared.event.Event.{Event}
 use Rattle.pfr_script.specs.declared.event.Event.TheVariants as event
 use Rattle.pfr_story.specs.Story.{Story}
@@ -40,20 +36,15 @@ use Rattle.pfr_story.specs.Course.{Follows}
 use Rattle.pfr_story.specs.Standing.{standing_of, is_off}
 use Rattle.pfr_story.specs.Promises.{AreOff, IsKnownSlot}
 use Rattle.pfr_story.specs.Turn.{ignored, provision_course, where_off, begun, Turn}
-use Rattle.pfr_story.proofs.Traces.{upto_begins}
-use Rattle.pfr_story.proofs.FuseLaws.{profile_kept, rows_kept}
+use Rattle.pfr_story.proofs.Traces.{precedes_moved}
+use Rattle.pfr_story.proofs.Bytes.{have_bytes, images_then}
+use Rattle.pfr_story.proofs.Turns.{Turn-moved}
+use Rattle.pfr_story.proofs.FuseLaws.{rows_kept, part_holds}
 use Rattle.pfr_story.proofs.StoreLaws.{Stored, operations_in, judged_here, Turn-stored}
 
 -- ---- a step
 did_part : (plan : List Operation) (old new : World) → Stored plan (past_of old.nv) (past_of new.nv) → DoesPart plan old.nv new.nv
 did_part plan old new p = record { added = p.added; is = p.is; part = p.part }
-
--- the store held bytes before
-store_bytes : (plan : List Operation) (old new : World) → Stored plan (past_of old.nv) (past_of new.nv) → HoldsBytes new.nv → AreBytes (now old.nv)
-store_bytes plan old new p h =
-    let count : ℕ = op_count_of old.nv in
-    subst AreBytes (upto_begins (past_of old.nv) (past_of new.nv) (record { start = p.start; more = p.added; ops = p.is }))
-    (AreBytes-play new.nv.start (take count new.nv.ops) h.start (All-take WritesBytes count new.nv.ops h.ops))
 
 -- where the banks are off nothing is done
 ignored_store : (old new : World) → Follows ignored (begun old) new → new.nv.ops ≡ old.nv.ops
@@ -92,33 +83,14 @@ Turn-keeps accepts (event.Provision root) old new size slot t = by_off (is_off (
         (slot (λ (off : AreOff old). false≢true (sym on ∙ off)))
         (did_part (operations_in root (judged_here root (story_of old))) old new did)
 
--- ---- fuses that are bytes
-bytes_row : (nv : List ℕ) (at count n : ℕ) → AreBytes nv → AreBytes (continued (bytes_at nv at count) n)
-bytes_row nv at count n p = AreBytes-continued (bytes_at nv at count) n (AreBytes-bytes_at nv at count p)
-
-bytes_with : (nv slot : List ℕ) → AreBytes nv → AreBytes (migrated (fuses_with nv slot))
-unfolding floor_fuses row_fuses
-bytes_with nv slot p =
-    AreBytes-append _ _ (bytes_row nv _ _ 16 p) (AreBytes-append _ _ (bytes_row nv _ _ 16 p) (AreBytes-append _ _ (bytes_row nv _ _ 32 p)
-    (AreBytes-append _ _ (bytes_row nv _ _ 32 p) (AreBytes-append _ _ (bytes_row nv _ _ 32 p) (bytes_row nv _ _ 32 p)))))
-
-bytes_migrated : (nv : List ℕ) (fuses : FusesState) → fuses_of nv ≡ Ok fuses → AreBytes nv → AreBytes (migrated fuses)
-bytes_migrated nv fuses f p = let found = fuses_of-ok nv fuses f in subst (λ (x : FusesState). AreBytes (migrated x)) (sym found.2) (bytes_with nv (slot_at nv found.0) p)
-
 -- ---- fuses are never taken back
 migrated_grows : (old new : FlashState) (fuses : FusesState) → size_of old ≡ 32768 → new.start ≡ old.start → fuses_of (now old) ≡ Ok fuses → fuses.profile ≡ One → AreBytes (now old)
     → DoesPart (migration fuses) old new → NeverGoesBack old new
 migrated_grows old new fuses size start f one bytes did =
-    let nv = now old in
-    let nv_size : length nv ≡ 32768 = length-play old.start old.ops ∙ size in
-    let stands = fuses_of-stands nv fuses nv_size f in
-    let rows = rows_kept nv fuses f in
-    let length_is : length (migrated fuses) ≡ 160 = simp (length-append, rows.bmc_floor, rows.pch_floor, rows.pch_manifest, rows.pch_capsule, rows.bmc_manifest, rows.bmc_capsule) (omega arith) in
-    let are = bytes_migrated nv fuses f bytes in
-    let each : (added : List Operation) → IsPart nv (migration fuses) added → Holds nv fuses (play nv added) =
-    λ added h. migration-part nv fuses nv_size (sym (profile_kept nv fuses f) ∙ one) rows (λ i below. are i) (first_holds nv fuses stands) added h in
-    let at : (n : ℕ) → op_count_of old ≤ n → Holds nv fuses (upto new n) = λ n le. at_each (Holds nv fuses) (migration fuses) old new start did each n le in
-    record { grows = λ m n low order high. Grows-holds nv fuses (upto new m) (upto new n) (at m low) (at n (omega arith)) }
+    let each : (added : List Operation) → IsPart (now old) (migration fuses) added → Holds (now old) fuses (play (now old) added) =
+    λ added part. part_holds (now old) fuses added (length-play old.start old.ops ∙ size) bytes f one part in
+    let at : (n : ℕ) → op_count_of old ≤ n → Holds (now old) fuses (upto new n) = λ n le. at_each (Holds (now old) fuses) (migration fuses) old new start did each n le in
+    record { grows = λ m n low order high. Grows-holds (now old) fuses (upto new m) (upto new n) (at m low) (at n (omega arith)) }
 
 nothing_grows : (old new : FlashState) → size_of old ≡ 32768 → new.start ≡ old.start → DoesPart [] old new → NeverGoesBack old new
 nothing_grows old new size start did = NeverGoesBack-programs 0 0 [] old new size start did tt tt (inr (omega arith))
@@ -150,7 +122,7 @@ pub Turn-grows : (accepts : Acceptance) (e : Event) (old new : World) → size_o
 Turn-grows accepts event.Power old new size held slot t =
     let did = Turn-stored accepts event.Power old new t in
     let plan : List Operation = migration_in (fuses_of (now old.nv)) in
-    in_grows old.nv new.nv (fuses_of (now old.nv)) size did.start refl (store_bytes plan old new did held.nv) (did_part plan old new did)
+    in_grows old.nv new.nv (fuses_of (now old.nv)) size did.start refl (images_then (story_of (begun old)) new (precedes_moved (begun old) new (Turn-moved accepts event.Power old new t)) (have_bytes new held) device.Nv) (did_part plan old new did)
 Turn-grows accepts event.Off old new size held slot t =
     let did = Turn-stored accepts event.Off old new t in nothing_grows old.nv new.nv size did.start (did_part [] old new did)
 Turn-grows accepts (event.Provision root) old new size held slot t = by_off (is_off (standing_of bank.Bmc old.notes.list)) refl t

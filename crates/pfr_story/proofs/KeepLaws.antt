@@ -1,5 +1,5 @@
 -- What leaves a good recovery area good, at every cut, whatever it tore: a restore of the active image, and a migration.
-use Rattle.std.proofs.Common.{◌≡◌, ◌∙◌, refl, sym, ap, subst, arith, ℕ, zero, suc, ◌+◌, ◌*◌, ◌%◌, ◌/◌, ◌≤◌, ◌<◌, Bool, true, false, if◌then◌else◌, List, [], ◌∷◌, ◌++◌, length, drop, length-take, All, ◌⊎◌, inl, inr, Result, Ok, Err}
+use Rattle.std.proofs.Common.{◌≡◌, refl, sym, ap, subst, arith, ℕ, zero, suc, ◌+◌, ◌*◌, ◌%◌, ◌/◌, ◌≤◌, ◌<◌, Bool, true, false, if◌then◌else◌, List, [], ◌∷◌, ◌++◌, length, drop, length-take, All, ◌⊎◌, inl, inr, Result, Ok, Err}
 use Rattle.std.proofs.lemmas.Bool.{cases_lt}
 use Rattle.std.proofs.lemmas.Bool.Decides.{nat_tests}
 use Rattle.pfr_flash.specs.Bytes.{AreBytes, bytes_at}
@@ -12,27 +12,20 @@ use Rattle.pfr_flash.specs.Range.{Leaves, IsWithin, AllWithin}
 use Rattle.pfr_flash.specs.declared.layout.Layout.{Layout}
 use Rattle.pfr_flash.specs.declared.names.Bank.{Bank}
 use Rattle.pfr_flash.specs.declared.names.Bank.TheVariants as bank
-use Rattle.pfr_flash.specs.declared.names.ContentType.{ContentType}
-use Rattle.pfr_flash.specs.declared.names.Device.{Device}
 use Rattle.pfr_flash.specs.declared.names.Device.TheVariants as device
-use Rattle.pfr_flash.proofs.AreBytesLemmas.{AreBytes-append, AreBytes-bytes_at, AreBytes-continued}
-use Rattle.pfr_flash.proofs.BytesLemmas.{length-continued}
 use Rattle.pfr_flash.proofs.LeavingLemmas.{leaves_torn}
 use Rattle.pfr_flash.proofs.PlayLemmas.{length-applied}
 use Rattle.pfr_flash.proofs.RangeLemmas.{AllWithin-append}
 use Rattle.pfr_engine.specs.Acceptance.{Acceptance}
-use Rattle.pfr_fuses.specs.Changes.{AreRows, migrated, migration}
-use Rattle.pfr_fuses.specs.FuseMap.{profile_of, floor_at, floor_width, row_at, row_width}
-use Rattle.pfr_fuses.specs.FusesOf.{fuses_of, fuses_with, floor_fuses, row_fuses, Stands}
+use Rattle.pfr_fuses.specs.Changes.{migration}
+use Rattle.pfr_fuses.specs.FuseMap.{profile_of}
+use Rattle.pfr_fuses.specs.FusesOf.{fuses_of}
 use Rattle.pfr_fuses.specs.FusesState.{FusesState, floor_of, row_of}
 use Rattle.pfr_fuses.specs.RootSlot.{layout_of}
-use Rattle.pfr_fuses.specs.Slots.{slot_at}
 use Rattle.pfr_fuses.specs.declared.fuse_fail.FuseFail.{FuseFail}
 use Rattle.pfr_fuses.specs.declared.profile.Profile.{Profile}
 use Rattle.pfr_fuses.specs.declared.profile.Profile.TheVariants as profile
 use Rattle.pfr_fuses.specs.declared.root_slot.RootSlot.{RootSlot}
-use Rattle.pfr_fuses.proofs.MigrationLemmas.{migration-part, first_holds}
-use Rattle.pfr_fuses.proofs.StandsLemmas.{fuses_of-ok, fuses_of-stands}
 use Rattle.pfr_manifest.specs.Regions.{IsRegion}
 use Rattle.pfr_capsule.specs.CapsuleState.{CapsuleState}
 use Rattle.pfr_capsule.specs.Good.{IsGood, StandForBank}
@@ -46,11 +39,12 @@ use Rattle.pfr_recoverable.specs.Recoverable.{HasGoodRecovery}
 use Rattle.pfr_recoverable.proofs.BoundLaw.{apart}
 use Rattle.pfr_recoverable.proofs.RaiseLaw.{chain_free}
 use Rattle.pfr_recoverable.proofs.StaysLaw.{recovery_left, fuses_one}
-use Rattle.pfr_story.specs.Story.{Story, Does, Asks, after, operated, image_at, device_of, all_do, called}
-use Rattle.pfr_story.specs.Safety.{Rule, AllSafe}
+use Rattle.pfr_story.specs.Story.{Story, Does, operated, device_of, called}
+use Rattle.pfr_story.specs.Safety.{AllSafe}
 use Rattle.pfr_story.specs.Plans.{mine, store, migration_by, migration_in}
 use Rattle.pfr_story.specs.Recovery.{LeavesTrue}
-use Rattle.pfr_story.proofs.CallLaws.{image_operated}
+use Rattle.pfr_story.proofs.SafetyLaws.{image_operated, image_did, store_operated, mine_operated, called_safe}
+use Rattle.pfr_story.proofs.FuseLaws.{part_holds}
 
 -- a good capsule stands in the bank's recovery area
 abbrev pub GoodRecovery : Acceptance → Bank → List ℕ → List ℕ → Type 0
@@ -116,10 +110,6 @@ module _ (kind : JobKind) (image : List ℕ) (capsule : CapsuleState) (layout : 
   job_leaves = strokes_leave (active_pages kind image capsule layout) (λ n there. ((pages_are (is_active_page kind image capsule layout) (length image / 4096)).only n there).1)
 
 -- ---- as moves
-store_operated : (b : Bank) (op : Operation) (story : Story) → store (operated (device_of b) op story) ≡ store story
-store_operated bank.Bmc op story = refl
-store_operated bank.Pch op story = refl
-
 module _ (accepts : Acceptance) (b : Bank) (layout : Layout) where
   -- the layout is that of the store's provision, and the bank has whole blocks
   pub record IsPlaced (story : Story) : Type 0 where
@@ -182,47 +172,10 @@ module _ (accepts : Acceptance) (b : Bank) (image nv later : List ℕ) where
 abbrev pub SaysFuses : FusesState → List ℕ → Type 0
 SaysFuses fuses nv = fuses_of nv ≡ Ok (record fuses { profile = profile_of nv })
 
-module _ (nv : List ℕ) (small : AreBytes nv) where
-  floor_small : (b : Bank) → AreBytes (floor_fuses nv b)
-  unfolding floor_fuses
-  floor_small b = AreBytes-continued (bytes_at nv (floor_at (profile_of nv) b) (floor_width (profile_of nv))) 16 (AreBytes-bytes_at nv (floor_at (profile_of nv) b) (floor_width (profile_of nv)) small)
-
-  row_small : (type : ContentType) → AreBytes (row_fuses nv type)
-  unfolding row_fuses
-  row_small type = AreBytes-continued (bytes_at nv (row_at (profile_of nv) type) (row_width (profile_of nv))) 32 (AreBytes-bytes_at nv (row_at (profile_of nv) type) (row_width (profile_of nv)) small)
-
-  with_small : (slot : List ℕ) → AreBytes (migrated (fuses_with nv slot))
-  with_small slot =
-      AreBytes-append _ _ (floor_small bank.Bmc)
-      (AreBytes-append _ _ (floor_small bank.Pch) (AreBytes-append _ _ (row_small _) (AreBytes-append _ _ (row_small _) (AreBytes-append _ _ (row_small _) (row_small _)))))
-
-floor_long : (nv : List ℕ) (b : Bank) → length (floor_fuses nv b) ≡ 16
-unfolding floor_fuses
-floor_long nv b = length-continued (bytes_at nv (floor_at (profile_of nv) b) (floor_width (profile_of nv))) 16
-
-row_long : (nv : List ℕ) (type : ContentType) → length (row_fuses nv type) ≡ 32
-unfolding row_fuses
-row_long nv type = length-continued (bytes_at nv (row_at (profile_of nv) type) (row_width (profile_of nv))) 32
-
-with_rows : (nv slot : List ℕ) → AreRows (fuses_with nv slot)
-with_rows nv slot = record {
-  bmc_floor = floor_long nv bank.Bmc;
-  pch_floor = floor_long nv bank.Pch;
-  pch_manifest = row_long nv _;
-  pch_capsule = row_long nv _;
-  bmc_manifest = row_long nv _;
-  bmc_capsule = row_long nv _;
-}
-
 -- Whatever is done of a migration, the store says the same fuses.
 pub migration_says : (nv : List ℕ) (fuses : FusesState) (added : List Operation) → length nv ≡ 32768 → AreBytes nv → fuses_of nv ≡ Ok fuses → fuses.profile ≡ profile.One → IsPart nv (migration fuses) added
     → SaysFuses fuses (play nv added)
-migration_says nv fuses added size small was one part =
-    let stands : Stands nv fuses = fuses_of-stands nv fuses size was in
-    let found = fuses_of-ok nv fuses was in
-    let rows : AreRows fuses = subst (λ (kept : FusesState). AreRows kept) (sym found.2) (with_rows nv (slot_at nv found.0)) in
-    let all : AreBytes (migrated fuses) = subst (λ (kept : FusesState). AreBytes (migrated kept)) (sym found.2) (with_small nv small (slot_at nv found.0)) in
-    (migration-part nv fuses size (sym stands.profile ∙ one) rows (λ i below. all i) (first_holds nv fuses stands) added part).says was
+migration_says nv fuses added size small was one part = (part_holds nv fuses added size small was one part).says was
 
 same_floor : (fuses : FusesState) (p q : Profile) (b : Bank) → floor_of (record fuses { profile = p }) b ≡ floor_of (record fuses { profile = q }) b
 same_floor fuses p q bank.Bmc = refl
@@ -248,37 +201,16 @@ recovery_says accepts b image nv later fuses before behind r =
     let same : r.fuses ≡ record fuses { profile = profile_of nv } = fuses_one nv r.fuses (record fuses { profile = profile_of nv }) r.provisioned before in
     recovery_still accepts b image nv later r (subst (λ (kept : FusesState). StandForBank later kept b) (sym same) (says_stand fuses (profile_of nv) b later behind))
 
--- ---- calls that keep something
--- A call is safe where the rule lets each operation through that leads from where Q holds to where it does: Q holds after each part.
-pub between_safe : (G : Rule) (which : Device) (Q : Story → Type 0) → ((op : Operation) (story : Story) → Q story → Q (operated which op story) → G (Does which op) story)
-    → ((story : Story) → G (Asks which) story) → (plan : List Operation) (story : Story)
-    → ((added : List Operation) → IsPart (image_at which story) plan added → Q (after (all_do which added) story)) → AllSafe G (called which plan) story
-between_safe G which Q does asks [] story parts = (asks story, tt)
-between_safe G which Q does asks (next ∷ plan) story parts =
-    let here : Q story = parts [] tt in (
-      (does next story here (parts (next ∷ []) (inl (refl, tt))), λ done t. does done story here (parts (done ∷ []) (inr (t, refl)))),
-      between_safe G which Q does asks plan (operated which next story)
-          (λ added part. parts (next ∷ added) (inl (refl, subst (λ (image : List ℕ). IsPart image plan added) (image_operated which next story) part))),
-    )
-
-image_done : (which : Device) (ops : List Operation) (story : Story) → image_at which (after (all_do which ops) story) ≡ play (image_at which story) ops
-image_done which [] story = refl
-image_done which (op ∷ ops) story = image_done which ops (operated which op story) ∙ ap (λ (image : List ℕ). play image ops) (image_operated which op story)
-
-mine_kept : (b : Bank) (op : Operation) (story : Story) → mine b (operated device.Nv op story) ≡ mine b story
-mine_kept bank.Bmc op story = refl
-mine_kept bank.Pch op story = refl
-
 module _ (accepts : Acceptance) (b : Bank) (story : Story) (size : length (store story) ≡ 32768) (small : AreBytes (store story)) where
   store_keeps : (fuses : FusesState) (op : Operation) (here : Story) → SaysFuses fuses (store here) → SaysFuses fuses (store (operated device.Nv op here)) → LeavesTrue (GoodRecovery accepts b) b (Does device.Nv op) here
   store_keeps fuses op here before behind r =
-      subst (λ (image : List ℕ). HasGoodRecovery b image (store (operated device.Nv op here)) accepts) (sym (mine_kept b op here))
+      subst (λ (image : List ℕ). HasGoodRecovery b image (store (operated device.Nv op here)) accepts) (sym (mine_operated b op here))
       (recovery_says accepts b (mine b here) (store here) (store (operated device.Nv op here)) fuses before behind r)
 
   profile_safe : (fuses : FusesState) (p : Profile) → fuses_of (store story) ≡ Ok fuses → fuses.profile ≡ p → AllSafe (LeavesTrue (GoodRecovery accepts b) b) (called device.Nv (migration_by p fuses)) story
   profile_safe fuses profile.One was one =
-      between_safe (LeavesTrue (GoodRecovery accepts b) b) device.Nv (λ here. SaysFuses fuses (store here)) (λ op here before behind. store_keeps fuses op here before behind) (λ here. tt) (migration fuses) story
-      (λ added part. subst (λ (nv : List ℕ). SaysFuses fuses nv) (sym (image_done device.Nv added story)) (migration_says (store story) fuses added size small was one part))
+      called_safe (LeavesTrue (GoodRecovery accepts b) b) device.Nv (λ here. SaysFuses fuses (store here)) (λ op here before behind. store_keeps fuses op here before behind) (λ here. tt) (migration fuses) story
+      (λ added part. subst (λ (nv : List ℕ). SaysFuses fuses nv) (sym (image_did device.Nv added story)) (migration_says (store story) fuses added size small was one part))
   profile_safe fuses profile.Two was two = (tt, tt)
 
   -- At each cut of a migration a good recovery area is good.

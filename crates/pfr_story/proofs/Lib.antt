@@ -2,8 +2,8 @@ pub mod WorldLaws
 pub mod Sequence
 pub mod Lift
 pub mod SafetyLaws
-pub mod CallLaws
 pub mod RestoreLaws
+pub mod BringRules
 pub mod Courses
 pub mod Traces
 pub mod StepTraces
@@ -11,7 +11,6 @@ pub mod Facts
 pub mod Turns
 pub mod NoteLaws
 pub mod Made
-pub mod Noting
 pub mod FaultLaws
 pub mod LossLaws
 pub mod TailLaws
@@ -25,11 +24,11 @@ pub mod MomentLaws
 pub mod RiseLaws
 pub mod KeepLaws
 pub mod RecoveryLaws
-pub mod StepRules
 pub mod FuseLaws
 pub mod StoreLaws
 pub mod EventLaws
 pub mod ProvisionLaws
 pub mod GrowthLaws
+pub mod ContentsLaws
 pub mod RunLaws
 pub mod KeepingLaws

@@ -27,7 +27,7 @@ use Rattle.pfr_strokes.specs.declared.side.CopyFail.TheVariants as fails
 use Rattle.pfr_strokes.proofs.PassesLemmas.{Did-ops, by_side, called_did, called_stopped}
 use Rattle.pfr_report.specs.declared.note.What.{What}
 use Rattle.pfr_story.specs.Guards.{guards_after}
-use Rattle.pfr_story.specs.Story.{Story, Move, Says, Does, after, operated, image_at, device_of, counts_of, called, FailedAt, asking, unbegun, torn, IsCut}
+use Rattle.pfr_story.specs.Story.{Story, Move, Says, Does, after, operated, image_at, device_of, other_bank, counts_of, called, FailedAt, asking, unbegun, torn, IsCut}
 use Rattle.pfr_story.specs.Deeds.{device_at, deed_move, deed_moves}
 use Rattle.pfr_story.specs.World.{World, story_of, state_at, AllMoved, NoneFailed, NoneLost, Caused}
 use Rattle.pfr_story.specs.Goes.{Ran, Stopped, Goes}
@@ -95,10 +95,6 @@ pass_cut b s deeds trace story cut = record {
 }
 
 -- ---- a bank's device and the store work, and all else stays
-abbrev pub other_bank : Bank → Bank
-other_bank bank.Bmc = bank.Pch
-other_bank bank.Pch = bank.Bmc
-
 pub record OnlyBoth (b : Bank) (old new : World) : Type 0 where
   pub other : state_at (device_of (other_bank b)) new ≡ state_at (device_of (other_bank b)) old
   pub item : new.item ≡ old.item

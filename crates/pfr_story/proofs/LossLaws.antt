@@ -14,36 +14,31 @@ use Rattle.pfr_report.specs.Texts.{IsNoted}
 use Rattle.pfr_report.specs.declared.note.Note.{Note}
 use Rattle.pfr_report.specs.declared.note.What.{What}
 use Rattle.pfr_report.specs.declared.note.What.TheVariants as what
-use Rattle.pfr_story.specs.Story.{Story, Move, Says, Does, Asks, after, noted, operated, counts_of}
+use Rattle.pfr_story.specs.Story.{Story, Move, Says, after, noted, counts_of}
 use Rattle.pfr_story.specs.World.{World, story_of, state_at, NoneLost, LostAt, added}
 use Rattle.pfr_story.specs.Goes.{Ran}
 use Rattle.pfr_story.specs.Safety.{AllMake}
-use Rattle.pfr_story.specs.Course.{Stretch, goes_on_if, Steps, Course, Follows}
+use Rattle.pfr_story.specs.Course.{Stretch, Steps, Course, Follows}
 use Rattle.pfr_story.specs.Standing.{standing_of, standing_from, standing_after, is_off, Standing, Off}
 use Rattle.pfr_story.specs.Plans.{brought_up, migrated, provisioned}
 use Rattle.pfr_story.specs.Turn.{bank_stretch, fuse_stretch, provision_stretch, where_off, ignored, off_course, power_course, provision_course, begun, Turn}
 use Rattle.pfr_story.specs.Promises.{HasLost, LossesAreNoted, IsLast, LostEnds, IsSwitchedOff, NotesOff}
 use Rattle.pfr_story.proofs.WorldLaws.{NoneLost-trans, NoneLost-at, LostAt-later, LostAt-on, each_at}
 use Rattle.pfr_story.proofs.Sequence.{after-append}
-use Rattle.pfr_story.proofs.CallLaws.{AllMake-append, AllMake-more, cut_makes}
+use Rattle.pfr_story.proofs.SafetyLaws.{AllMake-append, AllMake-more, cut_makes}
+use Rattle.pfr_story.proofs.Courses.{went_on}
 use Rattle.pfr_story.proofs.Traces.{noted_append, noted_right}
-use Rattle.pfr_story.proofs.Made.{said, said_append, Made, made_then, added_said}
-use Rattle.pfr_story.proofs.Facts.{IsOwn, IsLoss, IsNoLoss, brought_makes}
+use Rattle.pfr_story.proofs.Made.{said, said_append, Made, made_then, added_said, Whichever, said_all}
+use Rattle.pfr_story.proofs.BringRules.{IsOwn}
+use Rattle.pfr_story.proofs.Facts.{IsLoss, IsNoLoss, brought_makes}
 use Rattle.pfr_story.proofs.Turns.{step_of, Turn-known, IsStore, migrated_makes, provisioned_makes}
 
 -- ---- moves that note no loss
-abbrev pub Each : Device → Type 0
-Each which = Unit {0}
-
 abbrev pub AllQuiet : List Move → Type 0
-AllQuiet moves = AllMake Each IsNoLoss moves
+AllQuiet moves = AllMake Whichever IsNoLoss moves
 
 no_loss : (that : What) → IsLoss that → (moves : List Move) (story : Story) → AllQuiet moves → ¬ IsNoted (said moves story) that
-no_loss that loss [] story q n = n
-no_loss that loss (Says w ∷ moves) story q (inl e) = q.0 (counts_of story) (subst IsLoss (sym e) loss)
-no_loss that loss (Says w ∷ moves) story q (inr n) = no_loss that loss moves (noted w story) q.1 n
-no_loss that loss (Does which op ∷ moves) story q n = no_loss that loss moves (operated which op story) q.1 n
-no_loss that loss (Asks which ∷ moves) story q n = no_loss that loss moves story q.1 n
+no_loss that loss moves story q n = said_all (λ (w : What). ¬ IsLoss w) moves story q that n loss
 
 -- what a stretch does, and notes at a fault
 pub record IsQuietStretch (s : Stretch) : Type 0 where
@@ -73,7 +68,7 @@ pub record EndsLost (old new : World) : Type 0 where
   pub is : story_of new ≡ noted (what.Lost device) (after front (story_of old))
 
 quiet_then : (a b c : World) → GoesQuiet a b → GoesQuiet b c → GoesQuiet a c
-quiet_then a b c p q = record { made = made_then a b c p.made q.made; quiet = AllMake-append Each IsNoLoss p.made.trace q.made.trace p.quiet q.quiet; none = NoneLost-trans a b c p.none q.none }
+quiet_then a b c p q = record { made = made_then a b c p.made q.made; quiet = AllMake-append Whichever IsNoLoss p.made.trace q.made.trace p.quiet q.quiet; none = NoneLost-trans a b c p.none q.none }
 
 counted_later : (device : Option Device) (a b c : World) → NoneLost a b → IsCounted device b c → IsCounted device a c
 counted_later (Some which) a b c n l = LostAt-later which a b c n l
@@ -84,7 +79,7 @@ lost_then a b c p q = record {
   device = q.device;
   counted = counted_later q.device a b c p.none q.counted;
   front = p.made.trace ++ q.front;
-  quiet = AllMake-append Each IsNoLoss p.made.trace q.front p.quiet q.quiet;
+  quiet = AllMake-append Whichever IsNoLoss p.made.trace q.front p.quiet q.quiet;
   is = q.is ∙ ap (λ (s : Story). noted (what.Lost q.device) (after q.front s)) p.made.is ∙ sym (ap (λ (s : Story). noted (what.Lost q.device) s) (after-append p.made.trace q.front (story_of a)));
 }
 
@@ -98,20 +93,16 @@ ends_then a b c p (inr l) = inr (lost_then a b c p l)
 quiet_ran : (moves : List Move) (old new : World) → Ran moves old new → AllQuiet moves → GoesQuiet old new
 quiet_ran moves old new r q = record { made = record { trace = moves; is = r.is }; quiet = q; none = r.none_lost }
 
-ends_on : (on : Bool) (steps : World → World → Type 0) (mid new : World) → (steps mid new → EndsSo mid new) → goes_on_if on steps mid new → EndsSo mid new
-ends_on true steps mid new f r = f r
-ends_on false steps mid new f r = inl (quiet_ran [] mid new r tt)
-
 pub Steps-losses : (ss : List Stretch) (old new : World) → AreQuiet ss → Steps ss old new → EndsSo old new
 Steps-losses [] old new q p = inl (quiet_ran [] old new p tt)
 Steps-losses (s ∷ ss) old new q (inl (mid, c, rest)) = ends_then old mid new (quiet_ran (s.plan (story_of old)) old mid c (q.0.plan (story_of old))) (Steps-losses ss mid new q.1 rest)
 Steps-losses (s ∷ ss) old new q (inr (inl (mid, f, rest))) =
-    let cut = cut_makes Each IsNoLoss f.which (s.plan (story_of old)) f.stopped.trace (story_of old) (q.0.plan (story_of old)) f.stopped.cut in
+    let cut = cut_makes Whichever IsNoLoss f.which (s.plan (story_of old)) f.stopped.trace (story_of old) (q.0.plan (story_of old)) f.stopped.cut in
     let stopped : GoesQuiet old f.at = record { made = record { trace = f.stopped.trace; is = f.stopped.is }; quiet = cut.1; none = f.stopped.cause.1 } in
     ends_then old mid new (quiet_then old f.at mid stopped (quiet_ran (s.on_fault f.which) f.at mid f.noted (q.0.noted f.which)))
-    (ends_on s.goes_on (Steps ss) mid new (λ r. Steps-losses ss mid new q.1 r) rest)
+    (went_on s.goes_on (Steps ss) mid new (EndsSo mid new) (λ e r. Steps-losses ss mid new q.1 r) (λ r. inl (quiet_ran [] mid new r tt)) rest)
 Steps-losses (s ∷ ss) old new q (inr (inr l)) =
-    let cut = cut_makes Each IsNoLoss l.which (s.plan (story_of old)) l.stopped.trace (story_of old) (q.0.plan (story_of old)) l.stopped.cut in
+    let cut = cut_makes Whichever IsNoLoss l.which (s.plan (story_of old)) l.stopped.trace (story_of old) (q.0.plan (story_of old)) l.stopped.cut in
     inr (record {
       device = Some l.which;
       counted = LostAt-on l.which old l.at new l.stopped.cause.0 l.noted.none_lost;
@@ -123,19 +114,19 @@ Steps-losses (s ∷ ss) old new q (inr (inr l)) =
 -- ---- by event
 bank_quiet : (accepts : Acceptance) (b : Bank) → IsQuietStretch (bank_stretch accepts b)
 bank_quiet accepts b = record {
-  plan = λ story. AllMake-more (IsOwn b) Each IsNoLoss (λ which own. tt) (brought_up accepts b story) (brought_makes accepts b story);
+  plan = λ story. AllMake-more (IsOwn b) Whichever IsNoLoss (λ which own. tt) (brought_up accepts b story) (brought_makes accepts b story);
   noted = λ which. ((λ at loss. loss), tt);
 }
 
 fuses_quiet : IsQuietStretch fuse_stretch
 fuses_quiet = record {
-  plan = λ story. AllMake-more IsStore Each IsNoLoss (λ which own. tt) (migrated story) (migrated_makes story);
+  plan = λ story. AllMake-more IsStore Whichever IsNoLoss (λ which own. tt) (migrated story) (migrated_makes story);
   noted = λ which. ((λ at loss. loss), ((λ at loss. loss), ((λ at loss. loss), ((λ at loss. loss), tt))));
 }
 
 provision_quiet : (root : RootSlot) → IsQuietStretch (provision_stretch root)
 provision_quiet root = record {
-  plan = λ story. AllMake-more IsStore Each IsNoLoss (λ which own. tt) (provisioned root story) (provisioned_makes root story);
+  plan = λ story. AllMake-more IsStore Whichever IsNoLoss (λ which own. tt) (provisioned root story) (provisioned_makes root story);
   noted = λ which. ((λ at loss. loss), ((λ at loss. loss), tt));
 }
 
@@ -150,7 +141,7 @@ try_ends : (root : RootSlot) (off : Bool) (old new : World) → Follows (where_o
 try_ends root true old new t = along ignored old new ((λ at loss. loss), tt) tt t
 try_ends root false old new t = along (provision_course root) old new tt (provision_quiet root, tt) t
 
--- Each step is without a loss, or ends with one.
+-- Whichever step is without a loss, or ends with one.
 pub Turn-ends : (accepts : Acceptance) (e : Event) (old new : World) → Turn accepts e old new → EndsSo (begun old) new
 Turn-ends accepts event.Power old new t = along (power_course accepts) (begun old) new ((λ at loss. loss), tt) (fuses_quiet, (bank_quiet accepts bank.Bmc, (bank_quiet accepts bank.Pch, tt))) t
 Turn-ends accepts event.Off old new t = off_ends (is_off (standing_of bank.Bmc old.notes.list)) (begun old) new t

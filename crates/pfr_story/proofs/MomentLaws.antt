@@ -3,31 +3,23 @@ use Rattle.std.proofs.Common.{◌≡◌, ◌∙◌, refl, sym, ap, subst, ℕ, L
 use Rattle.pfr_flash.specs.Operation.{Operation}
 use Rattle.pfr_flash.specs.FlashState.{upto}
 use Rattle.pfr_flash.specs.declared.names.Bank.{Bank}
-use Rattle.pfr_flash.specs.declared.names.Bank.TheVariants as bank
 use Rattle.pfr_flash.specs.declared.names.Counts.{Counts}
 use Rattle.pfr_flash.specs.declared.names.Device.{Device}
 use Rattle.pfr_report.specs.declared.note.Note.{Note}
 use Rattle.pfr_report.specs.declared.note.What.{What}
 use Rattle.pfr_report.specs.declared.note.What.TheVariants as what
-use Rattle.pfr_story.specs.Story.{Story, Move, Says, Does, Asks, after, moved_by, noted, operated, counts_of, device_of, called}
-use Rattle.pfr_story.specs.World.{World, story_of, state_at, counts_in, added}
+use Rattle.pfr_story.specs.Story.{Story, Move, Says, Does, Asks, after, noted, operated, counts_of, device_of, called}
+use Rattle.pfr_story.specs.World.{World, story_of, counts_in, added}
 use Rattle.pfr_story.specs.Safety.{Rule, AllGood, AllSafe}
 use Rattle.pfr_story.specs.Plans.{mine, store}
-use Rattle.pfr_story.specs.Promises.{count_at, AtCounts}
+use Rattle.pfr_story.specs.Promises.{AtCounts}
 use Rattle.pfr_story.specs.Recovery.{HoldsIn, LeavesTrue, moments_with, moments_of, StaysAlong}
-use Rattle.pfr_story.proofs.CallLaws.{image_noted}
-use Rattle.pfr_story.proofs.Traces.{Traced, Precedes, Precedes-refl, Precedes-move, upto_begins}
+use Rattle.pfr_story.proofs.SafetyLaws.{image_noted}
+use Rattle.pfr_story.proofs.Traces.{IsStamped, Traced, Precedes, Precedes-refl, Precedes-after, upto_begins}
+use Rattle.pfr_story.proofs.NoteLaws.{bank_then, at_moment}
 use Rattle.pfr_story.proofs.Made.{Made, made_then, said, added_said}
 
 -- ---- the rule
--- a note that carries counts carries those of its moment
-abbrev pub IsStamped : What → Counts → Type 0
-IsStamped (what.Held b at) now = at ≡ now
-IsStamped (what.Released b svn at) now = at ≡ now
-IsStamped (what.Locked b why at) now = at ≡ now
-IsStamped (what.Lost device at) now = at ≡ now
-IsStamped that now = Unit {0}
-
 -- each operation leaves R true of the bank, where it was, and each note is stamped
 abbrev pub StaysTrue : (List ℕ → List ℕ → Type 0) → Bank → Rule
 StaysTrue R b (Says w) story = IsStamped (w (counts_of story)) (counts_of story)
@@ -40,26 +32,17 @@ call_stays R b which [] story safe = (tt, tt)
 call_stays R b which (op ∷ ops) story safe = (safe.0, call_stays R b which ops (operated which op story) safe.1)
 
 -- ---- moments
-pub Precedes-after : (trace : List Move) (a b : Story) → Precedes a b → Precedes a (after trace b)
-Precedes-after [] a b p = p
-Precedes-after (move ∷ trace) a b p = Precedes-after trace a (moved_by move b) (Precedes-move a b move p)
-
 precedes_end : (trace : List Move) (story last : Story) → last ≡ after trace story → Precedes story last
-precedes_end trace story last is = subst (λ (s : Story). Precedes story s) (sym is) (Precedes-after trace story story (Precedes-refl story))
-
-bank_held : (b : Bank) (at : Story) (new : World) → Precedes at (story_of new) → upto (state_at (device_of b) new) (count_at b (counts_of at)) ≡ mine b at
-bank_held bank.Bmc at new p = upto_begins at.bmc (story_of new).bmc p.bmc
-bank_held bank.Pch at new p = upto_begins at.pch (story_of new).pch p.pch
+precedes_end trace story last is = subst (λ (s : Story). Precedes story s) (sym is) (Precedes-after story story trace (Precedes-refl story))
 
 -- what is true at a moment is true at its counts, and the other way round
 module _ (R : List ℕ → List ℕ → Type 0) (b : Bank) (new : World) where
   pub to_counts : (at : Story) → Precedes at (story_of new) → HoldsIn R b at → AtCounts R b (counts_of at) new
-  to_counts at p h =
-      subst (λ (image : List ℕ). R image (upto new.nv (counts_of at).nv)) (sym (bank_held b at new p)) (subst (λ (nv : List ℕ). R (mine b at) nv) (sym (upto_begins at.nv (story_of new).nv p.nv)) h)
+  to_counts at p h = at_moment R b at (counts_of at) new refl p h
 
   pub from_counts : (at : Story) → Precedes at (story_of new) → AtCounts R b (counts_of at) new → HoldsIn R b at
   from_counts at p h =
-      subst (λ (nv : List ℕ). R (mine b at) nv) (upto_begins at.nv (story_of new).nv p.nv) (subst (λ (image : List ℕ). R image (upto new.nv (counts_of at).nv)) (bank_held b at new p) h)
+      subst (λ (nv : List ℕ). R (mine b at) nv) (upto_begins at.nv (story_of new).nv p.nv) (subst (λ (image : List ℕ). R image (upto new.nv (counts_of at).nv)) (bank_then b at new p) h)
 
   -- ---- along a trace
   abbrev pub TrueAt : Counts → Type 0

@@ -22,7 +22,7 @@ use Rattle.pfr_story.proofs.Facts.{Setting, LockFact}
 use Rattle.pfr_story.proofs.Turns.{step_of, Turn-known, Turn-since}
 
 -- ---- what was held at a moment, by the counts then
-bank_then : (which : Bank) (at : Story) (new : World) → Precedes at (story_of new) → upto (state_at (device_of which) new) (count_at which (counts_of at)) ≡ mine which at
+pub bank_then : (which : Bank) (at : Story) (new : World) → Precedes at (story_of new) → upto (state_at (device_of which) new) (count_at which (counts_of at)) ≡ mine which at
 bank_then bank.Bmc at new p = upto_begins at.bmc (story_of new).bmc p.bmc
 bank_then bank.Pch at new p = upto_begins at.pch (story_of new).pch p.pch
 

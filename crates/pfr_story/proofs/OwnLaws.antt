@@ -1,49 +1,28 @@
 -- All that is noted of a bank behind Held, where no call fails, has its cause in the contents then.
-use Rattle.std.proofs.Common.{◌≡◌, refl, sym, subst, List, [], ◌∷◌, ◌++◌, length, ◌⊎◌, inl, inr, Result, Ok, Err}
+use Rattle.std.proofs.Common.{◌≡◌, refl, sym, subst, List, [], ◌∷◌, ◌++◌, ◌⊎◌, inl, inr, Result, Ok, Err}
 use Rattle.pfr_flash.specs.Bytes.{AreBytes}
-use Rattle.pfr_flash.specs.Judging.{◌>>◌, told_as}
-use Rattle.pfr_flash.specs.Layout.{judge_layout}
 use Rattle.pfr_flash.specs.Operation.{Operation}
-use Rattle.pfr_flash.specs.declared.layout.LayoutRule.{LayoutRule}
 use Rattle.pfr_flash.specs.declared.names.Bank.{Bank}
 use Rattle.pfr_flash.specs.declared.names.Counts.{Counts}
-use Rattle.pfr_flash.proofs.LayoutLemmas.{judged_valid}
 use Rattle.pfr_engine.specs.Acceptance.{Acceptance}
 use Rattle.pfr_fuses.specs.FusesState.{FusesState}
-use Rattle.pfr_fuses.specs.FusesOf.{fuses_of}
 use Rattle.pfr_fuses.specs.RootSlot.{layout_of}
-use Rattle.pfr_fuses.specs.declared.fuse_fail.FuseFail.{FuseFail}
 use Rattle.pfr_manifest.specs.declared.manifest.Manifest.{Manifest}
 use Rattle.pfr_capsule.specs.CapsuleState.{CapsuleState}
 use Rattle.pfr_capsule.specs.declared.fail.CapsuleFail.{CapsuleFail}
 use Rattle.pfr_auth.specs.declared.fail.ActiveFail.{ActiveFail}
 use Rattle.pfr_report.specs.Texts.{IsNoted}
 use Rattle.pfr_report.specs.declared.note.LockWhy.{LockWhy}
-use Rattle.pfr_report.specs.declared.note.LockWhy.TheVariants as why
 use Rattle.pfr_report.specs.declared.note.What.{What}
 use Rattle.pfr_report.specs.declared.note.What.TheVariants as what
 use Rattle.pfr_story.specs.Story.{Story, Says, after, noted, counts_of, device_of, called}
-use Rattle.pfr_story.specs.Plans.{mine, store, ready_in, ready_of, judged_active, judged_recovery, restore_ops, restored, by_second, checked_again, by_recovery, by_active, by_ready}
+use Rattle.pfr_story.specs.Plans.{mine, store, ready_of, judged_active, judged_recovery, restore_ops, restored, by_second, checked_again, by_recovery, by_active, by_ready}
 use Rattle.pfr_story.specs.Causes.{IsAgainst, IsRestorable}
-use Rattle.pfr_story.proofs.CallLaws.{AllMake-append, AllMake-called}
-use Rattle.pfr_story.proofs.Facts.{IsReady, not_trusted, good_recovery}
-use Rattle.pfr_story.proofs.Made.{said}
-use Rattle.pfr_story.proofs.Noting.{Whichever, AllSay, said_all}
+use Rattle.pfr_story.proofs.BringRules.{IsReady, ready_found}
+use Rattle.pfr_story.proofs.SafetyLaws.{AllMake-append, AllMake-called}
+use Rattle.pfr_story.proofs.Facts.{not_trusted, good_recovery}
+use Rattle.pfr_story.proofs.Made.{said, Whichever, AllSay, said_all}
 use Rattle.pfr_story.proofs.TailLaws.{behind, judged_told, tail_restored}
-
--- ---- the fuses by which it is checked
-ready_by_layout : (b : Bank) (fuses found : FusesState) (story : Story) (judged : Result (Unit {0}) LayoutRule) → fuses_of (store story) ≡ Ok found
-    → judge_layout (layout_of found.provision b) (length (mine b story)) ≡ judged → (told_as (λ rule. why.Layout rule) judged >> Ok found) ≡ Ok fuses → IsReady b fuses story
-ready_by_layout b fuses found story (Ok valid) f l e =
-    let same : found ≡ fuses = cc in subst (λ (x : FusesState). IsReady b x story) same (record { provisioned = f; layout = judged_valid _ _ l })
-ready_by_layout b fuses found story (Err rule) f l e = absurd cc
-
-ready_by_read : (b : Bank) (fuses : FusesState) (story : Story) (read : Result FusesState FuseFail) → fuses_of (store story) ≡ read → ready_in b (length (mine b story)) read ≡ Ok fuses → IsReady b fuses story
-ready_by_read b fuses story (Ok found) f e = ready_by_layout b fuses found story (judge_layout (layout_of found.provision b) (length (mine b story))) f refl e
-ready_by_read b fuses story (Err cause) f e = absurd cc
-
-ready_found : (b : Bank) (fuses : FusesState) (story : Story) → ready_of b story ≡ Ok fuses → IsReady b fuses story
-ready_found b fuses story e = ready_by_read b fuses story (fuses_of (store story)) refl e
 
 -- ---- what is noted
 module _ (accepts : Acceptance) (b : Bank) (story : Story) where

@@ -37,12 +37,11 @@ use Rattle.pfr_story.specs.Standing.{standing_of, is_off}
 use Rattle.pfr_story.specs.Turn.{provision_stretch, ignored, provision_course, where_off, begun, Turn}
 use Rattle.pfr_story.specs.Promises.{AreOff, IsKnownSlot, IsUntroubled, sizes_judged, TriesProvision, ProvisionsSo}
 use Rattle.pfr_story.proofs.Sequence.{after-append}
-use Rattle.pfr_story.proofs.SafetyLaws.{AllSafe-append}
-use Rattle.pfr_story.proofs.CallLaws.{called_safe}
+use Rattle.pfr_story.proofs.SafetyLaws.{AllSafe-append, with_all, past_called, called_any}
 use Rattle.pfr_story.proofs.Traces.{Begins, Traced-known, noted_right}
 use Rattle.pfr_story.proofs.Made.{Made, said, said_append, added_said}
-use Rattle.pfr_story.proofs.StepRules.{AllowsBanks, provision_traced}
-use Rattle.pfr_story.proofs.StoreLaws.{Stored, with_all, nv_called, judged_here, operations_in, Turn-stored}
+use Rattle.pfr_story.proofs.StepTraces.{AllowsBanks, provision_traced}
+use Rattle.pfr_story.proofs.StoreLaws.{Stored, judged_here, operations_in, Turn-stored}
 use Rattle.pfr_story.proofs.EventLaws.{outcome_of}
 
 -- ---- a store where the plan was done is provisioned so
@@ -59,7 +58,7 @@ one_slot nv a b p q = elim (cases_lt a b) [
   | inr more ↦ elim (cases_lt b a) [ inl less ↦ absurd (p.first b less q.gate) | inr same ↦ omega (arith, more, same) ]
 ]
 
-provisioned_so : (nv : List ℕ) (root : RootSlot) (m n number : ℕ) → length nv ≡ 32768 → IsSlot root → judge_provision nv root m n ≡ Ok number
+pub provisioned_so : (nv : List ℕ) (root : RootSlot) (m n number : ℕ) → length nv ≡ 32768 → IsSlot root → judge_provision nv root m n ≡ Ok number
     → IsProvisionedBy (play nv (provision_plan number root)) number × (provision_in (slot_at (play nv (provision_plan number root)) number) ≡ root)
 unfolding ready
 provisioned_so nv root m n number size slot j =
@@ -106,22 +105,24 @@ module _ (root : RootSlot) (judged : Result ℕ FuseFail) (base : Past) where
   backing_banks : AllowsBanks (Backing root judged base)
   backing_banks = record {
     held = λ b story. tt;
-    released = λ b svn story. tt;
-    locked = λ b cause story. tt;
-    untrusted = λ b cause story. tt;
-    restored = λ b level story. tt;
+    bank = λ b. record {
+      released = λ svn story. tt;
+      locked = λ cause story. tt;
+      untrusted = λ cause story. tt;
+      restored = λ level story. tt;
+      asks = λ which story own. tt;
+      works = λ op story. tt;
+    };
     lost = λ which story. tt;
-    asks = λ which story. tt;
-    works = λ b op story. tt;
   }
 
   provision_backed : (r : Result ℕ FuseFail) (story : Story) → judged ≡ r → story.nv ≡ base → AllSafe (Backing root judged base) (provisioned_in root r story) story
   provision_backed (Ok number) story j e =
       let plan : List Operation = provision_plan number root in
       let call : AllSafe (Backing root judged base) (called device.Nv plan) story =
-      called_safe (Backing root judged base) device.Nv (λ later. Unit {0}) (λ op later q. tt) (λ later. tt) plan story (λ added part. tt) in
+      called_any (Backing root judged base) device.Nv (λ op later. tt) (λ later. tt) plan story in
       let went : WentThrough root judged base (after (called device.Nv plan) story).nv =
-      record { number = number; judged_so = j; store = nv_called plan story ∙ ap (λ (p : Past). with_all p plan) e } in
+      record { number = number; judged_so = j; store = past_called device.Nv plan story ∙ ap (λ (p : Past). with_all p plan) e } in
       AllSafe-append (Backing root judged base) (called device.Nv plan) (Says (λ _. what.Provisioned) ∷ []) story call (went, tt)
   provision_backed (Err cause) story j e = ((cause, j, refl), tt)
 

@@ -13,7 +13,7 @@ use Rattle.pfr_strokes.specs.declared.side.Side.TheVariants as side
 use Rattle.pfr_recoverable.specs.Recoverable.{IsRecoverable}
 use Rattle.pfr_recoverable.proofs.CutLaw.{IsAtWork, work_kept, bank_after, store_after}
 use Rattle.pfr_recoverable.proofs.PassLaw.{IsPassDeed, AllPassDeeds, one_deed, same_current}
-use Rattle.pfr_story.specs.Story.{Story, Says, Does, Asks, moved_by, operated, device_of, called}
+use Rattle.pfr_story.specs.Story.{Story, Says, Does, Asks, moved_by, operated, device_of, other_bank, called}
 use Rattle.pfr_story.specs.Deeds.{deed_move, deed_moves}
 use Rattle.pfr_story.specs.World.{World, story_of}
 use Rattle.pfr_story.specs.Goes.{Goes}
@@ -21,9 +21,9 @@ use Rattle.pfr_story.specs.Safety.{IsSafe, AllSafe, Keeps}
 use Rattle.pfr_story.specs.declared.stop.Stop.{Stop}
 use Rattle.pfr_story.specs.Plans.{mine, store}
 use Rattle.pfr_story.specs.Recovery.{HoldsIn, LeavesTrue, KeepsRecoverable}
-use Rattle.pfr_story.proofs.CallLaws.{image_noted, called_safe}
+use Rattle.pfr_story.proofs.SafetyLaws.{image_noted, called_any}
 use Rattle.pfr_story.proofs.Traces.{Traced, Traced-keeps, Traced-whole, Traced-cut}
-use Rattle.pfr_story.proofs.Lift.{other_bank, image_deeds}
+use Rattle.pfr_story.proofs.Lift.{image_deeds}
 
 -- What is true of a bank's bytes and the store's is left so by a call of the other bank's device.
 other_left : (R : List ℕ → List ℕ → Type 0) (b : Bank) (op : Operation) (story : Story) → HoldsIn R b story → HoldsIn R b (operated (device_of (other_bank b)) op story)
@@ -32,7 +32,7 @@ other_left R bank.Pch op story h = h
 
 pub other_safe : (R : List ℕ → List ℕ → Type 0) (b : Bank) (ops : List Operation) (story : Story) → AllSafe (LeavesTrue R b) (called (device_of (other_bank b)) ops) story
 other_safe R b ops story =
-    called_safe (LeavesTrue R b) (device_of (other_bank b)) (λ later. Unit {0}) (λ op here q. other_left R b op here) (λ here. tt) ops story (λ added part. tt)
+    called_any (LeavesTrue R b) (device_of (other_bank b)) (λ op here. other_left R b op here) (λ here. tt) ops story
 
 -- So it is kept by moves that leave it true.
 pub true_kept : (R : List ℕ → List ℕ → Type 0) (b : Bank) → Keeps (LeavesTrue R b) (HoldsIn R b)

@@ -2,18 +2,15 @@
 use Rattle.std.proofs.Common.{◌≡◌, ◌∙◌, refl, sym, ap, subst, ℕ, ◌%◌, Bool, true, false, List, [], ◌∷◌, length, All, inl, inr, Result, Ok, Err}
 use Rattle.pfr_flash.specs.Bytes.{AreBytes}
 use Rattle.pfr_flash.specs.FlashState.{FlashState, size_of}
-use Rattle.pfr_flash.specs.Judging.{◌>>◌, told_as}
-use Rattle.pfr_flash.specs.Layout.{IsBankSize, IsValidLayout, judge_layout}
+use Rattle.pfr_flash.specs.Layout.{IsBankSize, IsValidLayout}
 use Rattle.pfr_flash.specs.Moved.{Moved}
 use Rattle.pfr_flash.specs.Operation.{Operation}
 use Rattle.pfr_flash.specs.declared.layout.Layout.{Layout}
-use Rattle.pfr_flash.specs.declared.layout.LayoutRule.{LayoutRule}
 use Rattle.pfr_flash.specs.declared.names.Bank.{Bank}
 use Rattle.pfr_flash.specs.declared.names.Bank.TheVariants as bank
 use Rattle.pfr_flash.specs.declared.names.Counts.{Counts}
 use Rattle.pfr_flash.specs.declared.names.Device.TheVariants as device
 use Rattle.pfr_flash.specs.declared.flash.FlashFail.TheVariants.{Fault, Lost as Loses}
-use Rattle.pfr_flash.proofs.LayoutLemmas.{judged_valid}
 use Rattle.pfr_flash.proofs.PlayLemmas.{length-play}
 use Rattle.pfr_engine.specs.Acceptance.{Acceptance}
 use Rattle.pfr_fuses.specs.FusesState.{FusesState}
@@ -25,42 +22,34 @@ use Rattle.pfr_fuses.specs.declared.root_slot.RootSlot.{RootSlot}
 use Rattle.pfr_fuses.proofs.BlankLemmas.{judged-ok}
 use Rattle.pfr_fuses.proofs.StandsLemmas.{fuses_of-ok}
 use Rattle.pfr_manifest.specs.Regions.{IsRegion}
-use Rattle.pfr_manifest.specs.declared.manifest.Manifest.{Manifest}
 use Rattle.pfr_capsule.specs.CapsuleState.{CapsuleState}
-use Rattle.pfr_capsule.specs.Good.{StandForBank}
-use Rattle.pfr_capsule.specs.declared.fail.CapsuleFail.{CapsuleFail}
 use Rattle.pfr_capsule.proofs.GoodFacts.{good_regions}
-use Rattle.pfr_capsule.proofs.GoodLaw.{judged_good}
-use Rattle.pfr_auth.specs.declared.fail.ActiveFail.{ActiveFail}
 use Rattle.pfr_jobs.specs.declared.job.JobKind.TheVariants.{ActiveFromRecovery}
 use Rattle.pfr_recoverable.specs.Recoverable.{HasGoodRecovery}
 use Rattle.pfr_recoverable.proofs.StaysLaw.{fuses_one}
 use Rattle.pfr_script.specs.declared.event.Event.{Event}
 use Rattle.pfr_script.specs.declared.event.Event.TheVariants as event
-use Rattle.pfr_report.specs.declared.note.LockWhy.TheVariants as why
 use Rattle.pfr_report.specs.declared.note.What.{What}
 use Rattle.pfr_report.specs.declared.note.What.TheVariants as what
-use Rattle.pfr_story.specs.Story.{Story, Says, noted, device_of, called, after}
-use Rattle.pfr_story.specs.World.{World, story_of, past_of, AllMoved}
+use Rattle.pfr_story.specs.Story.{Story, Move, Says, noted, device_of, called}
+use Rattle.pfr_story.specs.World.{World, story_of, AllMoved}
 use Rattle.pfr_story.specs.Safety.{Rule, AllGood, AllSafe}
-use Rattle.pfr_story.specs.Course.{Stretch, Course, Steps, Follows}
+use Rattle.pfr_story.specs.Course.{Stretch, Steps, Follows}
 use Rattle.pfr_story.specs.Standing.{standing_of, is_off}
-use Rattle.pfr_story.specs.Plans.{mine, store, ready_in, judged_active, judged_recovery, restore_ops, copied, restored, by_second, checked_again, by_recovery, by_active, by_ready, brought_up, migrated, provisioned, provisioned_in}
+use Rattle.pfr_story.specs.Plans.{mine, store, judged_recovery, restore_ops, copied, brought_up, migrated, provisioned, provisioned_in}
 use Rattle.pfr_story.specs.Turn.{bank_stretch, fuse_stretch, provision_stretch, where_off, ignored, power_course, off_course, provision_course, begun, Turn}
 use Rattle.pfr_story.specs.Recovery.{HoldsIn, LeavesTrue, StaysRecoverable}
-use Rattle.pfr_story.proofs.WorldLaws.{AllMoved-refl, AllMoved-trans}
-use Rattle.pfr_story.proofs.SafetyLaws.{AllSafe-append}
-use Rattle.pfr_story.proofs.CallLaws.{image_noted, called_safe}
-use Rattle.pfr_story.proofs.Courses.{Steps-moved}
-use Rattle.pfr_story.proofs.Traces.{Traced, Traced-then, Traced-ran, Traced-whole, Traced-cut, Begins, AreImages}
-use Rattle.pfr_story.proofs.StepTraces.{Between, AllowsLosses, IsGoodStretch, AreGood, AreGood-none, AreGood-next, Follows-good}
+use Rattle.pfr_story.proofs.WorldLaws.{AllMoved-refl}
+use Rattle.pfr_story.proofs.SafetyLaws.{AllSafe-append, image_noted, called_any}
+use Rattle.pfr_story.proofs.RestoreLaws.{found_good}
+use Rattle.pfr_story.proofs.BringRules.{Any, IsReady, ready_noted, ready_found, Walks, walk_safe}
+use Rattle.pfr_story.proofs.Turns.{Turn-moved}
+use Rattle.pfr_story.proofs.Traces.{Traced, Traced-then, Traced-ran, Traced-whole, Traced-cut, precedes_moved, AreImages}
+use Rattle.pfr_story.proofs.StepTraces.{Between, AllowsLosses, IsGoodStretch, noted_along, power_along, provision_along}
 use Rattle.pfr_story.proofs.Bytes.{HaveBytes, images_then}
 use Rattle.pfr_story.proofs.RecoverableLaws.{other_safe}
 use Rattle.pfr_story.proofs.MomentLaws.{StaysTrue, NoMoments, Stays, call_stays, stays_along, stays_behind}
 use Rattle.pfr_story.proofs.KeepLaws.{GoodRecovery, job_leaves, ops_safe, migration_safe}
-
-abbrev Any : Story → Type 0
-Any story = Unit {0}
 
 -- the devices hold bytes, the banks have whole blocks, and the store has its size
 record IsSized (story : Story) : Type 0 where
@@ -86,8 +75,7 @@ module _ (accepts : Acceptance) (b : Bank) where
   own_copy fuses capsule story sized read valid judged =
       let layout : Layout = layout_of fuses.provision b in
       let image : List ℕ = mine b story in
-      let stands : StandForBank (store story) fuses b = record { all = fuses; provisioned = read; provision = refl; floor = refl; capsule_row = refl; manifest_row = refl } in
-      let found = judged_good image (store story) layout.recovery_at layout.area_len b accepts fuses capsule stands valid (sized.images (device_of b)) judged in
+      let found = found_good accepts b fuses capsule story read valid (sized.images (device_of b)) judged in
       let same : found.0.fuses ≡ fuses = fuses_one (store story) found.0.fuses fuses found.0.provisioned read in
       let regions : All (IsRegion (layout_of found.0.fuses.provision b) (length image)) found.0.capsule.manifest.regions = good_regions image (store story) layout.recovery_at layout.area_len b accepts found.0 in
       let here : All (IsRegion layout (length image)) found.0.capsule.manifest.regions =
@@ -108,48 +96,29 @@ module _ (accepts : Acceptance) where
 
 -- ---- a bank is brought up
 module _ (accepts : Acceptance) (b c : Bank) where
-  second_safe : (judged : Result Manifest ActiveFail) (story : Story) → AllSafe (Keeping accepts b) (by_second c judged story) story
-  second_safe (Ok m) story = (refl, tt)
-  second_safe (Err cause) story = tt
+  -- a bank that can be checked, of devices that have their sizes
+  abbrev IsFit : FusesState → Story → Type 0
+  IsFit fuses story = IsSized story × IsReady c fuses story
 
-  again_safe : (fuses : FusesState) (story : Story) → AllSafe (Keeping accepts b) (checked_again accepts c fuses story) story
-  again_safe fuses story = (tt, second_safe (judged_active accepts c fuses story) story)
-
-  recovery_safe : (fuses : FusesState) (cause : ActiveFail) (judged : Result CapsuleState CapsuleFail) (story : Story) → IsSized story → fuses_of (store story) ≡ Ok fuses
-      → IsValidLayout (layout_of fuses.provision c) (length (mine c story)) → judged_recovery accepts c fuses story ≡ judged → AllSafe (Keeping accepts b) (by_recovery accepts c fuses cause judged story) story
-  recovery_safe fuses cause (Ok capsule) story sized read valid judged =
-      let copy = copied c 1 fuses capsule story in
-      let safe : AllSafe (Keeping accepts b) copy story = call_stays (GoodRecovery accepts b) b (device_of c) (restore_ops 1 (mine c story) capsule (layout_of fuses.provision c)) story
-      (copy_safe accepts b c fuses capsule story sized read valid judged) in
-      let told : Story = after (restored c 1 fuses capsule story) story in
-      AllSafe-append (Keeping accepts b) (restored c 1 fuses capsule story) (checked_again accepts c fuses told) story
-      (AllSafe-append (Keeping accepts b) copy (Says (λ _. what.Restored c 1) ∷ []) story safe (tt, tt)) (again_safe fuses told)
-  recovery_safe fuses cause (Err other) story sized read valid judged = (refl, tt)
-
-  active_safe : (fuses : FusesState) (judged : Result Manifest ActiveFail) (story : Story) → IsSized story → fuses_of (store story) ≡ Ok fuses
-      → IsValidLayout (layout_of fuses.provision c) (length (mine c story)) → AllSafe (Keeping accepts b) (by_active accepts c fuses judged story) story
-  active_safe fuses (Ok m) story sized read valid = (refl, tt)
-  active_safe fuses (Err cause) story sized read valid =
-      let w : Counts → What = λ _. what.Untrusted c cause in
-      let told : Story = noted w story in
-      let there : IsValidLayout (layout_of fuses.provision c) (length (mine c told)) =
-      subst (λ (image : List ℕ). IsValidLayout (layout_of fuses.provision c) (length image)) (sym (image_noted (device_of c) w story)) valid in
-      (tt, (tt, recovery_safe fuses cause (judged_recovery accepts c fuses told) told (sized_noted w story sized) read there refl))
-
-  layout_safe : (fuses : FusesState) (judged : Result (Unit {0}) LayoutRule) (story : Story) → IsSized story → fuses_of (store story) ≡ Ok fuses
-      → judge_layout (layout_of fuses.provision c) (length (mine c story)) ≡ judged → AllSafe (Keeping accepts b) (by_ready accepts c (told_as (λ rule. why.Layout rule) judged >> Ok fuses) story) story
-  layout_safe fuses (Ok valid) story sized read l = (tt, active_safe fuses (judged_active accepts c fuses story) story sized read (judged_valid _ _ l))
-  layout_safe fuses (Err rule) story sized read l = (refl, tt)
-
-  ready_safe : (read : Result FusesState FuseFail) (story : Story) → IsSized story → fuses_of (store story) ≡ read
-      → AllSafe (Keeping accepts b) (by_ready accepts c (ready_in c (length (mine c story)) read) story) story
-  ready_safe (Ok fuses) story sized f = layout_safe fuses (judge_layout (layout_of fuses.provision c) (length (mine c story))) story sized f refl
-  ready_safe (Err cause) story sized f = (refl, tt)
+  keeping_walks : Walks (Keeping accepts b) accepts c IsSized IsFit (λ fuses cause story. IsFit fuses story) (λ fuses story. Unit {0})
+  keeping_walks = record {
+    asks = λ which story own. tt;
+    ready = λ fuses story sized e. (sized, ready_found c fuses story e);
+    unready = λ cause story sized e. refl;
+    released = λ fuses m story fit j. refl;
+    untrusted = λ fuses cause story fit j. (tt, (sized_noted (λ _. what.Untrusted c cause) story fit.0, ready_noted c fuses (λ _. what.Untrusted c cause) story fit.1));
+    no_image = λ fuses cause other story fit j. refl;
+    restores = λ fuses cause capsule story fit j.
+        let copy = copied c 1 fuses capsule story in
+        let safe : AllSafe (Keeping accepts b) copy story = call_stays (GoodRecovery accepts b) b (device_of c) (restore_ops 1 (mine c story) capsule (layout_of fuses.provision c)) story
+        (copy_safe accepts b c fuses capsule story fit.0 fit.1.provisioned fit.1.layout j) in
+        (AllSafe-append (Keeping accepts b) copy (Says (λ _. what.Restored c 1) ∷ []) story safe (tt, tt), tt);
+    again = λ fuses m story any j. refl;
+  }
 
   brought_safe : (story : Story) → IsSized story → AllSafe (Keeping accepts b) (brought_up accepts c story) story
   brought_safe story sized =
-      let held : Story = noted (what.Held c) story in
-      (refl, (tt, ready_safe (fuses_of (store held)) held (sized_noted (what.Held c) story sized) refl))
+      walk_safe (Keeping accepts b) accepts c IsSized IsFit (λ fuses cause there. IsFit fuses there) (λ fuses there. Unit {0}) keeping_walks story refl (sized_noted (what.Held c) story sized)
 
 -- ---- the stretches of a step
 module _ (accepts : Acceptance) (b : Bank) (first last : World) where
@@ -190,7 +159,7 @@ module _ (accepts : Acceptance) (b : Bank) (first last : World) where
 
 -- ---- a provision makes no moment before it ends
 call_quiet : (ops : List Operation) (story : Story) → AllSafe NoMoments (called device.Nv ops) story
-call_quiet ops story = called_safe NoMoments device.Nv (λ later. Unit {0}) (λ op here q. tt) (λ here. tt) ops story (λ added part. tt)
+call_quiet ops story = called_any NoMoments device.Nv (λ op here. tt) (λ here. tt) ops story
 
 tried_quiet : (root : RootSlot) (judged : Result ℕ FuseFail) (story : Story) → AllSafe NoMoments (provisioned_in root judged story) story
 tried_quiet root (Ok number) story =
@@ -201,15 +170,12 @@ provisioned_quiet : (root : RootSlot) (story : Story) → AllSafe NoMoments (pro
 provisioned_quiet root story = (tt, tried_quiet root (judge_provision (store story) root (length story.bmc.start) (length story.pch.start)) story)
 
 -- ---- the devices' sizes
-moved_begins : (old new : FlashState) → Moved old new → Begins (past_of old) (past_of new)
-moved_begins old new m = record { start = m.start; more = m.ops.more; ops = m.ops.is }
-
 same_size : (old new : FlashState) → Moved old new → length new.start ≡ length old.start
 same_size old new m = ap (λ (start : List ℕ). length start) m.start
 
 sized_world : (w last : World) → HaveBytes last → IsBankSize (size_of last.bmc) → IsBankSize (size_of last.pch) → size_of last.nv ≡ 32768 → AllMoved w last → IsSized (story_of w)
 sized_world w last held bmc pch nv m = record {
-  images = images_then (story_of w) last (record { bmc = moved_begins w.bmc last.bmc m.bmc; pch = moved_begins w.pch last.pch m.pch; nv = moved_begins w.nv last.nv m.nv }) held;
+  images = images_then (story_of w) last (precedes_moved w last m) held;
   blocks = by_bank;
   store_size = length-play w.nv.start w.nv.ops ∙ sym (same_size w.nv last.nv m.nv) ∙ nv;
 }
@@ -224,9 +190,6 @@ module _ (accepts : Acceptance) (b : Bank) (old new : World) (held : HaveBytes n
   abbrev Kept : Type 0
   Kept = Stays (GoodRecovery accepts b) b old new
 
-  abbrev AreKeeping : (Story → Type 0) → List Stretch → Type 0
-  AreKeeping P stretches = AreGood (Keeping accepts b) old new P stretches
-
   within : Between old new old new
   within = record { before = AllMoved-refl old; behind = AllMoved-refl new }
 
@@ -236,29 +199,20 @@ module _ (accepts : Acceptance) (b : Bank) (old new : World) (held : HaveBytes n
   known : (w : World) → AllMoved w new → IsSized (story_of w)
   known w m = sized_world w new held bmc pch nv m
 
-  none : AreKeeping Any []
-  none = AreGood-none (Keeping accepts b) old new IsSized known allows Any
+  kept : Traced (Keeping accepts b) old new → Kept
+  kept t = stays_along (GoodRecovery accepts b) b old new t
 
-  next : (P : Story → Type 0) (stretch : Stretch) (stretches : List Stretch) → IsKeeping accepts b old new P stretch → AreKeeping Any stretches → AreKeeping P (stretch ∷ stretches)
-  next P stretch stretches good rest = AreGood-next (Keeping accepts b) old new IsSized known allows P Any stretch stretches good rest
-
-  along : (P : Story → Type 0) (c : Course) → Follows c old new → AllGood (Keeping accepts b) c.first (story_of old) → P (after c.first (story_of old)) → AreKeeping P c.stretches → Kept
-  along P c t first p stretches =
-      stays_along (GoodRecovery accepts b) b old new (Follows-good (Keeping accepts b) old new P c old new within t first p stretches)
+  noted_kept : (moves : List Move) → Follows (record { first = moves; stretches = [] }) old new → AllGood (Keeping accepts b) moves (story_of old) → Kept
+  noted_kept moves t good = kept (noted_along (Keeping accepts b) old new IsSized known allows old new within moves t good)
 
   power_kept : Follows (power_course accepts) old new → Kept
   power_kept t =
-      along Any (power_course accepts) t (tt, tt) tt
-      (next Any fuse_stretch (bank_stretch accepts bank.Bmc ∷ bank_stretch accepts bank.Pch ∷ []) (fuse_keeps accepts b old new)
-      (next Any (bank_stretch accepts bank.Bmc) (bank_stretch accepts bank.Pch ∷ []) (bank_keeps accepts b old new bank.Bmc)
-      (next Any (bank_stretch accepts bank.Pch) [] (bank_keeps accepts b old new bank.Pch) none)))
-
-  ignored_kept : Follows ignored old new → Kept
-  ignored_kept t = along Any ignored t (tt, tt) tt none
+      kept (power_along (Keeping accepts b) old new IsSized known allows old new within accepts Any Any Any Any (fuse_keeps accepts b old new)
+      (bank_keeps accepts b old new bank.Bmc) (bank_keeps accepts b old new bank.Pch) tt tt t)
 
   off_kept : (off : Bool) → Follows (where_off off ignored off_course) old new → Kept
-  off_kept true t = ignored_kept t
-  off_kept false t = along Any off_course t (refl, tt) tt none
+  off_kept true t = noted_kept ignored.first t (tt, tt)
+  off_kept false t = noted_kept off_course.first t (refl, tt)
 
   -- nothing is provisioned where the platform is
   unset : (root : RootSlot) (number : ℕ) → judge_provision (store (story_of old)) root (size_of old.bmc) (size_of old.pch) ≡ Ok number → ¬ HoldsIn (GoodRecovery accepts b) b (story_of old)
@@ -283,36 +237,25 @@ module _ (accepts : Acceptance) (b : Bank) (old new : World) (held : HaveBytes n
   by_judged : (root : RootSlot) (judged : Result ℕ FuseFail) → judge_provision (store (story_of old)) root (size_of old.bmc) (size_of old.pch) ≡ judged → Follows (provision_course root) old new → Kept
   by_judged root (Ok number) e (mid, first, steps) = slot_kept root mid (unset root number e) (Traced-ran NoMoments [] old mid first tt) steps
   by_judged root (Err cause) e t =
-      along (IsRefused accepts b old new root) (provision_course root) t tt (cause, e) (next (IsRefused accepts b old new root) (provision_stretch root) [] (refusal_keeps accepts b old new root) none)
+      kept (provision_along (Keeping accepts b) old new IsSized known allows old new within root (IsRefused accepts b old new root) Any (refusal_keeps accepts b old new root) (cause, e) t)
 
   try_kept : (root : RootSlot) (off : Bool) → Follows (where_off off ignored (provision_course root)) old new → Kept
-  try_kept root true t = ignored_kept t
+  try_kept root true t = noted_kept ignored.first t (tt, tt)
   try_kept root false t = by_judged root (judge_provision (store (story_of old)) root (size_of old.bmc) (size_of old.pch)) refl t
 
 -- the sizes stay
 size_still : (old new : FlashState) → Moved old new → IsBankSize (size_of old) → IsBankSize (size_of new)
 size_still old new m size = subst (λ (n : ℕ). IsBankSize n) (sym (same_size old new m)) size
 
-follows_moved : (c : Course) (old new : World) → Follows c old new → AllMoved old new
-follows_moved c old new (mid, first, rest) = AllMoved-trans old mid new first.moved (Steps-moved c.stretches mid new rest)
-
 -- What says that a good capsule stands in a bank's recovery area stays true from each moment of a step to the next.
 pub Turn-recoverable : (accepts : Acceptance) (e : Event) (old new : World) → Turn accepts e old new → HaveBytes new → IsBankSize (size_of old.bmc) → IsBankSize (size_of old.pch) → size_of old.nv ≡ 32768
     → StaysRecoverable (λ b image nv. HasGoodRecovery b image nv accepts) old new
-Turn-recoverable accepts e old new t held bmc pch nv b = by_event e t
+Turn-recoverable accepts e old new t held bmc pch nv b = by_event e t (size_still old.bmc new.bmc m.bmc bmc) (size_still old.pch new.pch m.pch pch) (same_size old.nv new.nv m.nv ∙ nv)
   where
-    moved : (c : Course) → Follows c (begun old) new → AllMoved (begun old) new
-    moved c f = follows_moved c (begun old) new f
+    m : AllMoved (begun old) new
+    m = Turn-moved accepts e old new t
 
-    by_event : (e : Event) → Turn accepts e old new → Stays (GoodRecovery accepts b) b (begun old) new
-    by_event event.Power t =
-        let m = moved (power_course accepts) t in
-        power_kept accepts b (begun old) new held (size_still old.bmc new.bmc m.bmc bmc) (size_still old.pch new.pch m.pch pch) (same_size old.nv new.nv m.nv ∙ nv) t
-    by_event event.Off t =
-        let m = moved (where_off (is_off (standing_of bank.Bmc old.notes.list)) ignored off_course) t in
-        off_kept accepts b (begun old) new held (size_still old.bmc new.bmc m.bmc bmc) (size_still old.pch new.pch m.pch pch) (same_size old.nv new.nv m.nv ∙ nv)
-        (is_off (standing_of bank.Bmc old.notes.list)) t
-    by_event (event.Provision root) t =
-        let m = moved (where_off (is_off (standing_of bank.Bmc old.notes.list)) ignored (provision_course root)) t in
-        try_kept accepts b (begun old) new held (size_still old.bmc new.bmc m.bmc bmc) (size_still old.pch new.pch m.pch pch) (same_size old.nv new.nv m.nv ∙ nv)
-        root (is_off (standing_of bank.Bmc old.notes.list)) t
+    by_event : (e : Event) → Turn accepts e old new → IsBankSize (size_of new.bmc) → IsBankSize (size_of new.pch) → size_of new.nv ≡ 32768 → Stays (GoodRecovery accepts b) b (begun old) new
+    by_event event.Power t bmc pch nv = power_kept accepts b (begun old) new held bmc pch nv t
+    by_event event.Off t bmc pch nv = off_kept accepts b (begun old) new held bmc pch nv (is_off (standing_of bank.Bmc old.notes.list)) t
+    by_event (event.Provision root) t bmc pch nv = try_kept accepts b (begun old) new held bmc pch nv root (is_off (standing_of bank.Bmc old.notes.list)) t

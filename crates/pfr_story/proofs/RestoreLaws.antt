@@ -1,13 +1,10 @@
 -- What a restore leaves. Behind one from a good capsule the active image is judged well.
-use Rattle.std.proofs.Common.{◌≡◌, ◌∙◌, refl, sym, ap, subst, ℕ, ◌+◌, ◌≤◌, List, [], ◌∷◌, ◌++◌, append_assoc, length, Ok}
-use Rattle.std.proofs.lemmas.List.{append-nil}
+use Rattle.std.proofs.Common.{◌≡◌, ◌∙◌, refl, sym, ap, subst, ℕ, ◌+◌, ◌≤◌, List, [], ◌∷◌, length, Ok}
 use Rattle.pfr_flash.specs.Bytes.{AreBytes}
 use Rattle.pfr_flash.specs.Layout.{IsBankSize, IsValidLayout}
-use Rattle.pfr_flash.specs.Operation.{Operation, play}
+use Rattle.pfr_flash.specs.Operation.{play}
 use Rattle.pfr_flash.specs.declared.layout.Layout.{Layout}
 use Rattle.pfr_flash.specs.declared.names.Bank.{Bank}
-use Rattle.pfr_flash.specs.declared.names.Bank.TheVariants as bank
-use Rattle.pfr_flash.specs.declared.names.Device.{Device}
 use Rattle.pfr_flash.specs.declared.names.Device.TheVariants as device
 use Rattle.pfr_engine.specs.Acceptance.{Acceptance}
 use Rattle.pfr_fuses.specs.FusesState.{FusesState}
@@ -23,42 +20,10 @@ use Rattle.pfr_jobs.specs.declared.job.JobKind.TheVariants.{ActiveFromRecovery, 
 use Rattle.pfr_recoverable.proofs.RestoredLaw.{restored_played}
 use Rattle.pfr_recoverable.proofs.StaysLaw.{fuses_one}
 use Rattle.pfr_report.specs.declared.note.What.TheVariants.{Restored}
-use Rattle.pfr_story.specs.Story.{Past, Story, Says, after, noted, operated, past_at, image_of, image_at, device_of, called}
+use Rattle.pfr_story.specs.Story.{Story, Says, after, noted, device_of}
 use Rattle.pfr_story.specs.Plans.{mine, store, judged_active, judged_recovery, restore_ops, copied, restored}
 use Rattle.pfr_story.proofs.Sequence.{after-append}
-use Rattle.pfr_story.proofs.CallLaws.{image_noted, image_operated}
-
--- ---- what a call leaves
-pub image_called : (which : Device) (ops : List Operation) (story : Story) → image_at which (after (called which ops) story) ≡ play (image_at which story) ops
-image_called which [] story = refl
-image_called which (op ∷ ops) story = image_called which ops (operated which op story) ∙ ap (λ (image : List ℕ). play image ops) (image_operated which op story)
-
--- a call of a bank's device adds its operations, and changes nothing else
-pub record HasCalled (b : Bank) (ops : List Operation) (old new : Story) : Type 0 where
-  pub added : (past_at (device_of b) new).ops ≡ (past_at (device_of b) old).ops ++ ops
-  pub start : (past_at (device_of b) new).start ≡ (past_at (device_of b) old).start
-  pub nv : new.nv ≡ old.nv
-  pub notes : new.notes ≡ old.notes
-
-operated_one : (b : Bank) (op : Operation) (story : Story) → HasCalled b (op ∷ []) story (operated (device_of b) op story)
-operated_one bank.Bmc op story = record { added = refl; start = refl; nv = refl; notes = refl }
-operated_one bank.Pch op story = record { added = refl; start = refl; nv = refl; notes = refl }
-
-pub called_after : (b : Bank) (ops : List Operation) (story : Story) → HasCalled b ops story (after (called (device_of b) ops) story)
-called_after b [] story = record { added = sym (append-nil (past_at (device_of b) story).ops); start = refl; nv = refl; notes = refl }
-called_after b (op ∷ ops) story =
-    let one = operated_one b op story in
-    let rest = called_after b ops (operated (device_of b) op story) in
-    record {
-      added = rest.added ∙ ap (λ (xs : List Operation). xs ++ ops) one.added ∙ append_assoc (past_at (device_of b) story).ops (op ∷ []) ops;
-      start = rest.start ∙ one.start;
-      nv = rest.nv ∙ one.nv;
-      notes = rest.notes ∙ one.notes;
-    }
-
--- and so it leaves the store
-pub store_called : (b : Bank) (ops : List Operation) (story : Story) → store (after (called (device_of b) ops) story) ≡ store story
-store_called b ops story = ap (λ (past : Past). image_of past) (called_after b ops story).nv
+use Rattle.pfr_story.proofs.SafetyLaws.{image_noted, image_called, store_called}
 
 -- ---- what a restore leaves
 module _ (b : Bank) (level : ℕ) (fuses : FusesState) (capsule : CapsuleState) (story : Story) where
@@ -77,7 +42,7 @@ module _ (b : Bank) (level : ℕ) (fuses : FusesState) (capsule : CapsuleState) 
       ∙ image_noted device.Nv (λ _. Restored b level) (after (copied b level fuses capsule story) story)
       ∙ store_called b (restore_ops level (mine b story) capsule (layout_of fuses.provision b)) story
 
-not_recovery : (level : ℕ) → ¬ (ActiveFromRecovery level ≡ RecoveryFromStaging)
+pub not_recovery : (level : ℕ) → ¬ (ActiveFromRecovery level ≡ RecoveryFromStaging)
 not_recovery level e = absurd cc
 
 -- ---- it leaves an image that is trusted, by the capsule's manifest
@@ -105,18 +70,23 @@ pub record RestoresFrom (accepts : Acceptance) (b : Bank) (fuses : FusesState) (
   pub bytes : AreBytes (mine b story)
   pub judged : judged_recovery accepts b fuses story ≡ Ok capsule
 
-good_found : (accepts : Acceptance) (b : Bank) (fuses : FusesState) (capsule : CapsuleState) (story : Story) → RestoresFrom accepts b fuses capsule story
+-- fuses that a store says stand for a bank
+pub stand_for : (nv : List ℕ) (fuses : FusesState) (b : Bank) → fuses_of nv ≡ Ok fuses → StandForBank nv fuses b
+stand_for nv fuses b p = record { all = fuses; provisioned = p; provision = refl; floor = refl; capsule_row = refl; manifest_row = refl }
+
+-- what is judged well in the recovery area is good
+pub found_good : (accepts : Acceptance) (b : Bank) (fuses : FusesState) (capsule : CapsuleState) (story : Story) → fuses_of (store story) ≡ Ok fuses
+    → IsValidLayout (layout_of fuses.provision b) (length (mine b story)) → AreBytes (mine b story) → judged_recovery accepts b fuses story ≡ Ok capsule
     → (g : IsGood (mine b story) (layout_of fuses.provision b).recovery_at (layout_of fuses.provision b).area_len (store story) b accepts) × (g.capsule ≡ capsule)
-good_found accepts b fuses capsule story r =
-    let stands : StandForBank (store story) fuses b = record { all = fuses; provisioned = r.provisioned; provision = refl; floor = refl; capsule_row = refl; manifest_row = refl } in
-    let layout : Layout = layout_of fuses.provision b in
-    judged_good (mine b story) (store story) layout.recovery_at layout.area_len b accepts fuses capsule stands r.layout r.bytes r.judged
+found_good accepts b fuses capsule story provisioned layout bytes judged =
+    let l : Layout = layout_of fuses.provision b in
+    judged_good (mine b story) (store story) l.recovery_at l.area_len b accepts fuses capsule (stand_for (store story) fuses b provisioned) layout bytes judged
 
 -- Behind a restore from a good capsule the active image is judged well, by the capsule's manifest.
 pub restored_judged : (accepts : Acceptance) (b : Bank) (level : ℕ) (fuses : FusesState) (capsule : CapsuleState) (story : Story) → RestoresFrom accepts b fuses capsule story
     → judged_active accepts b fuses (after (restored b level fuses capsule story) story) ≡ Ok capsule.manifest
 restored_judged accepts b level fuses capsule story r =
-    let found = good_found accepts b fuses capsule story r in
+    let found = found_good accepts b fuses capsule story r.provisioned r.layout r.bytes r.judged in
     let layout : Layout = layout_of fuses.provision b in
     let same : found.0.fuses ≡ fuses = fuses_one (store story) found.0.fuses fuses found.0.provisioned r.provisioned in
     let again = good_judged_again accepts b level story layout.recovery_at layout.area_len found.0 r.size r.layout.inside.recovery r.bytes in

@@ -12,10 +12,9 @@ use Rattle.pfr_story.specs.Safety.{AllGood}
 use Rattle.pfr_story.specs.Turn.{begun, Turn}
 use Rattle.pfr_story.specs.Promises.{NotBefore}
 use Rattle.pfr_story.specs.Recovery.{moments_with, moments_of, Rise, CountsRise}
-use Rattle.pfr_story.proofs.Traces.{Precedes-refl, Precedes-move, not_before}
+use Rattle.pfr_story.proofs.Traces.{IsStamped, Precedes-refl, Precedes-move, not_before}
 use Rattle.pfr_story.proofs.Made.{Made, said, added_said}
 use Rattle.pfr_story.proofs.Facts.{Setting, Fact, IsTrue}
-use Rattle.pfr_story.proofs.MomentLaws.{IsStamped}
 use Rattle.pfr_story.proofs.Turns.{step_of, Turn-traced}
 
 NotBefore-refl : (a : Counts) → NotBefore a a

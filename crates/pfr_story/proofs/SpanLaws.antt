@@ -1,5 +1,5 @@
 -- How spans are kept, move by move.
-use Rattle.std.proofs.Common.{◌≡◌, ◌∙◌, ℕ, ◌+◌, ◌≤◌, refl, sym, ap, subst, arith, List, [], ◌∷◌, ◌++◌, length, take, drop, All, append_assoc, ◌⊎◌, inl, inr, true, false, Bool, cond, length-append}
+use Rattle.std.proofs.Common.{◌≡◌, ◌∙◌, ℕ, ◌≤◌, refl, sym, ap, subst, arith, List, [], ◌∷◌, ◌++◌, length, take, drop, All, append_assoc, ◌⊎◌, inl, inr, true, false, Bool, cond, length-append}
 use Rattle.std.proofs.lemmas.List.{append-nil, take-append-le, take_all, take-take, drop-append-le}
 use Rattle.std.proofs.lemmas.List.Elements.{All-push}
 use Rattle.std.proofs.Math.ListN.{drop_of_length-le}
@@ -26,6 +26,7 @@ use Rattle.pfr_story.specs.Guards.{same_bank}
 use Rattle.pfr_story.specs.Story.{Past, Story, Says, Does, Asks, counts_of, past_at, device_of, with_op, operated, noted, image_at}
 use Rattle.pfr_story.specs.Safety.{Rule, Keeps}
 use Rattle.pfr_story.specs.Promises.{count_at}
+use Rattle.pfr_story.proofs.Traces.{IsStamped}
 use Rattle.pfr_story.specs.Keeping.{IsSettled}
 use Rattle.pfr_story.specs.Spans.{opens_after, closes, ended, opens_from, ended_from, IsSpan, AllSpans, ReleasedSpans}
 
@@ -125,14 +126,6 @@ same_one bank.Bmc bank.Pch e = absurd cc
 same_one bank.Pch bank.Bmc e = absurd cc
 same_one bank.Pch bank.Pch e = refl
 
--- its counts are these
-abbrev pub IsTimely : What → Counts → Type 0
-IsTimely (what.Held b counts) here = counts ≡ here
-IsTimely (what.Released b svn counts) here = counts ≡ here
-IsTimely (what.Locked b cause counts) here = counts ≡ here
-IsTimely (what.Lost which counts) here = counts ≡ here
-IsTimely that here = Unit {0}
-
 -- a bank is released only where the store is settled
 abbrev pub IsSettledWhere : What → List ℕ → Type 0
 IsSettledWhere (what.Released b svn counts) nv = IsSettled nv
@@ -161,7 +154,7 @@ module _ (which : Bank) (P : Counts → Counts → Type 0) (Q : Counts → Type 
   opening_if true counts spans opens e q p = ((staying spans opens p).0, (subst Q (sym e) q, p.1))
   opening_if false counts spans opens e q p = staying spans opens p
 
-  noted_all : (w : What) (nv : List ℕ) → IsTimely w here → IsSettledWhere w nv → (IsSettled nv → Q here) → (spans : List (Counts × Counts)) (opens : List Counts) → AreAll spans opens
+  noted_all : (w : What) (nv : List ℕ) → IsStamped w here → IsSettledWhere w nv → (IsSettled nv → Q here) → (spans : List (Counts × Counts)) (opens : List Counts) → AreAll spans opens
       → AreAll (spans ++ ended which w opens) (opens_after which w opens)
   noted_all (what.Held b counts) nv e s q spans opens p = closing_if (same_bank which b) counts spans opens e p
   noted_all (what.Locked b cause counts) nv e s q spans opens p = closing_if (same_bank which b) counts spans opens e p
@@ -200,35 +193,38 @@ module _ (which : Bank) (P : Counts → Type 0) where
       (ended_append (λ begin end. P begin) (ended which note.what opens) (ended_from which (opens_after which note.what opens) notes) now.0 rest.0, rest.1)
 
 module _ (accepts : Acceptance) (which : Bank) where
+  -- a span as its devices go on, by what is the same and by the operations that it has now
+  grown : (mine more nv later : Past) (ops nv_ops : List Operation) (begin end there : Counts)
+      → past_upto more (count_at which begin) ≡ past_upto mine (count_at which begin) → past_upto later begin.nv ≡ past_upto nv begin.nv
+      → between (count_at which begin) (count_at which there) more.ops ≡ ops → between begin.nv there.nv later.ops ≡ nv_ops
+      → count_at which end ≤ count_at which there → end.nv ≤ there.nv → count_at which there ≤ length more.ops → there.nv ≤ length later.ops
+      → ((t : IsTrustedAt accepts which mine nv begin) → AreSpared which t.fuses t.manifest (between (count_at which begin) (count_at which end) mine.ops) (between begin.nv end.nv nv.ops)
+      → AreSpared which t.fuses t.manifest ops nv_ops)
+      → IsKept accepts which mine nv begin end → IsKept accepts which more later begin there
+  grown mine more nv later ops nv_ops begin end there u v x y m n done done_store spares p =
+      let all : SpareTrust accepts which (past_upto mine (count_at which begin)) (past_upto nv begin.nv) ops nv_ops = record { each = λ t. spares t (p.spared.each t) } in
+      record { forth = omega (arith, p.forth, m); forth_store = omega (arith, p.forth_store, n); done = done; done_store = done_store; spared = rw (u, v, x, y) all }
+
   -- ---- what is done behind a span leaves it
-  module _ (mine more nv later : Past) (begin end : Counts) where
-    same_kept : more.start ≡ mine.start → later.start ≡ nv.start
-        → take (count_at which end) more.ops ≡ take (count_at which end) mine.ops → take end.nv later.ops ≡ take end.nv nv.ops
-        → length mine.ops ≤ length more.ops → length nv.ops ≤ length later.ops
-        → IsKept accepts which mine nv begin end → IsKept accepts which more later begin end
-    same_kept s t e f m n p =
-        let b : take (count_at which begin) more.ops ≡ take (count_at which begin) mine.ops =
-        sym (take-take (count_at which begin) (count_at which end) more.ops p.forth)
-        ∙ ap (λ (ops : List Operation). take (count_at which begin) ops) e
-        ∙ take-take (count_at which begin) (count_at which end) mine.ops p.forth in
-        let c : take begin.nv later.ops ≡ take begin.nv nv.ops =
-        sym (take-take begin.nv end.nv later.ops p.forth_store)
-        ∙ ap (λ (ops : List Operation). take begin.nv ops) f
-        ∙ take-take begin.nv end.nv nv.ops p.forth_store in
-        let u : past_upto more (count_at which begin) ≡ past_upto mine (count_at which begin) =
-        ap (λ (xs : List ℕ). play xs (take (count_at which begin) more.ops)) s ∙ ap (λ (ops : List Operation). play mine.start ops) b in
-        let v : past_upto later begin.nv ≡ past_upto nv begin.nv =
-        ap (λ (xs : List ℕ). play xs (take begin.nv later.ops)) t ∙ ap (λ (ops : List Operation). play nv.start ops) c in
-        let x : between (count_at which begin) (count_at which end) more.ops ≡ between (count_at which begin) (count_at which end) mine.ops =
-        ap (λ (ops : List Operation). drop (count_at which begin) ops) e in
-        let y : between begin.nv end.nv later.ops ≡ between begin.nv end.nv nv.ops = ap (λ (ops : List Operation). drop begin.nv ops) f in
-        record {
-          forth = p.forth;
-          forth_store = p.forth_store;
-          done = omega (arith, p.done, m);
-          done_store = omega (arith, p.done_store, n);
-          spared = rw (u, v, x, y) p.spared;
-        }
+  module _ (past more : Past) (begin end : ℕ) (forth : begin ≤ end) (start : more.start ≡ past.start) (same : take end more.ops ≡ take end past.ops) where
+    same_upto : past_upto more begin ≡ past_upto past begin
+    same_upto =
+        ap (λ (xs : List ℕ). play xs (take begin more.ops)) start
+        ∙ ap (λ (ops : List Operation). play past.start ops)
+        (sym (take-take begin end more.ops forth) ∙ ap (λ (ops : List Operation). take begin ops) same ∙ take-take begin end past.ops forth)
+
+    same_between : between begin end more.ops ≡ between begin end past.ops
+    same_between = ap (λ (ops : List Operation). drop begin ops) same
+
+  same_kept : (mine more nv later : Past) (begin end : Counts) → more.start ≡ mine.start → later.start ≡ nv.start
+      → take (count_at which end) more.ops ≡ take (count_at which end) mine.ops → take end.nv later.ops ≡ take end.nv nv.ops
+      → length mine.ops ≤ length more.ops → length nv.ops ≤ length later.ops
+      → IsKept accepts which mine nv begin end → IsKept accepts which more later begin end
+  same_kept mine more nv later begin end s t e f m n p =
+      grown mine more nv later (between (count_at which begin) (count_at which end) mine.ops) (between begin.nv end.nv nv.ops) begin end end
+      (same_upto mine more (count_at which begin) (count_at which end) p.forth s e) (same_upto nv later begin.nv end.nv p.forth_store t f)
+      (same_between mine more (count_at which begin) (count_at which end) p.forth s e) (same_between nv later begin.nv end.nv p.forth_store t f)
+      (omega arith) (omega arith) (omega (arith, p.done, m)) (omega (arith, p.done_store, n)) (λ trust all. all) p
 
   longer : (past : Past) (op : Operation) → length past.ops ≤ length (with_op past op).ops
   longer past op = omega (arith, length-append past.ops (op ∷ []))
@@ -252,60 +248,27 @@ module _ (accepts : Acceptance) (which : Bank) where
       ∙ drop-append-le begin ops (op ∷ []) (omega (arith, forth, h))
       ∙ ap (λ (xs : List Operation). drop begin xs ++ op ∷ []) (sym (take_all here ops (omega (arith, h))))
 
+  longer_upto : (past : Past) (op : Operation) (begin : ℕ) → begin ≤ length past.ops → past_upto (with_op past op) begin ≡ past_upto past begin
+  longer_upto past op begin within = ap (λ (ops : List Operation). play past.start ops) (take-append-le begin past.ops (op ∷ []) within)
+
   grown_mine : (mine nv : Past) (op : Operation) (begin here there : Counts) → count_at which here ≡ length mine.ops → count_at which there ≡ length (with_op mine op).ops → there.nv ≡ here.nv
       → ((t : IsTrustedAt accepts which mine nv begin) → LeavesBank which t.fuses t.manifest op) → IsKept accepts which mine nv begin here → IsKept accepts which (with_op mine op) nv begin there
   grown_mine mine nv op begin here there h t same spares p =
-      let more : length (with_op mine op).ops ≡ length mine.ops + 1 = length-append mine.ops (op ∷ []) in
-      let within : count_at which begin ≤ length mine.ops = omega (arith, p.forth, h) in
-      let u : past_upto (with_op mine op) (count_at which begin) ≡ past_upto mine (count_at which begin) =
-      ap (λ (ops : List Operation). play mine.start ops) (take-append-le (count_at which begin) mine.ops (op ∷ []) within) in
-      let x : between (count_at which begin) (count_at which there) (with_op mine op).ops ≡ between (count_at which begin) (count_at which here) mine.ops ++ op ∷ [] =
-      one_more mine.ops op (count_at which begin) (count_at which here) (count_at which there) p.forth h t in
-      let y : between begin.nv there.nv nv.ops ≡ between begin.nv here.nv nv.ops = ap (λ (n : ℕ). between begin.nv n nv.ops) same in
-      let grown : SpareTrust accepts which (past_upto mine (count_at which begin)) (past_upto nv begin.nv)
-      (between (count_at which begin) (count_at which here) mine.ops ++ op ∷ []) (between begin.nv here.nv nv.ops) =
-      record {
-        each = λ trust.
-            let all = p.spared.each trust in
-            let one = spares trust in
-            record {
-              image = All-push (LeavesImage (layout_of trust.fuses.provision which) trust.manifest) _ op all.image one.image;
-              recovery = All-push (Leaves (layout_of trust.fuses.provision which).recovery_at (layout_of trust.fuses.provision which).area_len) _ op all.recovery one.recovery;
-              store = all.store;
-            };
-      } in
-      record {
-        forth = omega (arith, p.forth, h, t, more);
-        forth_store = omega (arith, p.forth_store, same);
-        done = omega (arith, t);
-        done_store = omega (arith, p.done_store, same);
-        spared = rw (u, x, y) grown;
-      }
+      let more = longer mine op in
+      grown mine (with_op mine op) nv nv (between (count_at which begin) (count_at which here) mine.ops ++ op ∷ []) (between begin.nv here.nv nv.ops) begin here there
+      (longer_upto mine op (count_at which begin) (omega (arith, p.forth, h))) refl (one_more mine.ops op (count_at which begin) (count_at which here) (count_at which there) p.forth h t)
+      (ap (λ (n : ℕ). between begin.nv n nv.ops) same) (omega (arith, h, t, more)) (omega (arith, same)) (omega (arith, t)) (omega (arith, p.done_store, same))
+      (λ trust all. let one = spares trust in
+      record { image = All-push (LeavesImage _ trust.manifest) _ op all.image one.image; recovery = All-push (Leaves _ _) _ op all.recovery one.recovery; store = all.store }) p
 
   grown_store : (mine nv : Past) (op : Operation) (begin here there : Counts) → here.nv ≡ length nv.ops → there.nv ≡ length (with_op nv op).ops → count_at which there ≡ count_at which here
       → ((t : IsTrustedAt accepts which mine nv begin) → LeavesStore t.fuses which op) → IsKept accepts which mine nv begin here → IsKept accepts which mine (with_op nv op) begin there
   grown_store mine nv op begin here there h t same spares p =
-      let more : length (with_op nv op).ops ≡ length nv.ops + 1 = length-append nv.ops (op ∷ []) in
-      let within : begin.nv ≤ length nv.ops = omega (arith, p.forth_store, h) in
-      let u : past_upto (with_op nv op) begin.nv ≡ past_upto nv begin.nv =
-      ap (λ (ops : List Operation). play nv.start ops) (take-append-le begin.nv nv.ops (op ∷ []) within) in
-      let x : between begin.nv there.nv (with_op nv op).ops ≡ between begin.nv here.nv nv.ops ++ op ∷ [] = one_more nv.ops op begin.nv here.nv there.nv p.forth_store h t in
-      let y : between (count_at which begin) (count_at which there) mine.ops ≡ between (count_at which begin) (count_at which here) mine.ops =
-      ap (λ (n : ℕ). between (count_at which begin) n mine.ops) same in
-      let grown : SpareTrust accepts which (past_upto mine (count_at which begin)) (past_upto nv begin.nv)
-      (between (count_at which begin) (count_at which here) mine.ops) (between begin.nv here.nv nv.ops ++ op ∷ []) =
-      record {
-        each = λ trust.
-            let all = p.spared.each trust in
-            record { image = all.image; recovery = all.recovery; store = All-push (LeavesStore trust.fuses which) _ op all.store (spares trust) };
-      } in
-      record {
-        forth = omega (arith, p.forth, same);
-        forth_store = omega (arith, p.forth_store, h, t, more);
-        done = omega (arith, p.done, same);
-        done_store = omega (arith, t);
-        spared = rw (u, x, y) grown;
-      }
+      let more = longer nv op in
+      grown mine mine nv (with_op nv op) (between (count_at which begin) (count_at which here) mine.ops) (between begin.nv here.nv nv.ops ++ op ∷ []) begin here there
+      refl (longer_upto nv op begin.nv (omega (arith, p.forth_store, h))) (ap (λ (n : ℕ). between (count_at which begin) n mine.ops) same)
+      (one_more nv.ops op begin.nv here.nv there.nv p.forth_store h t) (omega (arith, same)) (omega (arith, h, t, more)) (omega (arith, p.done, same)) (omega (arith, t))
+      (λ trust all. record { image = all.image; recovery = all.recovery; store = All-push (LeavesStore trust.fuses which) _ op all.store (spares trust) }) p
 
   -- one that begins now
   begins_now : (mine nv : Past) (here : Counts) → count_at which here ≡ length mine.ops → here.nv ≡ length nv.ops → IsKept accepts which mine nv here here
@@ -343,7 +306,7 @@ module _ (accepts : Acceptance) (which : Bank) where
 
   -- A move that keeps the bank's spans.
   abbrev pub KeepsSpans : Rule
-  KeepsSpans (Says w) story = IsTimely (w (counts_of story)) (counts_of story) × IsSettledWhere (w (counts_of story)) (image_at device.Nv story)
+  KeepsSpans (Says w) story = IsStamped (w (counts_of story)) (counts_of story) × IsSettledWhere (w (counts_of story)) (image_at device.Nv story)
   KeepsSpans (Does at op) story = AllOpen (SparesOpen at op story) (opens_from which [] story.notes)
   KeepsSpans (Asks at) story = Unit {0}
 

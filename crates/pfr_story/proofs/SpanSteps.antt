@@ -2,9 +2,6 @@
 use Rattle.std.proofs.Common.{◌≡◌, ◌∙◌, ℕ, ◌+◌, refl, sym, ap, subst, List, [], ◌∷◌, length, ◌⊎◌, inl, inr, Result, Ok, Err, true, false, Bool}
 use Rattle.std.proofs.lemmas.Bool.{false≢true}
 use Rattle.pfr_flash.specs.Operation.{Operation, play}
-use Rattle.pfr_flash.specs.declared.layout.LayoutRule.{LayoutRule}
-use Rattle.pfr_flash.specs.Judging.{◌>>◌, told_as}
-use Rattle.pfr_flash.specs.Layout.{judge_layout}
 use Rattle.pfr_flash.specs.declared.names.Bank.{Bank}
 use Rattle.pfr_flash.specs.declared.names.Bank.TheVariants as bank
 use Rattle.pfr_flash.specs.declared.names.Counts.{Counts}
@@ -22,13 +19,9 @@ use Rattle.pfr_fuses.specs.declared.fuse_fail.FuseFail.TheVariants.{AlreadyProvi
 use Rattle.pfr_fuses.specs.declared.profile.Profile.{Profile}
 use Rattle.pfr_fuses.specs.declared.profile.Profile.TheVariants.{One, Two}
 use Rattle.pfr_fuses.specs.declared.root_slot.RootSlot.{RootSlot}
-use Rattle.pfr_manifest.specs.declared.manifest.Manifest.{Manifest}
 use Rattle.pfr_capsule.specs.CapsuleState.{CapsuleState}
-use Rattle.pfr_capsule.specs.declared.fail.CapsuleFail.{CapsuleFail}
-use Rattle.pfr_auth.specs.declared.fail.ActiveFail.{ActiveFail}
 use Rattle.pfr_script.specs.declared.event.Event.{Event}
 use Rattle.pfr_script.specs.declared.event.Event.TheVariants as event
-use Rattle.pfr_report.specs.declared.note.LockWhy.TheVariants as why
 use Rattle.pfr_report.specs.declared.note.Note.{Note}
 use Rattle.pfr_report.specs.declared.note.What.{What}
 use Rattle.pfr_report.specs.declared.note.What.TheVariants as what
@@ -38,21 +31,17 @@ use Rattle.pfr_story.specs.World.{World, story_of}
 use Rattle.pfr_story.specs.Safety.{Rule, AllGood, AllSafe, Keeps, Both, Leads}
 use Rattle.pfr_story.specs.Spans.{opens_after, opens_from}
 use Rattle.pfr_story.specs.Standing.{standing_of, is_off}
-use Rattle.pfr_story.specs.Plans.{mine, store, asks, ready_in, judged_active, judged_recovery, restore_ops, copied, restored, by_second, checked_again, by_recovery, recovered, by_active, tail, by_ready, brought_up, migration_by, migration_in, migrated, provisioned_in, provisioned}
-use Rattle.pfr_story.specs.Course.{Stretch, Course, Follows}
+use Rattle.pfr_story.specs.Plans.{mine, store, restore_ops, copied, restored, brought_up, migration_by, migration_in, migrated, provisioned_in, provisioned}
+use Rattle.pfr_story.specs.Course.{Follows}
 use Rattle.pfr_story.specs.Turn.{fault_of, bank_stretch, fuse_stretch, provision_stretch, where_off, ignored, off_course, power_course, provision_course, begun, Turn}
 use Rattle.pfr_story.proofs.WorldLaws.{AllMoved-refl}
-use Rattle.pfr_story.proofs.SafetyLaws.{AllSafe-append, Leads-then, safe_whole, safe_cut, kept_by}
-use Rattle.pfr_story.proofs.CallLaws.{notes_operated}
-use Rattle.pfr_story.proofs.RestoreLaws.{image_called}
+use Rattle.pfr_story.proofs.SafetyLaws.{AllSafe-append, Leads-then, safe_whole, safe_cut, kept_by, notes_operated, image_called}
 use Rattle.pfr_story.proofs.Traces.{Traced, Traced-keeps}
-use Rattle.pfr_story.proofs.StepTraces.{IsGoodStretch, AreGood, AreGood-none, AreGood-next, Follows-good}
+use Rattle.pfr_story.proofs.StepTraces.{Between, AllowsLosses, IsGoodStretch, noted_along, power_along, provision_along}
+use Rattle.pfr_story.proofs.BringRules.{Any, ready_found, Walks, walk_safe}
 use Rattle.pfr_story.proofs.FuseLaws.{profile_migrated, profile_kept, provisioned_refused}
 use Rattle.pfr_story.specs.Keeping.{IsSettled}
 use Rattle.pfr_story.proofs.SpanLaws.{open_none, open_any, open_map, opens_push, IsOpen, Kept, SparesOpen, KeepsSpans, Kept-moves, none_or_settled}
-
-abbrev pub Any : Story → Type 0
-Any story = Unit {0}
 
 -- a store that can be read is of profile 2
 abbrev pub NotOne : List ℕ → Type 0
@@ -157,9 +146,6 @@ module _ (accepts : Acceptance) (which : Bank) where
       }
 
   module _ (b : Bank) where
-    asks_leads : Leads InWork (AtWork b) (asks b) (AtWork b)
-    asks_leads = record { safe = λ story w. ((tt, tt), tt); ends = λ story w. w }
-
     restored_leads : (level : ℕ) (fuses : FusesState) (capsule : CapsuleState) → Leads InWork (AtWork b) (restored b level fuses capsule) (AtWork b)
     restored_leads level fuses capsule =
         Leads-then InWork (AtWork b) (AtWork b) (AtWork b) (copied b level fuses capsule) (says (λ _. what.Restored b level))
@@ -169,51 +155,26 @@ module _ (accepts : Acceptance) (which : Bank) where
         })
         (record { safe = λ story w. (((tt, tt), tt), tt); ends = λ story w. still_work b (λ _. what.Restored b level) story (λ opens. refl) w })
 
-    second_safe : (judged : Result Manifest ActiveFail) (story : Story) → AtWork b story → AllSafe InWork (by_second b judged story) story
-    second_safe (Ok m) story w = (((refl, w.settled), tt), tt)
-    second_safe (Err cause) story w = tt
+    -- behind Held
+    abbrev IsIdle : Story → Type 0
+    IsIdle story = ((opens_from which [] story.notes ≡ []) ⊎ (same_bank which b ≡ false)) × NotOne (store story)
 
-    again_leads : (fuses : FusesState) → Leads InWork (AtWork b) (checked_again accepts b fuses) Any
-    again_leads fuses =
-        Leads-then InWork (AtWork b) (AtWork b) Any (asks b) (λ story. by_second b (judged_active accepts b fuses story) story) asks_leads
-        (record { safe = λ story w. second_safe (judged_active accepts b fuses story) story w; ends = λ story w. tt })
-
-    recovery_safe : (fuses : FusesState) (cause : ActiveFail) (judged : Result CapsuleState CapsuleFail) (story : Story) → AtWork b story → AllSafe InWork (by_recovery accepts b fuses cause judged story) story
-    recovery_safe fuses cause (Ok capsule) story w =
-        (Leads-then InWork (AtWork b) (AtWork b) Any (restored b 1 fuses capsule) (checked_again accepts b fuses) (restored_leads 1 fuses capsule) (again_leads fuses)).safe story w
-    recovery_safe fuses cause (Err other) story w = (((refl, tt), tt), tt)
-
-    recovered_leads : (fuses : FusesState) (cause : ActiveFail) → Leads InWork (AtWork b) (recovered accepts b fuses cause) Any
-    recovered_leads fuses cause =
-        Leads-then InWork (AtWork b) (AtWork b) Any (asks b) (λ story. by_recovery accepts b fuses cause (judged_recovery accepts b fuses story) story) asks_leads
-        (record { safe = λ story w. recovery_safe fuses cause (judged_recovery accepts b fuses story) story w; ends = λ story w. tt })
-
-    active_safe : (fuses : FusesState) (judged : Result Manifest ActiveFail) (story : Story) → AtWork b story → AllSafe InWork (by_active accepts b fuses judged story) story
-    active_safe fuses (Ok m) story w = (((refl, w.settled), tt), tt)
-    active_safe fuses (Err cause) story w =
-        (((tt, tt), tt), (recovered_leads fuses cause).safe (noted (λ _. what.Untrusted b cause) story) (still_work b (λ _. what.Untrusted b cause) story (λ opens. refl) w))
-
-    tail_leads : (fuses : FusesState) → Leads InWork (AtWork b) (tail accepts b fuses) Any
-    tail_leads fuses =
-        Leads-then InWork (AtWork b) (AtWork b) Any (asks b) (λ story. by_active accepts b fuses (judged_active accepts b fuses story) story) asks_leads
-        (record { safe = λ story w. active_safe fuses (judged_active accepts b fuses story) story w; ends = λ story w. tt })
-
-    layout_safe : (fuses : FusesState) (judged : Result (Unit {0}) LayoutRule) (story : Story) → AtWork b story
-        → AllSafe InWork (by_ready accepts b (told_as (λ rule. why.Layout rule) judged >> Ok fuses) story) story
-    layout_safe fuses (Ok valid) story w = (tail_leads fuses).safe story w
-    layout_safe fuses (Err rule) story w = (((refl, tt), tt), tt)
-
-    ready_safe : (read : Result FusesState FuseFail) (story : Story) → fuses_of (store story) ≡ read → NotOne (store story) → (opens_from which [] story.notes ≡ []) ⊎ (same_bank which b ≡ false)
-        → AllSafe InWork (by_ready accepts b (ready_in b (length (mine b story)) read) story) story
-    ready_safe (Ok fuses) story f two idle =
-        layout_safe fuses (judge_layout (layout_of fuses.provision b) (length (mine b story))) story
-        (record { idle = idle; settled = record { fuses = fuses; provisioned = f; two = two fuses f } })
-    ready_safe (Err cause) story f two idle = (((refl, tt), tt), tt)
+    span_walks : Walks InWork accepts b IsIdle (λ fuses story. AtWork b story) (λ fuses cause story. AtWork b story) (λ fuses story. AtWork b story)
+    span_walks = record {
+      asks = λ at story own. (tt, tt);
+      ready = λ fuses story q e.
+          let f = (ready_found b fuses story e).provisioned in record { idle = q.0; settled = record { fuses = fuses; provisioned = f; two = q.1 fuses f } };
+      unready = λ cause story q e. ((refl, tt), tt);
+      released = λ fuses m story w j. ((refl, w.settled), tt);
+      untrusted = λ fuses cause story w j. (((tt, tt), tt), still_work b (λ _. what.Untrusted b cause) story (λ opens. refl) w);
+      no_image = λ fuses cause other story w j. ((refl, tt), tt);
+      restores = λ fuses cause capsule story w j. ((restored_leads 1 fuses capsule).safe story w, (restored_leads 1 fuses capsule).ends story w);
+      again = λ fuses m story w j. ((refl, w.settled), tt);
+    }
 
     brought_safe : (story : Story) → NotOne (store story) → AllSafe InWork (brought_up accepts b story) story
     brought_safe story two =
-        let held : Story = noted (what.Held b) story in
-        (((refl, tt), tt), ((tt, tt), ready_safe (fuses_of (store held)) held refl two (held_idle which b story)))
+        walk_safe InWork accepts b IsIdle (λ fuses there. AtWork b there) (λ fuses cause there. AtWork b there) (λ fuses there. AtWork b there) span_walks story ((refl, tt), tt) (held_idle which b story, two)
 
   -- ---- the stretches
   -- the spans are kept, before the fuses are read, and behind that
@@ -294,37 +255,29 @@ module _ (accepts : Acceptance) (which : Bank) where
 
   -- ---- a whole step
   module _ (old new : World) where
-    none : (P : Story → Type 0) → AreGood (KeepsSpans accepts which) (begun old) new P []
-    none P = AreGood-none (KeepsSpans accepts which) (begun old) new Any (λ w moved. tt) (λ at story fell. ((refl, tt), tt)) P
+    within : Between (begun old) new (begun old) new
+    within = record { before = AllMoved-refl (begun old); behind = AllMoved-refl new }
 
-    next : (P Q : Story → Type 0) (stretch : Stretch) (stretches : List Stretch) → IsGoodStretch (KeepsSpans accepts which) (begun old) new Any P stretch Q
-        → AreGood (KeepsSpans accepts which) (begun old) new Q stretches → AreGood (KeepsSpans accepts which) (begun old) new P (stretch ∷ stretches)
-    next P Q stretch stretches good rest = AreGood-next (KeepsSpans accepts which) (begun old) new Any (λ w moved. tt) (λ at story fell. ((refl, tt), tt)) P Q stretch stretches good rest
+    allows : AllowsLosses (KeepsSpans accepts which) (begun old) new
+    allows at story fell = ((refl, tt), tt)
 
-    along : (P : Story → Type 0) (c : Course) → Follows c (begun old) new → AllGood (KeepsSpans accepts which) c.first (story_of (begun old)) → P (after c.first (story_of (begun old)))
-        → AreGood (KeepsSpans accepts which) (begun old) new P c.stretches → Traced (KeepsSpans accepts which) (begun old) new
-    along P c t first p stretches =
-        Follows-good (KeepsSpans accepts which) (begun old) new P c (begun old) new (record { before = AllMoved-refl (begun old); behind = AllMoved-refl new }) t first p stretches
-
-    ignored_kept : Follows ignored (begun old) new → Traced (KeepsSpans accepts which) (begun old) new
-    ignored_kept t = along Any ignored t ((tt, tt), tt) tt (none Any)
+    noted_kept : (moves : List Move) → Follows (record { first = moves; stretches = [] }) (begun old) new → AllGood (KeepsSpans accepts which) moves (story_of (begun old))
+        → Traced (KeepsSpans accepts which) (begun old) new
+    noted_kept moves t good = noted_along (KeepsSpans accepts which) (begun old) new Any (λ w moved. tt) allows (begun old) new within moves t good
 
     off_kept : (off : Bool) → Follows (where_off off ignored off_course) (begun old) new → Traced (KeepsSpans accepts which) (begun old) new
-    off_kept true t = ignored_kept t
-    off_kept false t = along Any off_course t ((refl, tt), tt) tt (none Any)
+    off_kept true t = noted_kept ignored.first t ((tt, tt), tt)
+    off_kept false t = noted_kept off_course.first t ((refl, tt), tt)
 
     try_kept : (root : RootSlot) (off : Bool) → Early (story_of (begun old)) → Follows (where_off off ignored (provision_course root)) (begun old) new → Traced (KeepsSpans accepts which) (begun old) new
-    try_kept root true p t = ignored_kept t
-    try_kept root false p t = along Early (provision_course root) t tt p (next Early Any (provision_stretch root) [] (provision_kept (begun old) new root) (none Any))
+    try_kept root true p t = noted_kept ignored.first t ((tt, tt), tt)
+    try_kept root false p t = provision_along (KeepsSpans accepts which) (begun old) new Any (λ w moved. tt) allows (begun old) new within root Early Any (provision_kept (begun old) new root) p t
 
     power_kept : Early (story_of (begun old)) → Follows (power_course accepts) (begun old) new → Traced (KeepsSpans accepts which) (begun old) new
     power_kept p t =
-        let bmc : Stretch = bank_stretch accepts bank.Bmc in
-        let pch : Stretch = bank_stretch accepts bank.Pch in
-        along Early (power_course accepts) t ((tt, tt), tt)
-        (record { kept = Kept-moves accepts which (Says (λ _. what.Power)) (story_of (begun old)) (tt, tt) p.kept; size = p.size })
-        (next Early Late fuse_stretch (bmc ∷ pch ∷ []) (fuse_kept (begun old) new)
-        (next Late Late bmc (pch ∷ []) (bank_kept (begun old) new bank.Bmc) (next Late Late pch [] (bank_kept (begun old) new bank.Pch) (none Late))))
+        power_along (KeepsSpans accepts which) (begun old) new Any (λ w moved. tt) allows (begun old) new within accepts Early Late Late Late
+        (fuse_kept (begun old) new) (bank_kept (begun old) new bank.Bmc) (bank_kept (begun old) new bank.Pch) (tt, tt)
+        (record { kept = Kept-moves accepts which (Says (λ _. what.Power)) (story_of (begun old)) (tt, tt) p.kept; size = p.size }) t
 
     Turn-early : (e : Event) → Early (story_of (begun old)) → Turn accepts e old new → Traced (KeepsSpans accepts which) (begun old) new
     Turn-early event.Power p t = power_kept p t

@@ -1,14 +1,23 @@
 -- Of a step along stretches each move is good.
-use Rattle.std.proofs.Common.{◌≡◌, ◌<◌, refl, sym, subst, arith, Bool, true, false, List, [], ◌∷◌, inl, inr}
+use Rattle.std.proofs.Common.{◌≡◌, ◌<◌, sym, subst, arith, true, List, [], ◌∷◌, inl, inr, Some}
 use Rattle.pfr_flash.specs.FlashState.{Rose}
 use Rattle.pfr_flash.specs.declared.flash.FlashFail.TheVariants.{Fault, Lost as Loses}
 use Rattle.pfr_flash.specs.declared.names.Device.{Device}
-use Rattle.pfr_story.specs.Story.{Story, Move, after, IsCut}
+use Rattle.pfr_flash.specs.declared.names.Bank.{Bank}
+use Rattle.pfr_flash.specs.declared.names.Bank.TheVariants as bank
+use Rattle.pfr_engine.specs.Acceptance.{Acceptance}
+use Rattle.pfr_fuses.specs.declared.root_slot.RootSlot.{RootSlot}
+use Rattle.pfr_report.specs.declared.note.LockWhy.TheVariants as why
+use Rattle.pfr_report.specs.declared.note.What.TheVariants as what
+use Rattle.pfr_story.specs.Story.{Story, Move, Says, after, noted, IsCut}
+use Rattle.pfr_story.specs.Turn.{fault_of, fuse_stretch, bank_stretch, provision_stretch, power_course, provision_course}
 use Rattle.pfr_story.specs.World.{World, story_of, state_at, AllMoved}
-use Rattle.pfr_story.specs.Safety.{Rule, AllGood, Leads}
-use Rattle.pfr_story.specs.Course.{Stretch, goes_on_if, Steps, lost, Course, Follows}
-use Rattle.pfr_story.proofs.WorldLaws.{AllMoved-trans, faults_moved, losses_moved}
-use Rattle.pfr_story.proofs.Courses.{Steps-moved, moved_behind, fault_rose}
+use Rattle.pfr_story.specs.Safety.{Rule, AllGood, AllSafe, Leads}
+use Rattle.pfr_story.specs.Plans.{migrated, provisioned}
+use Rattle.pfr_story.specs.Course.{Stretch, Steps, lost, Course, Follows}
+use Rattle.pfr_story.proofs.WorldLaws.{AllMoved-refl, AllMoved-trans, faults_moved, losses_moved}
+use Rattle.pfr_story.proofs.Courses.{went_on, Steps-moved, moved_behind, fault_rose}
+use Rattle.pfr_story.proofs.BringRules.{Any, AllowsBank, allowed_safe}
 use Rattle.pfr_story.proofs.Traces.{Traced, Traced-then, Traced-ran, Traced-whole, Traced-cut}
 
 -- The worlds of a part of a step lie between the two ends that are looked at.
@@ -35,14 +44,10 @@ abbrev pub AreGood : Rule → World → World → (Story → Type 0) → List St
 AreGood G first last P stretches = (old new : World) → Between first last old new → P (story_of old) → Steps stretches old new → Traced G old new
 
 module _ (G : Rule) (first last : World) (K : Story → Type 0) (known : (w : World) → AllMoved w last → K (story_of w)) (allows : AllowsLosses G first last) where
-  pub AreGood-none : (P : Story → Type 0) → AreGood G first last P []
+  AreGood-none : (P : Story → Type 0) → AreGood G first last P []
   AreGood-none P old new within p r = Traced-ran G [] old new r tt
 
-  traced_on : (on : Bool) (steps : World → World → Type 0) (mid new : World) → (on ≡ true → steps mid new → Traced G mid new) → goes_on_if on steps mid new → Traced G mid new
-  traced_on true steps mid new f r = f refl r
-  traced_on false steps mid new f r = Traced-ran G [] mid new r tt
-
-  pub AreGood-next : (P Q : Story → Type 0) (s : Stretch) (ss : List Stretch) → IsGoodStretch G first last K P s Q → AreGood G first last Q ss → AreGood G first last P (s ∷ ss)
+  AreGood-next : (P Q : Story → Type 0) (s : Stretch) (ss : List Stretch) → IsGoodStretch G first last K P s Q → AreGood G first last Q ss → AreGood G first last P (s ∷ ss)
   AreGood-next P Q s ss good next old new within p (inl (mid, c, rest)) =
       let here : K (story_of old) × P (story_of old) = (known old (AllMoved-trans old mid last c.moved (AllMoved-trans mid new last (Steps-moved ss mid new rest) within.behind)), p) in
       Traced-then G old mid new (Traced-whole G (s.plan (story_of old)) old mid c (good.plan.safe (story_of old) here))
@@ -55,8 +60,8 @@ module _ (G : Rule) (first last : World) (K : Story → Type 0) (known : (w : Wo
       let notes = subst (λ (t : Story). AllGood G (s.on_fault f.which) t) (sym f.stopped.is) (good.noted f.which (story_of old) f.stopped.trace here f.stopped.cut rose) in
       Traced-then G old f.at new (Traced-cut G (s.plan (story_of old)) f.which Fault old f.at f.stopped (good.plan.safe (story_of old) here))
       (Traced-then G f.at mid new (Traced-ran G (s.on_fault f.which) f.at mid f.noted notes)
-      (traced_on s.goes_on (Steps ss) mid new (λ e r. next mid new (record { before = AllMoved-trans first old mid within.before whole; behind = within.behind })
-      (subst Q (sym f.noted.is) (subst (λ (t : Story). Q (after (s.on_fault f.which) t)) (sym f.stopped.is) (good.on f.which (story_of old) f.stopped.trace here f.stopped.cut e))) r) rest))
+      (went_on s.goes_on (Steps ss) mid new (Traced G mid new) (λ e r. next mid new (record { before = AllMoved-trans first old mid within.before whole; behind = within.behind })
+      (subst Q (sym f.noted.is) (subst (λ (t : Story). Q (after (s.on_fault f.which) t)) (sym f.stopped.is) (good.on f.which (story_of old) f.stopped.trace here f.stopped.cut e))) r) (λ r. Traced-ran G [] mid new r tt) rest))
   AreGood-next P Q s ss good next old new within p (inr (inr l)) =
       let moved : AllMoved old new = AllMoved-trans old l.at new l.stopped.moved l.noted.moved in
       let here : K (story_of old) × P (story_of old) = (known old (AllMoved-trans old new last moved within.behind), p) in
@@ -65,9 +70,75 @@ module _ (G : Rule) (first last : World) (K : Story → Type 0) (known : (w : Wo
       Traced-then G old l.at new (Traced-cut G (s.plan (story_of old)) l.which Loses old l.at l.stopped (good.plan.safe (story_of old) here))
       (Traced-ran G (lost l.which) l.at new l.noted (allows l.which (story_of l.at) fell))
 
--- Each move of a step along a course is good, from where what it notes first is, and its stretches from there.
-pub Follows-good : (G : Rule) (first last : World) (P : Story → Type 0) (c : Course) (old new : World) → Between first last old new → Follows c old new
-    → AllGood G c.first (story_of old) → P (after c.first (story_of old)) → AreGood G first last P c.stretches → Traced G old new
-Follows-good G first last P c old new within (mid, says, rest) good p stretches =
-    Traced-then G old mid new (Traced-ran G c.first old mid says good)
-    (stretches mid new (record { before = AllMoved-trans first old mid within.before says.moved; behind = within.behind }) (subst P (sym says.is) p) rest)
+  -- ---- Each move of a step is good, from where what it notes first is, and its stretches from there.
+  module _ (old new : World) (within : Between first last old new) where
+    along : (P : Story → Type 0) (c : Course) → Follows c old new → AllGood G c.first (story_of old) → P (after c.first (story_of old)) → AreGood G first last P c.stretches → Traced G old new
+    along P c (mid, says, rest) good p stretches =
+        Traced-then G old mid new (Traced-ran G c.first old mid says good)
+        (stretches mid new (record { before = AllMoved-trans first old mid within.before says.moved; behind = within.behind }) (subst P (sym says.is) p) rest)
+
+    -- of one that only notes something
+    pub noted_along : (moves : List Move) → Follows (record { first = moves; stretches = [] }) old new → AllGood G moves (story_of old) → Traced G old new
+    noted_along moves t good = along (λ story. Unit {0}) (record { first = moves; stretches = [] }) t good tt (AreGood-none (λ story. Unit {0}))
+
+    pub power_along : (accepts : Acceptance) (P Q R S : Story → Type 0) → IsGoodStretch G first last K P fuse_stretch Q → IsGoodStretch G first last K Q (bank_stretch accepts bank.Bmc) R
+        → IsGoodStretch G first last K R (bank_stretch accepts bank.Pch) S → G (Says (λ _. what.Power)) (story_of old) → P (noted (λ _. what.Power) (story_of old)) → Follows (power_course accepts) old new → Traced G old new
+    power_along accepts P Q R S fuses bmc pch good p t =
+        let last_one = AreGood-next R S (bank_stretch accepts bank.Pch) [] pch (AreGood-none S) in
+        let banks = AreGood-next Q R (bank_stretch accepts bank.Bmc) (bank_stretch accepts bank.Pch ∷ []) bmc last_one in
+        along P (power_course accepts) t (good, tt) p (AreGood-next P Q fuse_stretch (bank_stretch accepts bank.Bmc ∷ bank_stretch accepts bank.Pch ∷ []) fuses banks)
+
+    pub provision_along : (root : RootSlot) (P Q : Story → Type 0) → IsGoodStretch G first last K P (provision_stretch root) Q → P (story_of old) → Follows (provision_course root) old new → Traced G old new
+    provision_along root P Q good p t = along P (provision_course root) t tt p (AreGood-next P Q (provision_stretch root) [] good (AreGood-none Q))
+
+-- ---- a rule that allows what is noted of banks, and calls of their devices
+-- all that is noted of banks and of losses of power, and all that banks' devices do, is good
+pub record AllowsBanks (G : Rule) : Type 0 where
+  pub held : (b : Bank) (story : Story) → G (Says (what.Held b)) story
+  pub bank : (b : Bank) → AllowsBank G b
+  pub lost : (which : Device) (story : Story) → G (Says (what.Lost (Some which))) story
+
+module _ (G : Rule) (h : AllowsBanks G) where
+  module _ (first last : World) where
+    bank_good : (accepts : Acceptance) (b : Bank) → IsGoodStretch G first last Any Any (bank_stretch accepts b) Any
+    bank_good accepts b = record {
+      plan = record { safe = λ story p. allowed_safe G accepts b (h.bank b) story (h.held b story); ends = λ story p. tt };
+      noted = λ which story trace p cut rose. ((h.bank b).locked (fault_of which) (after trace story), tt);
+      on = λ which story trace p cut e. tt;
+    }
+
+    fuse_good : (P : Story → Type 0) → ((story : Story) → P story → AllSafe G (migrated story) story) → IsGoodStretch G first last Any P fuse_stretch Any
+    fuse_good P safe = record {
+      plan = record { safe = λ story p. safe story p.1; ends = λ story p. tt };
+      noted = λ which story trace p cut rose. (h.held bank.Bmc _, ((h.bank bank.Bmc).locked why.StoreFault _, (h.held bank.Pch _, ((h.bank bank.Pch).locked why.StoreFault _, tt))));
+      on = λ which story trace p cut e. tt;
+    }
+
+    provision_good : (P : Story → Type 0) (root : RootSlot) → ((story : Story) → P story → AllSafe G (provisioned root story) story) → IsGoodStretch G first last Any P (provision_stretch root) Any
+    provision_good P root safe = record {
+      plan = record { safe = λ story p. safe story p.1; ends = λ story p. tt };
+      noted = λ which story trace p cut rose. ((h.bank bank.Bmc).locked why.StoreFault _, ((h.bank bank.Pch).locked why.StoreFault _, tt));
+      on = λ which story trace p cut e. tt;
+    }
+
+  module _ (old new : World) where
+    within : Between old new old new
+    within = record { before = AllMoved-refl old; behind = AllMoved-refl new }
+
+    allows : AllowsLosses G old new
+    allows which story fell = (h.lost which story, tt)
+
+    -- each move is good of a step that only notes something
+    pub noted_good : (moves : List Move) → Follows (record { first = moves; stretches = [] }) old new → AllGood G moves (story_of old) → Traced G old new
+    noted_good moves t good = noted_along G old new Any (λ w moved. tt) allows old new within moves t good
+
+  -- of a power-on, from a story where P holds
+  pub power_good : (P : Story → Type 0) (accepts : Acceptance) (old new : World) → ((story : Story) → P story → AllSafe G (migrated story) story) → G (Says (λ _. what.Power)) (story_of old)
+      → P (noted (λ _. what.Power) (story_of old)) → Follows (power_course accepts) old new → Traced G old new
+  power_good P accepts old new safe says p t =
+      power_along G old new Any (λ w moved. tt) (allows old new) old new (within old new) accepts P Any Any Any (fuse_good old new P safe) (bank_good old new accepts bank.Bmc) (bank_good old new accepts bank.Pch) says p t
+
+  -- of a provision
+  pub provision_traced : (P : Story → Type 0) (root : RootSlot) (old new : World) → ((story : Story) → P story → AllSafe G (provisioned root story) story)
+      → P (story_of old) → Follows (provision_course root) old new → Traced G old new
+  provision_traced P root old new safe p t = provision_along G old new Any (λ w moved. tt) (allows old new) old new (within old new) root P Any (provision_good old new P root safe) p t

@@ -1,5 +1,5 @@
 -- What a step does to the store.
-use Rattle.std.proofs.Common.{◌≡◌, ◌∙◌, refl, sym, ap, subst, ℕ, Bool, true, false, List, [], ◌∷◌, ◌++◌, length, append_assoc, Result, Ok, Err, None}
+use Rattle.std.proofs.Common.{◌≡◌, refl, sym, ap, subst, ℕ, Bool, true, false, List, [], ◌∷◌, ◌++◌, length, Result, Ok, Err, None}
 use Rattle.std.proofs.lemmas.List.{append-nil}
 use Rattle.pfr_flash.specs.Operation.{Operation}
 use Rattle.pfr_flash.specs.Plan.{IsPart}
@@ -15,30 +15,16 @@ use Rattle.pfr_fuses.specs.declared.root_slot.RootSlot.{RootSlot}
 use Rattle.pfr_script.specs.declared.event.Event.{Event}
 use Rattle.pfr_script.specs.declared.event.Event.TheVariants as event
 use Rattle.pfr_report.specs.declared.note.What.TheVariants as what
-use Rattle.pfr_story.specs.Story.{Past, Story, Says, Does, Asks, after, with_op, operated, image_of, device_of, all_do, called}
+use Rattle.pfr_story.specs.Story.{Past, Story, Says, Does, Asks, after, with_op, image_of, device_of, all_do, called}
 use Rattle.pfr_story.specs.World.{World, past_of, story_of}
 use Rattle.pfr_story.specs.Safety.{Rule, AllSafe, Keeps}
 use Rattle.pfr_story.specs.Plans.{store, migration_in, provisioned_in}
 use Rattle.pfr_story.specs.Course.{Follows}
 use Rattle.pfr_story.specs.Standing.{standing_of, is_off}
 use Rattle.pfr_story.specs.Turn.{off_course, ignored, provision_course, where_off, begun, Turn}
-use Rattle.pfr_story.proofs.Sequence.{after-append}
-use Rattle.pfr_story.proofs.SafetyLaws.{AllSafe-append}
-use Rattle.pfr_story.proofs.CallLaws.{called_safe}
+use Rattle.pfr_story.proofs.SafetyLaws.{AllSafe-append, past_did, called_safe}
 use Rattle.pfr_story.proofs.Traces.{Traced, Traced-keeps}
-use Rattle.pfr_story.proofs.StepRules.{AllowsBanks, noted_good, power_good, provision_traced}
-
--- ---- operations of the store
-abbrev pub with_all : Past → List Operation → Past
-with_all past ops = record { start = past.start; ops = past.ops ++ ops }
-
--- what a call leaves of the store that does all of its operations
-pub nv_did : (ops : List Operation) (story : Story) → (after (all_do device.Nv ops) story).nv ≡ with_all story.nv ops
-nv_did [] story = ap (λ (all : List Operation). record { start = story.nv.start; ops = all }) (sym (append-nil story.nv.ops))
-nv_did (op ∷ ops) story = nv_did ops (operated device.Nv op story) ∙ ap (λ (all : List Operation). record { start = story.nv.start; ops = all }) (append_assoc story.nv.ops (op ∷ []) ops)
-
-pub nv_called : (ops : List Operation) (story : Story) → (after (called device.Nv ops) story).nv ≡ with_all story.nv ops
-nv_called ops story = ap (λ (s : Story). s.nv) (after-append (all_do device.Nv ops) (Asks device.Nv ∷ []) story) ∙ nv_did ops story
+use Rattle.pfr_story.proofs.StepTraces.{AllowsBanks, noted_good, power_good, provision_traced}
 
 -- the store did these operations, or a front of them, the last perhaps torn
 pub record Stored (plan : List Operation) (old new : Past) : Type 0 where
@@ -73,13 +59,15 @@ module _ (plan : List Operation) (base : Past) where
   storing_banks : AllowsBanks (Storing plan base)
   storing_banks = record {
     held = λ b story. tt;
-    released = λ b svn story. tt;
-    locked = λ b cause story. tt;
-    untrusted = λ b cause story. tt;
-    restored = λ b level story. tt;
+    bank = λ b. record {
+      released = λ svn story. tt;
+      locked = λ cause story. tt;
+      untrusted = λ cause story. tt;
+      restored = λ level story. tt;
+      asks = λ which story own. tt;
+      works = λ op story. works b op story;
+    };
     lost = λ which story. tt;
-    asks = λ which story. tt;
-    works = λ b op story. works b op story;
   }
 
   call_stores : (ops : List Operation) (story : Story) → ops ≡ plan → story.nv ≡ base → AllSafe (Storing plan base) (called device.Nv ops) story
@@ -88,10 +76,10 @@ module _ (plan : List Operation) (base : Past) where
     where
       stored : (added : List Operation) → IsPart (image_of story.nv) ops added → Stored ops story.nv (after (all_do device.Nv added) story).nv
       stored added part =
-          subst (λ (p : Past). Stored ops story.nv p) (sym (nv_did added story)) (record { start = refl; added = added; is = refl; part = part })
+          subst (λ (p : Past). Stored ops story.nv p) (sym (past_did device.Nv added story)) (record { start = refl; added = added; is = refl; part = part })
 
       here : AllSafe (Storing ops story.nv) (called device.Nv ops) story
-      here = called_safe (Storing ops story.nv) device.Nv (λ later. Stored ops story.nv later.nv) (λ op later q. q) (λ later. tt) ops story (λ added part. stored added part)
+      here = called_safe (Storing ops story.nv) device.Nv (λ later. Stored ops story.nv later.nv) (λ op later p q. q) (λ later. tt) ops story (λ added part. stored added part)
 
   -- the store after a trace
   stored_traced : (old new : World) → Traced (Storing plan base) old new → past_of old.nv ≡ base → Stored plan base (past_of new.nv)
@@ -133,8 +121,8 @@ Turn-stored accepts event.Off old new t = by_off (is_off (standing_of bank.Bmc o
     base = past_of old.nv
 
     by_off : (b : Bool) → Follows (where_off b ignored off_course) (begun old) new → Stored [] base (past_of new.nv)
-    by_off true t = stored_traced [] base (begun old) new (noted_good (Storing [] base) (storing_banks [] base) (Says (λ _. what.Ignored) ∷ []) (begun old) new t (tt, tt)) refl
-    by_off false t = stored_traced [] base (begun old) new (noted_good (Storing [] base) (storing_banks [] base) (Says (what.Lost None) ∷ []) (begun old) new t (tt, tt)) refl
+    by_off true t = stored_traced [] base (begun old) new (noted_good (Storing [] base) (storing_banks [] base) (begun old) new (Says (λ _. what.Ignored) ∷ []) t (tt, tt)) refl
+    by_off false t = stored_traced [] base (begun old) new (noted_good (Storing [] base) (storing_banks [] base) (begun old) new (Says (what.Lost None) ∷ []) t (tt, tt)) refl
 Turn-stored accepts (event.Provision root) old new t = by_off (is_off (standing_of bank.Bmc old.notes.list)) t
   where
     base : Past
@@ -144,7 +132,7 @@ Turn-stored accepts (event.Provision root) old new t = by_off (is_off (standing_
     plan = operations_in root (judged_here root (story_of old))
 
     by_off : (b : Bool) → Follows (where_off b ignored (provision_course root)) (begun old) new → Stored plan base (past_of new.nv)
-    by_off true t = stored_traced plan base (begun old) new (noted_good (Storing plan base) (storing_banks plan base) (Says (λ _. what.Ignored) ∷ []) (begun old) new t (tt, tt)) refl
+    by_off true t = stored_traced plan base (begun old) new (noted_good (Storing plan base) (storing_banks plan base) (begun old) new (Says (λ _. what.Ignored) ∷ []) t (tt, tt)) refl
     by_off false t =
         stored_traced plan base (begun old) new
         (provision_traced (Storing plan base) (storing_banks plan base) (λ story. story ≡ story_of (begun old)) root (begun old) new

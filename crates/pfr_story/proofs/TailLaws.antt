@@ -15,7 +15,6 @@ use Rattle.pfr_fuses.specs.RootSlot.{layout_of}
 use Rattle.pfr_fuses.proofs.StandsLemmas.{fuses_of-blank, fuses_of-spent}
 use Rattle.pfr_manifest.specs.declared.manifest.Manifest.{Manifest}
 use Rattle.pfr_capsule.specs.CapsuleState.{CapsuleState}
-use Rattle.pfr_capsule.specs.Good.{StandForBank}
 use Rattle.pfr_capsule.specs.declared.fail.CapsuleFail.{CapsuleFail}
 use Rattle.pfr_capsule.proofs.GoodLaw.{good_found}
 use Rattle.pfr_auth.specs.Areas.{judge_area}
@@ -35,15 +34,16 @@ use Rattle.pfr_report.specs.declared.note.LockWhy.TheVariants as why
 use Rattle.pfr_report.specs.declared.note.Note.{Note}
 use Rattle.pfr_report.specs.declared.note.What.{What}
 use Rattle.pfr_report.specs.declared.note.What.TheVariants as what
-use Rattle.pfr_story.specs.Story.{Story, Move, Says, after, noted, counts_of, past_at, device_of, called}
+use Rattle.pfr_story.specs.Story.{Past, Story, Move, Says, after, noted, counts_of, past_at, device_of, called}
 use Rattle.pfr_story.specs.Plans.{mine, store, ready_of, judged_active, judged_recovery, restore_ops, restored, by_second, checked_again, by_recovery, by_active, by_ready, brought_up}
 use Rattle.pfr_story.specs.Promises.{count_at}
 use Rattle.pfr_story.specs.Causes.{IsNotTrusted, IsAgainst, IsDue, IsRestorable}
 use Rattle.pfr_story.proofs.Sequence.{after-append}
-use Rattle.pfr_story.proofs.CallLaws.{image_noted, AllMake-append, AllMake-called}
-use Rattle.pfr_story.proofs.Made.{said}
-use Rattle.pfr_story.proofs.Noting.{noted_first, noted_next, Whichever, AllSay}
-use Rattle.pfr_story.proofs.RestoreLaws.{called_after, RestoresFrom, restored_judged}
+use Rattle.pfr_story.proofs.SafetyLaws.{image_noted, past_called}
+use Rattle.pfr_story.proofs.Made.{said, noted_first, noted_next, Whichever, AllSay}
+use Rattle.pfr_story.specs.Safety.{Rule}
+use Rattle.pfr_story.proofs.BringRules.{AllowsBank, allowed_safe, Making, safe_made}
+use Rattle.pfr_story.proofs.RestoreLaws.{stand_for, RestoresFrom, restored_judged}
 
 -- ---- what is noted behind Held
 count_is : (b : Bank) (story : Story) → count_at b (counts_of story) ≡ length (past_at (device_of b) story).ops
@@ -124,10 +124,9 @@ module _ (accepts : Acceptance) (b : Bank) where
   -- ---- a good recovery area
   good_is : (story : Story) (g : HasGoodRecovery b (mine b story) (store story) accepts) (fuses : FusesState) → fuses_of (store story) ≡ Ok fuses → judged_recovery accepts b fuses story ≡ Ok g.good.capsule
   good_is story g fuses f =
-      let stands : StandForBank (store story) g.fuses b = record { all = g.fuses; provisioned = g.provisioned; provision = refl; floor = refl; capsule_row = refl; manifest_row = refl } in
       let layout : Layout = layout_of g.fuses.provision b in
       subst (λ (x : FusesState). judged_recovery accepts b x story ≡ Ok g.good.capsule) (fuses_one (store story) g.fuses fuses g.provisioned f)
-      (good_found (mine b story) (store story) layout.recovery_at layout.area_len b accepts g.fuses stands g.good)
+      (good_found (mine b story) (store story) layout.recovery_at layout.area_len b accepts g.fuses (stand_for (store story) g.fuses b g.provisioned) g.good)
 
   good_layout : (story : Story) (g : HasGoodRecovery b (mine b story) (store story) accepts) → IsValidLayout (layout_of g.fuses.provision b) (length (mine b story))
   good_layout story g =
@@ -169,7 +168,7 @@ module _ (accepts : Acceptance) (b : Bank) where
       let ops : List Operation = restore_ops 1 (mine b story) capsule (layout_of fuses.provision b) in
       let then_story : Story = after (called (device_of b) ops) story in
       ap (λ (s : Story). count_at b (counts_of s)) (after-append (called (device_of b) ops) (Says (λ _. what.Restored b 1) ∷ []) story)
-      ∙ count_is b then_story ∙ ap (λ (xs : List Operation). length xs) (called_after b ops story).added
+      ∙ count_is b then_story ∙ ap (λ (p : Past). length p.ops) (past_called (device_of b) ops story)
       ∙ length-append (past_at (device_of b) story).ops ops ∙ ap (λ (n : ℕ). n + length ops) (sym (count_is b story))
 
   restore_few : (image : List ℕ) (capsule : CapsuleState) (layout : Layout) → length (restore_ops 1 image capsule layout) ≤ 17 * (length image / 4096)
@@ -234,34 +233,20 @@ Apart which that = ¬ IsOf which that
 abbrev pub NoneOf : Bank → List Move → Type 0
 NoneOf which moves = AllSay (Apart which) moves
 
+-- the other bank's part
 module _ (accepts : Acceptance) (which b : Bank) (other : ¬ (b ≡ which)) where
-  abbrev Never : (Counts → What) → Type 0
-  Never w = (at : Counts) → Apart which (w at)
+  abbrev Others : Rule
+  Others = Making Whichever (λ w. (at : Counts) → Apart which (w at))
 
-  second_apart : (judged : Result Manifest ActiveFail) (story : Story) → NoneOf which (by_second b judged story)
-  second_apart (Ok m) story = ((λ at e. other e), tt)
-  second_apart (Err cause) story = tt
-
-  restored_apart : (fuses : FusesState) (capsule : CapsuleState) (story : Story) → NoneOf which (restored b 1 fuses capsule story)
-  restored_apart fuses capsule story =
-      let ops : List Operation = restore_ops 1 (mine b story) capsule (layout_of fuses.provision b) in
-      AllMake-append Whichever Never (called (device_of b) ops) (Says (λ _. what.Restored b 1) ∷ []) (AllMake-called Whichever Never (device_of b) ops tt) ((λ at e. other e), tt)
-
-  recovery_apart : (fuses : FusesState) (cause : ActiveFail) (judged : Result CapsuleState CapsuleFail) (story : Story) → NoneOf which (by_recovery accepts b fuses cause judged story)
-  recovery_apart fuses cause (Ok capsule) story =
-      let end : Story = after (restored b 1 fuses capsule story) story in
-      AllMake-append Whichever Never (restored b 1 fuses capsule story) (checked_again accepts b fuses end) (restored_apart fuses capsule story) (tt, second_apart (judged_active accepts b fuses end) end)
-  recovery_apart fuses cause (Err cause_of) story = ((λ at e. other e), tt)
-
-  active_apart : (fuses : FusesState) (judged : Result Manifest ActiveFail) (story : Story) → NoneOf which (by_active accepts b fuses judged story)
-  active_apart fuses (Ok m) story = ((λ at e. other e), tt)
-  active_apart fuses (Err cause) story =
-      let told : Story = noted (λ _. what.Untrusted b cause) story in
-      ((λ at e. other e), (tt, recovery_apart fuses cause (judged_recovery accepts b fuses told) told))
-
-  ready_apart : (ready : Result FusesState LockWhy) (story : Story) → NoneOf which (by_ready accepts b ready story)
-  ready_apart (Ok fuses) story = (tt, active_apart fuses (judged_active accepts b fuses story) story)
-  ready_apart (Err cause) story = ((λ at e. other e), tt)
+  others_alone : AllowsBank Others b
+  others_alone = record {
+    released = λ svn story at e. other e;
+    locked = λ cause story at e. other e;
+    untrusted = λ cause story at e. other e;
+    restored = λ level story at e. other e;
+    asks = λ d story own. tt;
+    works = λ op story. tt;
+  }
 
   pub brought_apart : (story : Story) → NoneOf which (brought_up accepts b story)
-  brought_apart story = ((λ at e. other e), (tt, ready_apart (ready_of b (noted (what.Held b) story)) (noted (what.Held b) story)))
+  brought_apart story = safe_made Whichever _ (brought_up accepts b story) story (allowed_safe Others accepts b others_alone story (λ at e. other e))

@@ -1,30 +1,27 @@
 -- The world moved by good moves.
 use Rattle.std.proofs.Common.{◌≡◌, ◌∙◌, refl, sym, ap, subst, arith, ℕ, ◌≤◌, List, [], ◌∷◌, ◌++◌, length, length-append, take, drop, append_assoc, ◌⊎◌, inl, inr}
 use Rattle.std.proofs.lemmas.List.{append-nil, take_all, take-append-le}
-use Rattle.std.proofs.lemmas.List.Elements.{All-take}
 use Rattle.std.proofs.Math.Seq.{drop-append_seam}
 use Rattle.pfr_flash.specs.Bytes.{AreBytes}
 use Rattle.pfr_flash.specs.FlashState.{FlashState}
-use Rattle.pfr_flash.specs.Holding.{WritesBytes, HoldsBytes}
 use Rattle.pfr_flash.specs.Moved.{Moved}
 use Rattle.pfr_flash.specs.Operation.{Operation, play, play_first}
 use Rattle.pfr_flash.specs.declared.flash.FlashFail.{FlashFail}
 use Rattle.pfr_flash.specs.declared.names.Counts.{Counts}
 use Rattle.pfr_flash.specs.declared.names.Device.{Device}
 use Rattle.pfr_flash.specs.declared.names.Device.TheVariants as device
-use Rattle.pfr_flash.proofs.AreBytesLemmas.{AreBytes-play}
 use Rattle.pfr_report.specs.Texts.{IsNoted}
 use Rattle.pfr_report.specs.declared.note.Note.{Note}
 use Rattle.pfr_report.specs.declared.note.What.{What}
+use Rattle.pfr_report.specs.declared.note.What.TheVariants as what
 use Rattle.pfr_story.specs.Story.{Past, Story, Move, Says, Does, Asks, after, moved_by, noted, with_op, counts_of, image_at, image_of}
-use Rattle.pfr_story.specs.World.{World, past_of, story_of, AllMoved, AreDevices, added}
+use Rattle.pfr_story.specs.World.{World, past_of, story_of, AllMoved, added}
 use Rattle.pfr_story.specs.Goes.{Ran, Stopped}
 use Rattle.pfr_story.specs.Safety.{Rule, AllGood, AllSafe, Keeps, Both}
 use Rattle.pfr_story.specs.Promises.{NotBefore}
 use Rattle.pfr_story.proofs.WorldLaws.{AllMoved-trans}
 use Rattle.pfr_story.proofs.Sequence.{after-append}
-use Rattle.pfr_story.proofs.CallLaws.{notes_operated}
-use Rattle.pfr_story.proofs.SafetyLaws.{AllGood-append, safe_whole, safe_cut, kept_by}
+use Rattle.pfr_story.proofs.SafetyLaws.{AllGood-append, safe_whole, safe_cut, kept_by, notes_operated}
 
 pub record Traced (G : Rule) (old new : World) : Type 0 where
   pub trace : List Move
@@ -118,22 +115,12 @@ upto_begins a b p =
 begins_moved : (old new : FlashState) → Moved old new → Begins (past_of old) (past_of new)
 begins_moved old new m = record { start = m.start; more = m.ops.more; ops = m.ops.is }
 
--- ---- what devices hold that hold bytes later
+pub precedes_moved : (old new : World) → AllMoved old new → Precedes (story_of old) (story_of new)
+precedes_moved old new m = record { bmc = begins_moved old.bmc new.bmc m.bmc; pch = begins_moved old.pch new.pch m.pch; nv = begins_moved old.nv new.nv m.nv }
+
+-- all devices hold bytes
 abbrev pub AreImages : Story → Type 0
 AreImages story = (which : Device) → AreBytes (image_at which story)
-
-bytes_before : (a : Past) (d : FlashState) → Begins a (past_of d) → HoldsBytes d → AreBytes (image_of a)
-bytes_before a d p h = subst AreBytes (upto_begins a (past_of d) p) (AreBytes-play d.start (take (length a.ops) d.ops) h.start (All-take WritesBytes (length a.ops) d.ops h.ops))
-
-pub images_before : (at : Story) (new : World) → Precedes at (story_of new) → AreDevices new → AreImages at
-images_before at new p h device.Bmc = bytes_before at.bmc new.bmc p.bmc h.bmc
-images_before at new p h device.Pch = bytes_before at.pch new.pch p.pch h.pch
-images_before at new p h device.Nv = bytes_before at.nv new.nv p.nv h.nv
-
--- so each moment of a step is one of devices that hold bytes
-pub images_between : (last : World) → AreDevices last → (w : World) → AllMoved w last → AreImages (story_of w)
-images_between last h w m =
-    images_before (story_of w) last (record { bmc = begins_moved w.bmc last.bmc m.bmc; pch = begins_moved w.pch last.pch m.pch; nv = begins_moved w.nv last.nv m.nv }) h
 
 -- ---- what is known of each note
 pub noted_append : (xs ys : List Note) (that : What) → IsNoted (xs ++ ys) that → IsNoted xs that ⊎ IsNoted ys that
@@ -144,6 +131,14 @@ noted_append (x ∷ xs) ys that (inr n) = elim (noted_append xs ys that n) [ inl
 pub noted_right : (xs ys : List Note) (that : What) → IsNoted ys that → IsNoted (xs ++ ys) that
 noted_right [] ys that n = n
 noted_right (x ∷ xs) ys that n = inr (noted_right xs ys that n)
+
+-- a note that carries counts carries these
+abbrev pub IsStamped : What → Counts → Type 0
+IsStamped (what.Held b at) now = at ≡ now
+IsStamped (what.Released b svn at) now = at ≡ now
+IsStamped (what.Locked b why at) now = at ≡ now
+IsStamped (what.Lost device at) now = at ≡ now
+IsStamped that now = Unit {0}
 
 -- a fact of each note that the rule lets through, where it is made
 abbrev pub Tells : Rule → (What → Story → Type 0) → Type 0

@@ -18,18 +18,18 @@ use Rattle.pfr_report.specs.declared.note.What.TheVariants as what
 use Rattle.pfr_story.specs.Story.{Story, Move, Says, called, after}
 use Rattle.pfr_story.specs.World.{World, story_of, state_at, AllMoved, NoneLost, NoneRose, added}
 use Rattle.pfr_story.specs.Safety.{AllGood, AllSafe, AllMake}
-use Rattle.pfr_story.specs.Course.{Stretch, Course, Follows, Calm}
+use Rattle.pfr_story.specs.Course.{Stretch, Follows, Calm}
 use Rattle.pfr_story.specs.Standing.{standing_of, is_off}
 use Rattle.pfr_story.specs.Plans.{store, brought_up, migrated, provisioned, provisioned_in, migration_in}
 use Rattle.pfr_story.specs.Turn.{fault_of, unreadable, bank_stretch, fuse_stretch, provision_stretch, where_off, ignored, power_course, off_course, provision_course, course, begun, Turn}
 use Rattle.pfr_story.specs.Promises.{IsSwitchedOff}
 use Rattle.pfr_story.proofs.WorldLaws.{AllMoved-refl, AllMoved-trans}
-use Rattle.pfr_story.proofs.SafetyLaws.{AllSafe-append}
-use Rattle.pfr_story.proofs.CallLaws.{AllMake-append, AllMake-called, cut_makes}
+use Rattle.pfr_story.proofs.SafetyLaws.{AllSafe-append, AllMake-append, AllMake-called, cut_makes}
 use Rattle.pfr_story.proofs.Courses.{Steps-moved, Follows-calm}
-use Rattle.pfr_story.proofs.Traces.{Traced, Traced-known, Traced-since, KnownBefore, Precedes, Precedes-after}
-use Rattle.pfr_story.proofs.StepTraces.{Between, AllowsLosses, IsGoodStretch, AreGood, AreGood-none, AreGood-next, Follows-good}
-use Rattle.pfr_story.proofs.Facts.{Setting, Fact, IsTrue, call_true, brought_true, IsOwn, IsNoLoss, brought_makes, lock_true}
+use Rattle.pfr_story.proofs.Traces.{Traced, Traced-known, Traced-since, KnownBefore, Precedes, Precedes-after, precedes_moved}
+use Rattle.pfr_story.proofs.StepTraces.{Between, AllowsLosses, IsGoodStretch, noted_along, power_along, provision_along}
+use Rattle.pfr_story.proofs.BringRules.{Any, IsOwn}
+use Rattle.pfr_story.proofs.Facts.{Setting, IsBehind, Fact, IsTrue, call_true, brought_true, IsNoLoss, brought_makes, lock_true}
 
 -- A step in which no count of losses or faults rose is calm.
 pub Turn-calm : (accepts : Acceptance) (e : Event) (old new : World) → Turn accepts e old new → NoneLost old new → NoneRose old new → Calm (course accepts e (story_of old)) (begun old) new
@@ -43,9 +43,6 @@ Turn-calm accepts e old new t lost rose = Follows-calm (course accepts e (story_
 -- Of each device the work of a step is what its calls do.
 pub Turn-moved : (accepts : Acceptance) (e : Event) (old new : World) → Turn accepts e old new → AllMoved (begun old) new
 Turn-moved accepts e old new (mid, first, rest) = AllMoved-trans (begun old) mid new first.moved (Steps-moved (course accepts e (story_of old)).stretches mid new rest)
-
-abbrev pub Any : Story → Type 0
-Any story = Unit {0}
 
 -- ---- the stretches
 abbrev pub IsStore : Device → Type 0
@@ -63,14 +60,10 @@ pub provisioned_makes : (root : RootSlot) (story : Story) → AllMake IsStore Is
 provisioned_makes root story = (refl, tried_makes root (judge_provision (store story) root (length story.bmc.start) (length story.pch.start)) story)
 
 module _ (s : Setting) where
-  -- the first moment precedes it
-  abbrev IsBehind : Story → Type 0
-  IsBehind story = Precedes (story_of s.first) story
-
   abbrev pub IsTrueStretch : Stretch → Type 0
-  IsTrueStretch stretch = IsGoodStretch (IsTrue s) s.first s.last Any IsBehind stretch IsBehind
+  IsTrueStretch stretch = IsGoodStretch (IsTrue s) s.first s.last Any (IsBehind s) stretch (IsBehind s)
 
-  behind_moves : (moves more : List Move) (story : Story) → IsBehind story → IsBehind (after more (after moves story))
+  behind_moves : (moves more : List Move) (story : Story) → IsBehind s story → IsBehind s (after more (after moves story))
   behind_moves moves more story p = Precedes-after (story_of s.first) (after moves story) more (Precedes-after (story_of s.first) story moves p)
 
   bank_true : (b : Bank) → IsTrueStretch (bank_stretch s.accepts b)
@@ -124,40 +117,23 @@ module _ (s : Setting) where
     allows : AllowsLosses (IsTrue s) s.first s.last
     allows which story fell = ((refl, fell), tt)
 
-    along : (c : Course) → Follows c (begun old) new → AllGood (IsTrue s) c.first (story_of (begun old)) → AreGood (IsTrue s) s.first s.last IsBehind c.stretches → Traced (IsTrue s) (begun old) new
-    along c t first stretches =
-        let m = within.before in
-        let behind : IsBehind (story_of (begun old)) = record {
-          bmc = record { start = m.bmc.start; more = m.bmc.ops.more; ops = m.bmc.ops.is };
-          pch = record { start = m.pch.start; more = m.pch.ops.more; ops = m.pch.ops.is };
-          nv = record { start = m.nv.start; more = m.nv.ops.more; ops = m.nv.ops.is };
-        } in
-        Follows-good (IsTrue s) s.first s.last IsBehind c (begun old) new within t first (Precedes-after (story_of s.first) (story_of (begun old)) c.first behind) stretches
+    behind : IsBehind s (story_of (begun old))
+    behind = precedes_moved s.first (begun old) within.before
 
-    none : AreGood (IsTrue s) s.first s.last IsBehind []
-    none = AreGood-none (IsTrue s) s.first s.last Any (λ w moved. tt) allows IsBehind
-
-    next : (stretch : Stretch) (stretches : List Stretch) → IsTrueStretch stretch → AreGood (IsTrue s) s.first s.last IsBehind stretches → AreGood (IsTrue s) s.first s.last IsBehind (stretch ∷ stretches)
-    next stretch stretches good rest = AreGood-next (IsTrue s) s.first s.last Any (λ w moved. tt) allows IsBehind IsBehind stretch stretches good rest
-
-    ignored_true : Follows ignored (begun old) new → Traced (IsTrue s) (begun old) new
-    ignored_true t = along ignored t (tt, tt) none
+    noted_true : (moves : List Move) → Follows (record { first = moves; stretches = [] }) (begun old) new → AllGood (IsTrue s) moves (story_of (begun old)) → Traced (IsTrue s) (begun old) new
+    noted_true moves t good = noted_along (IsTrue s) s.first s.last Any (λ w moved. tt) allows (begun old) new within moves t good
 
     off_true : (off : Bool) → (off ≡ false → s.IsSwitched) → Follows (where_off off ignored off_course) (begun old) new → Traced (IsTrue s) (begun old) new
-    off_true true may t = ignored_true t
-    off_true false may t = along off_course t ((refl, may refl), tt) none
+    off_true true may t = noted_true ignored.first t (tt, tt)
+    off_true false may t = noted_true off_course.first t ((refl, may refl), tt)
 
     try_true : (root : RootSlot) (off : Bool) → Follows (where_off off ignored (provision_course root)) (begun old) new → Traced (IsTrue s) (begun old) new
-    try_true root true t = ignored_true t
-    try_true root false t = along (provision_course root) t tt (next (provision_stretch root) [] (provision_true root) none)
+    try_true root true t = noted_true ignored.first t (tt, tt)
+    try_true root false t = provision_along (IsTrue s) s.first s.last Any (λ w moved. tt) allows (begun old) new within root (IsBehind s) (IsBehind s) (provision_true root) behind t
 
   pub Turn-true : (e : Event) (old new : World) → Between s.first s.last (begun old) new → MaySwitch e old → Turn s.accepts e old new → Traced (IsTrue s) (begun old) new
   Turn-true event.Power old new within may t =
-      let pch = bank_stretch s.accepts bank.Pch in
-      let bmc = bank_stretch s.accepts bank.Bmc in
-      along event.Power old new within (power_course s.accepts) t (tt, tt)
-      (next event.Power old new within fuse_stretch (bmc ∷ pch ∷ []) fuse_true
-      (next event.Power old new within bmc (pch ∷ []) (bank_true bank.Bmc) (next event.Power old new within pch [] (bank_true bank.Pch) (none event.Power old new within))))
+      power_along (IsTrue s) s.first s.last Any (λ w moved. tt) (allows event.Power old new within) (begun old) new within s.accepts (IsBehind s) (IsBehind s) (IsBehind s) (IsBehind s) fuse_true (bank_true bank.Bmc) (bank_true bank.Pch) tt (Precedes-after (story_of s.first) (story_of (begun old)) (power_course s.accepts).first (behind event.Power old new within)) t
   Turn-true event.Off old new within may t =
       off_true event.Off old new within (is_off (standing_of bank.Bmc old.notes.list)) (λ off. may (λ on. absurd (let k = off in cc))) t
   Turn-true (event.Provision root) old new within may t = try_true (event.Provision root) old new within root (is_off (standing_of bank.Bmc old.notes.list)) t

@@ -15,3 +15,4 @@ pub mod Spans
 pub mod Keeping
 pub mod Run
 pub mod Recovery
+pub mod Contents

@@ -29,10 +29,6 @@ AllSafe G (move ∷ moves) story = IsSafe G move story × AllSafe G moves (moved
 abbrev pub Keeps : Rule → (Story → Type 0) → Type 0
 Keeps G I = (move : Move) (story : Story) → G move story → I story → I (moved_by move story)
 
--- A tear can't leave the rule: it speaks of the range of an operation alone.
-abbrev pub IsByRange : Rule → Type 0
-IsByRange G = (which : Device) (op done : Operation) (story : Story) → IsTorn (image_at which story) op done → G (Does which op) story → G (Does which done) story
-
 -- two rules at once
 abbrev pub Both : Rule → Rule → Rule
 Both G H move story = G move story × H move story

@@ -41,6 +41,10 @@ abbrev pub device_of : Bank → Device
 device_of bank.Bmc = device.Bmc
 device_of bank.Pch = device.Pch
 
+abbrev pub other_bank : Bank → Bank
+other_bank bank.Bmc = bank.Pch
+other_bank bank.Pch = bank.Bmc
+
 -- how many operations each device has done
 abbrev pub counts_of : Story → Counts
 counts_of story = record { bmc = length story.bmc.ops; pch = length story.pch.ops; nv = length story.nv.ops }

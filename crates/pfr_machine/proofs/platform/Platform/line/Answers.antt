@@ -1,4 +1,4 @@
-use Rattle.pfr_machine.proofs.TurnLemmas.{line_trusted}
+use Rattle.pfr_machine.proofs.SoundLemmas.{line_trusted}
 use Rattle.pfr_machine.proofs.platform.Platform.line.Goals as goal
 
 pub returns-clause-trusted : goal.returns-clause-trusted

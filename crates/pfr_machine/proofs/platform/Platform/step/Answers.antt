@@ -11,6 +11,7 @@ use Rattle.pfr_story.proofs.LossLaws.{Turn-losses, Turn-lost, Turn-off}
 use Rattle.pfr_story.proofs.NoteLaws.{Turn-distrusts, Turn-faults, Turn-locks, Turn-releases, Turn-restores}
 use Rattle.pfr_story.proofs.ProvisionLaws.{Turn-provisions}
 use Rattle.pfr_story.proofs.RecoveryLaws.{Turn-recoverable}
+use Rattle.pfr_story.proofs.RiseLaws.{Turn-counted}
 use Rattle.pfr_story.proofs.Turns.{Turn-calm, Turn-moved}
 use Rattle.pfr_machine.proofs.TurnLemmas.{by_both, by_turn, sizes_before}
 use Rattle.pfr_machine.proofs.platform.Platform.step.Goals as goal
@@ -62,6 +63,9 @@ returns-clause-off g c = by_turn c.work-done.result c.work-done.ensures.turn (λ
 
 pub returns-clause-quiet : goal.returns-clause-quiet
 returns-clause-quiet g c = by_turn c.work-done.result c.work-done.ensures.turn (λ t. Turn-quiet _ c.args.event.now _ _ t)
+
+pub returns-clause-counted : goal.returns-clause-counted
+returns-clause-counted g c = by_turn c.work-done.result c.work-done.ensures.turn (λ t. Turn-counted _ c.args.event.now _ _ t)
 
 pub returns-clause-moved : goal.returns-clause-moved
 returns-clause-moved g c = by_turn c.work-done.result c.work-done.ensures.turn (λ t. Turn-moved _ c.args.event.now _ _ t)

@@ -1,7 +1,7 @@
 use Rattle.std.proofs.Common.{Option, subst, sym}
 use Rattle.pfr_story.specs.World.{World}
 use Rattle.pfr_machine.specs.Inside.{IsThere}
-use Rattle.pfr_machine.proofs.TurnLemmas.{still_sound}
+use Rattle.pfr_machine.proofs.SoundLemmas.{still_sound}
 use Rattle.pfr_machine.proofs.platform.Platform.work.Goals as goal
 
 pub invariant_of-self : goal.invariant_of-self

@@ -1,0 +1,11 @@
+use Rattle.pfr_story.proofs.ContentsLaws.{restores, migrates, provisions}
+use Rattle.pfr_story.proofs.contents.whole_images.Goals as goal
+
+pub returns-clause-restores : goal.returns-clause-restores
+returns-clause-restores g = restores
+
+pub returns-clause-migrates : goal.returns-clause-migrates
+returns-clause-migrates g = migrates
+
+pub returns-clause-provisions : goal.returns-clause-provisions
+returns-clause-provisions g = provisions
