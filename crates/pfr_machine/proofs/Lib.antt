@@ -6,6 +6,7 @@ pub mod StandLemmas
 pub mod StoreLemmas
 pub mod ProvisionLemmas
 pub mod TurnLemmas
+pub mod SoundLemmas
 pub mod JudgeLemmas
 pub mod CheckLemmas
 pub mod BringLemmas

@@ -4,12 +4,14 @@ use Rattle.pfr_flash.specs.FlashState.{FlashState, size_of}
 use Rattle.pfr_flash.specs.Layout.{IsBankSize}
 use Rattle.pfr_flash.specs.declared.names.Bank.{Bank}
 use Rattle.pfr_flash.specs.declared.names.Bank.TheVariants.{Bmc, Pch}
+use Rattle.pfr_engine.specs.Acceptance.{Acceptance}
 use Rattle.pfr_report.specs.Texts.{AllText}
 use Rattle.pfr_story.specs.Guards.{first_guards}
+use Rattle.pfr_story.specs.Keeping.{HasTrustedSpans}
 use Rattle.pfr_story.specs.Standing as standing
 use Rattle.pfr_story.specs.Standing.{standing_of, standing_by, Held}
 use Rattle.pfr_story.specs.Story.{device_of}
-use Rattle.pfr_story.specs.World.{World, state_at}
+use Rattle.pfr_story.specs.World.{World, state_at, story_of}
 use Rattle.pfr_story.specs.declared.line.Line.{Line}
 use Rattle.pfr_story.specs.declared.line.Line.TheVariants.{Off}
 use Rattle.pfr_machine.specs.Worlds.{bank_in, line_in, other_of, sides_world}
@@ -93,7 +95,12 @@ abbrev pub world_in : Option World → World
 world_in (Some w) = w
 world_in None = no_world
 
+-- Between two events; and each bank was trusted throughout the spans in which it stood released.
+pub record IsSound (accepts : Acceptance) (w : World) : Type 0 where
+  pub whole : IsWhole w
+  pub trusted : (which : Bank) → HasTrustedSpans accepts which (story_of w)
+
 -- the platform is there, between two events
-abbrev pub IsThere : Option World → Type 0
-IsThere (Some w) = IsWhole w
-IsThere None = ⊥
+abbrev pub IsThere : Acceptance → Option World → Type 0
+IsThere accepts (Some w) = IsSound accepts w
+IsThere accepts None = ⊥

@@ -1,7 +1,9 @@
 // The platform.
 ghost use Rattle.std.specs.Prelude.{◌≡◌, ◌+◌, ◌<◌, ◌≤◌, [], OnOk, OnErr};
-ghost use Rattle.pfr_flash.specs.FlashState.{size_of};
+ghost use Rattle.pfr_auth.specs.Trusted.{IsTrusted};
+ghost use Rattle.pfr_flash.specs.FlashState.{now, size_of};
 ghost use Rattle.pfr_flash.specs.Layout.{IsBankSize};
+ghost use Rattle.pfr_flash.specs.declared.names.Bank.{Bank};
 ghost use Rattle.pfr_fuses.specs.Growth.{NeverGoesBack, KeepsProvision};
 ghost use Rattle.pfr_recoverable.specs.Recoverable.{HasGoodRecovery};
 ghost use Rattle.pfr_report.specs.Texts.{AllText};
@@ -11,9 +13,12 @@ ghost use Rattle.pfr_story.specs.Guards.{first_guards};
 ghost use Rattle.pfr_story.specs.Promises.{ReleasesTrusted, LocksHaveCauses, RestoresGood, ProvisionsSo, FaultsAreNoted, FaultsHaveCauses, LossesAreNoted, LostEnds, LostIsDark, NotesOff, StaysQuiet, CallsNone, HasPower, DistrustsWithCause, NotesBelong, AreOff, IsPower, IsKnownSlot};
 ghost use Rattle.pfr_story.specs.Recovery.{CountsRise, StaysRecoverable};
 ghost use Rattle.pfr_story.specs.Run.{armed, takes_arm};
+ghost use Rattle.pfr_story.specs.Spans.{ReleasedSpans};
 ghost use Rattle.pfr_story.specs.Standing.{standing_of, standing_by};
+ghost use Rattle.pfr_story.specs.Story.{device_of};
 ghost use Rattle.pfr_story.specs.Turn.{Turn, begun, course};
 ghost use Rattle.pfr_story.specs.World.{AllMoved, AreDevices, IsDark, NoneLost, NoneRose, state_at, story_of};
+ghost use Rattle.pfr_story.specs.declared.line.Line.TheVariants as line;
 ghost use Rattle.pfr_machine.specs.Inside.{HasSizes};
 
 use crate::board::Board;
@@ -54,7 +59,7 @@ impl<F: Flash, E: Engine + Drop> Model for Platform<F, E> {
 
     ghost view = { λ p. record { world = world_in p.inner; engine = p.engine } };
 
-    ghost invariant = { λ p. IsThere p.inner };
+    ghost invariant = { λ p. IsThere (E.accepts p.engine) p.inner };
 }
 
 impl<F: Flash, E: Engine + Drop> Platform<F, E> {
@@ -114,6 +119,10 @@ impl<F: Flash, E: Engine + Drop> Platform<F, E> {
         ensures provisions { OnOk result (ProvisionsSo event.now self.old.world self.new.world) }
         ensures belongs { OnOk result (NotesBelong event.now self.old.world self.new.world) }
 
+        // So far each bank was trusted throughout each span in which it stood released, and in none of them a byte was written that
+        // its trust rests on, or one of its recovery area.
+        ensures spans { OnOk result ((which : Bank) → ReleasedSpans (E.accepts self.old.engine) which (story_of self.new.world)) }
+
         // A bank with a good capsule in its recovery area has one after each note and at the end, whatever was cut or torn; and a
         // power-on in which no call fails releases it.
         ensures recoverable { OnOk result
@@ -159,6 +168,7 @@ impl<F: Flash, E: Engine + Drop> Platform<F, E> {
         ensures texts { AllText self.now.world.notes.list }
         ensures sizes { HasSizes self.now.world }
         ensures on { HasPower self.now.world }
+        ensures spans { (which : Bank) → ReleasedSpans (E.accepts self.now.engine) which (story_of self.now.world) }
     {
         match &self.inner {
             Some(inner) => inner.known(),
@@ -181,7 +191,9 @@ impl<F: Flash, E: Engine + Drop> Platform<F, E> {
                 let begun = inner.begin();
                 match begun {
                     Ok(()) => {
-                        self.inner = Some(inner.turn(event, &self.engine));
+                        let inner = inner.turn(event, &self.engine);
+                        inner.known();
+                        self.inner = Some(inner);
                         Ok(())
                     }
                     Err(why) => {
@@ -204,9 +216,11 @@ impl<F: Flash, E: Engine + Drop> Platform<F, E> {
         }
     }
 
-    /// How the bank stands, by the last of its notes.
+    /// How the bank stands, by the last of its notes. While it runs it is trusted.
     pub fn line(&self, bank: Bank) -> Line
-        ensures { standing_by result ≡ standing_of bank self.now.world.notes.list }
+        ensures stands { standing_by result ≡ standing_of bank self.now.world.notes.list }
+        ensures trusted { result ≡ line.Running →
+            IsTrusted (now (state_at (device_of bank) self.now.world)) (now self.now.world.nv) bank (E.accepts self.now.engine) }
     {
         match &self.inner {
             Some(inner) => inner.line(bank),

@@ -31,3 +31,4 @@ pub mod ProvisionLaws
 pub mod GrowthLaws
 pub mod ContentsLaws
 pub mod RunLaws
+pub mod KeepingLaws

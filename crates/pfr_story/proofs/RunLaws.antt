@@ -118,7 +118,7 @@ pub Turn-made : (accepts : Acceptance) (e : Event) (old new : World) → Turn ac
 Turn-made accepts e old new (mid, first, rest) =
     Steps-made (opening (course accepts e (story_of old)) ∷ (course accepts e (story_of old)).stretches) (begun old) new (inl (mid, first, rest))
 
-IsLater-turn : (accepts : Acceptance) (e : Event) (old new : World) → Turn accepts e old new → IsLater old new
+pub IsLater-turn : (accepts : Acceptance) (e : Event) (old new : World) → Turn accepts e old new → IsLater old new
 IsLater-turn accepts e old new t =
     let moved : AllMoved (begun old) new = Turn-moved accepts e old new t in
     let made = Turn-made accepts e old new t in
@@ -144,10 +144,10 @@ Adds old new = (more : List Note) × (new.notes.list ≡ old.notes.list ++ more)
 added_is : (old new : World) (adds : Adds old new) → added old new ≡ adds.0
 added_is old new adds = ap (λ (notes : List Note). drop (length old.notes.list) notes) adds.1 ∙ drop-append_seam old.notes.list adds.0
 
-adds_added : (old new : World) → Adds old new → new.notes.list ≡ old.notes.list ++ added old new
+pub adds_added : (old new : World) → Adds old new → new.notes.list ≡ old.notes.list ++ added old new
 adds_added old new adds = adds.1 ∙ ap (λ (more : List Note). old.notes.list ++ more) (sym (added_is old new adds))
 
-turn_adds : (accepts : Acceptance) (e : Event) (old new : World) → Turn accepts e old new → Adds old new
+pub turn_adds : (accepts : Acceptance) (e : Event) (old new : World) → Turn accepts e old new → Adds old new
 turn_adds accepts e old new t =
     let made = Turn-made accepts e old new t in
     (_, ap (λ (s : Story). s.notes) made.is ∙ notes_after made.trace (story_of (begun old)))
@@ -258,7 +258,7 @@ first_safe accepts first last w f = record {
   size = f.size;
 }
 
-trusted_at : (accepts : Acceptance) (which : Bank) (svn : ℕ) (at : Counts) (w : World) → AtCounts (λ image nv. IsTrustedWith svn image nv which accepts) which at w
+pub trusted_at : (accepts : Acceptance) (which : Bank) (svn : ℕ) (at : Counts) (w : World) → AtCounts (λ image nv. IsTrustedWith svn image nv which accepts) which at w
     → IsTrustedAt accepts which (past_at (device_of which) (story_of w)) (story_of w).nv at
 trusted_at accepts bank.Bmc svn at w t = t.0
 trusted_at accepts bank.Pch svn at w t = t.0

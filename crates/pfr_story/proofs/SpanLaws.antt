@@ -1,5 +1,5 @@
 -- How spans are kept, move by move.
-use Rattle.std.proofs.Common.{◌≡◌, ◌∙◌, ℕ, ◌≤◌, refl, sym, ap, subst, arith, List, [], ◌∷◌, ◌++◌, length, take, drop, All, append_assoc, ◌⊎◌, inl, inr, Ok, true, false, Bool, cond, length-append}
+use Rattle.std.proofs.Common.{◌≡◌, ◌∙◌, ℕ, ◌≤◌, refl, sym, ap, subst, arith, List, [], ◌∷◌, ◌++◌, length, take, drop, All, append_assoc, ◌⊎◌, inl, inr, true, false, Bool, cond, length-append}
 use Rattle.std.proofs.lemmas.List.{append-nil, take-append-le, take_all, take-take, drop-append-le}
 use Rattle.std.proofs.lemmas.List.Elements.{All-push}
 use Rattle.std.proofs.Math.ListN.{drop_of_length-le}
@@ -12,9 +12,7 @@ use Rattle.pfr_flash.specs.declared.names.Device.{Device}
 use Rattle.pfr_flash.specs.declared.names.Device.TheVariants as device
 use Rattle.pfr_engine.specs.Acceptance.{Acceptance}
 use Rattle.pfr_fuses.specs.FusesState.{FusesState}
-use Rattle.pfr_fuses.specs.FusesOf.{fuses_of}
 use Rattle.pfr_fuses.specs.RootSlot.{layout_of}
-use Rattle.pfr_fuses.specs.declared.profile.Profile.TheVariants.{Two}
 use Rattle.pfr_manifest.specs.declared.manifest.Manifest.{Manifest}
 use Rattle.pfr_auth.specs.Leaving.{LeavesImage, LeavesStore}
 use Rattle.pfr_auth.specs.Throughout.{between}
@@ -29,6 +27,7 @@ use Rattle.pfr_story.specs.Story.{Past, Story, Says, Does, Asks, counts_of, past
 use Rattle.pfr_story.specs.Safety.{Rule, Keeps}
 use Rattle.pfr_story.specs.Promises.{count_at}
 use Rattle.pfr_story.proofs.Traces.{IsStamped}
+use Rattle.pfr_story.specs.Keeping.{IsSettled}
 use Rattle.pfr_story.specs.Spans.{opens_after, closes, ended, opens_from, ended_from, IsSpan, AllSpans, ReleasedSpans}
 
 -- ---- what is left where a span is open
@@ -72,12 +71,6 @@ pub record IsKept (accepts : Acceptance) (which : Bank) (mine nv : Past) (begin 
 abbrev pub IsTrustedAt : Acceptance → Bank → Past → Past → Counts → Type 0
 IsTrustedAt accepts which mine nv at = IsTrusted (past_upto mine (count_at which at)) (past_upto nv at.nv) which accepts
 
--- the store is provisioned, and of profile 2
-pub record IsSettled (nv : List ℕ) : Type 0 where
-  pub fuses : FusesState
-  pub provisioned : fuses_of nv ≡ Ok fuses
-  pub two : fuses.profile ≡ Two
-
 -- ---- of all open spans, and of all that ended
 abbrev pub AllOpen : (Counts → Type 0) → List Counts → Type 0
 AllOpen P [] = Unit {0}
@@ -102,7 +95,7 @@ ended_map : (P Q : Counts → Counts → Type 0) → ((begin end : Counts) → P
 ended_map P Q f [] p = tt
 ended_map P Q f (span ∷ spans) p = (f span.0 span.1 p.0, ended_map P Q f spans p.1)
 
-ended_append : (P : Counts → Counts → Type 0) (spans more : List (Counts × Counts)) → AllEnded P spans → AllEnded P more → AllEnded P (spans ++ more)
+pub ended_append : (P : Counts → Counts → Type 0) (spans more : List (Counts × Counts)) → AllEnded P spans → AllEnded P more → AllEnded P (spans ++ more)
 ended_append P [] more p q = q
 ended_append P (span ∷ spans) more p q = (p.0, ended_append P spans more p.1 q)
 
@@ -191,7 +184,7 @@ module _ (which : Bank) (P : Counts → Type 0) where
       (tt, begin_more (same_bank which b) counts opens (λ e. f svn counts (ap (λ (x : Bank). what.Released x svn counts) (same_one which b e))) p)
   begin_note _ opens p f = (tt, p)
 
-  begins : (opens : List Counts) (notes : List Note) → AllOpen P opens → ((svn : ℕ) (at : Counts) → IsNoted notes (what.Released which svn at) → P at)
+  pub begins : (opens : List Counts) (notes : List Note) → AllOpen P opens → ((svn : ℕ) (at : Counts) → IsNoted notes (what.Released which svn at) → P at)
       → Begin (ended_from which opens notes) (opens_from which opens notes)
   begins opens [] p f = (tt, p)
   begins opens (note ∷ notes) p f =
@@ -345,19 +338,25 @@ module _ (accepts : Acceptance) (which : Bank) where
   are_spans mine nv [] k t = tt
   are_spans mine nv (span ∷ spans) k t = (is_span mine nv span.0 span.1 k.0 t.0, are_spans mine nv spans k.1 t.1)
 
-  pub ReleasedSpans-kept : (story : Story) → Kept story
-      → ((svn : ℕ) (at : Counts) → IsNoted story.notes (what.Released which svn at) → IsTrustedAt accepts which (past_at (device_of which) story) story.nv at) → ReleasedSpans accepts which story
-  ReleasedSpans-kept story k trusts =
+  -- what is kept of a story whose spans begin with trust
+  pub ReleasedSpans-begun : (story : Story) → Kept story
+      → AllEnded (λ begin end. IsTrustedAt accepts which (past_at (device_of which) story) story.nv begin) (ended_from which [] story.notes)
+      → AllOpen (IsTrustedAt accepts which (past_at (device_of which) story) story.nv) (opens_from which [] story.notes) → ReleasedSpans accepts which story
+  ReleasedSpans-begun story k closed opened =
       let mine : Past = past_at (device_of which) story in
       let here : Counts = counts_of story in
       let opens : List Counts = opens_from which [] story.notes in
-      let P : Counts → Type 0 = IsTrustedAt accepts which mine story.nv in
-      let b = begins which (IsTrustedAt accepts which mine story.nv) [] story.notes tt trusts in
       are_spans mine story.nv (ended_from which [] story.notes ++ closes here opens)
       (ended_append (IsKept accepts which mine story.nv) (ended_from which [] story.notes) (closes here opens) k.closed
       (ended_closes (IsKept accepts which mine story.nv) here opens (open_map (IsOpen story) (λ begin. IsKept accepts which mine story.nv begin here) (λ begin o. o.kept) opens k.opened)))
-      (ended_append (λ begin end. IsTrustedAt accepts which mine story.nv begin) (ended_from which [] story.notes) (closes here opens) b.0
-      (ended_closes (λ begin end. IsTrustedAt accepts which mine story.nv begin) here opens b.1))
+      (ended_append (λ begin end. IsTrustedAt accepts which mine story.nv begin) (ended_from which [] story.notes) (closes here opens) closed
+      (ended_closes (λ begin end. IsTrustedAt accepts which mine story.nv begin) here opens opened))
+
+  pub ReleasedSpans-kept : (story : Story) → Kept story
+      → ((svn : ℕ) (at : Counts) → IsNoted story.notes (what.Released which svn at) → IsTrustedAt accepts which (past_at (device_of which) story) story.nv at) → ReleasedSpans accepts which story
+  ReleasedSpans-kept story k trusts =
+      let b = begins which (IsTrustedAt accepts which (past_at (device_of which) story) story.nv) [] story.notes tt trusts in
+      ReleasedSpans-begun story k b.0 b.1
 
   -- either no span of the bank is open, or the store is settled
   pub none_or_settled : (story : Story) → Kept story → (opens_from which [] story.notes ≡ []) ⊎ IsSettled (image_at device.Nv story)

@@ -40,7 +40,8 @@ use Rattle.pfr_story.proofs.Traces.{Traced, Traced-keeps}
 use Rattle.pfr_story.proofs.StepTraces.{Between, AllowsLosses, IsGoodStretch, noted_along, power_along, provision_along}
 use Rattle.pfr_story.proofs.BringRules.{Any, ready_found, Walks, walk_safe}
 use Rattle.pfr_story.proofs.FuseLaws.{profile_migrated, profile_kept, provisioned_refused}
-use Rattle.pfr_story.proofs.SpanLaws.{IsSettled, open_none, open_any, open_map, opens_push, IsOpen, Kept, SparesOpen, KeepsSpans, Kept-moves, none_or_settled}
+use Rattle.pfr_story.specs.Keeping.{IsSettled}
+use Rattle.pfr_story.proofs.SpanLaws.{open_none, open_any, open_map, opens_push, IsOpen, Kept, SparesOpen, KeepsSpans, Kept-moves, none_or_settled}
 
 -- a store that can be read is of profile 2
 abbrev pub NotOne : List ℕ → Type 0

@@ -12,6 +12,7 @@ pub mod Turn
 pub mod Promises
 pub mod Bringing
 pub mod Spans
+pub mod Keeping
 pub mod Run
 pub mod Recovery
 pub mod Contents

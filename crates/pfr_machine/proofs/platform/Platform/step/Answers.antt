@@ -1,3 +1,7 @@
+use Rattle.std.proofs.Common.{subst}
+use Rattle.pfr_flash.specs.declared.names.Bank.{Bank}
+use Rattle.pfr_story.specs.Spans.{ReleasedSpans}
+use Rattle.pfr_story.specs.World.{story_of}
 use Rattle.pfr_story.proofs.Bytes.{have_bytes}
 use Rattle.pfr_story.proofs.BringLaws.{Turn-brings, Turn-powers}
 use Rattle.pfr_story.proofs.EventLaws.{Turn-belongs, Turn-dark, Turn-quiet}
@@ -17,6 +21,9 @@ returns-clause-calm g c = by_turn c.work-done.result c.work-done.ensures.turn (�
 
 pub returns-clause-released : goal.returns-clause-released
 returns-clause-released g c = by_turn c.work-done.result c.work-done.ensures.turn (λ t. Turn-releases _ c.args.event.now _ _ t (have_bytes _ c.known.ensures.bytes))
+
+pub returns-clause-spans : goal.returns-clause-spans
+returns-clause-spans g c = by_turn c.work-done.result c.work-done.ensures.turn (λ t. subst (λ engine. (which : Bank) → ReleasedSpans (g.E.Engine.accepts engine) which (story_of c.work-done.new.self.world)) c.work-done.ensures.engine c.known.ensures.spans)
 
 pub returns-clause-locks : goal.returns-clause-locks
 returns-clause-locks g c = by_turn c.work-done.result c.work-done.ensures.turn (λ t. Turn-locks _ c.args.event.now _ _ t (have_bytes _ c.known.ensures.bytes))

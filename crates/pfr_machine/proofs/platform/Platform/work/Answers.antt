@@ -1,10 +1,10 @@
 use Rattle.std.proofs.Common.{Option, subst, sym}
 use Rattle.pfr_story.specs.World.{World}
 use Rattle.pfr_machine.specs.Inside.{IsThere}
-use Rattle.pfr_machine.proofs.TurnLemmas.{still_whole}
+use Rattle.pfr_machine.proofs.SoundLemmas.{still_sound}
 use Rattle.pfr_machine.proofs.platform.Platform.work.Goals as goal
 
 pub invariant_of-self : goal.invariant_of-self
 invariant_of-self g c =
-    let whole = subst (λ (o : Option World). IsThere o) (sym c.in-Some.ensures.value) c.self.invariant in
-    still_whole _ _ (record { is = c.in-Ok.ensures.begun; list = c.in-Ok.ensures.list }) _ c.args.event.now _ whole c.turn.ensures.follows c.turn.ensures.leaves
+    let there = subst (λ (o : Option World). IsThere (g.E.Engine.accepts c.self.inside.engine) o) (sym c.in-Some.ensures.value) c.self.invariant in
+    still_sound _ _ (record { is = c.in-Ok.ensures.begun; list = c.in-Ok.ensures.list }) _ c.args.event.now _ there c.turn-inner.ensures.follows c.turn-inner.ensures.leaves c.known.ensures.bytes c.known.ensures.sizes

@@ -1,0 +1,45 @@
+-- A platform carries that each bank was trusted while it stood released.
+use Rattle.std.proofs.Common.{◌≡◌, ◌∙◌, sym, ap, subst, Option, Some, None}
+use Rattle.pfr_flash.specs.FlashState.{now}
+use Rattle.pfr_flash.specs.declared.names.Bank.{Bank}
+use Rattle.pfr_engine.specs.Acceptance.{Acceptance}
+use Rattle.pfr_auth.specs.Trusted.{IsTrusted}
+use Rattle.pfr_script.specs.declared.event.Event.{Event}
+use Rattle.pfr_story.specs.Course.{Follows}
+use Rattle.pfr_story.specs.Standing.{standing_of, standing_by, Running}
+use Rattle.pfr_story.specs.Story.{device_of}
+use Rattle.pfr_story.specs.Turn.{course, Turn}
+use Rattle.pfr_story.specs.World.{World, AreDevices, state_at, story_of}
+use Rattle.pfr_story.specs.declared.line.Line.{Line}
+use Rattle.pfr_story.specs.declared.line.Line.TheVariants as line
+use Rattle.pfr_story.proofs.Bytes.{have_bytes}
+use Rattle.pfr_story.proofs.KeepingLaws.{Turn-trusted_spans, trusted_now}
+use Rattle.pfr_machine.specs.Inside.{HasSizes, IsSound, IsThere, world_in}
+use Rattle.pfr_machine.specs.Ready.{LeavesWhole}
+use Rattle.pfr_machine.specs.Worlds.{PlatformState}
+use Rattle.pfr_machine.proofs.TurnLemmas.{Begun, turned, still_whole, sizes_before}
+
+-- a step leaves it so, with devices that hold bytes
+pub still_sound : (old next : World) → Begun old next → (accepts : Acceptance) (e : Event) (new : World) → IsSound accepts old → Follows (course accepts e (story_of next)) next new
+    → LeavesWhole 64 next new → AreDevices new → HasSizes new → IsSound accepts new
+still_sound old next b accepts e new h f l devices sizes =
+    let t : Turn accepts e old new = turned old next b accepts e new f in
+    record {
+      whole = still_whole old next b accepts e new h.whole f l;
+      trusted = λ which. Turn-trusted_spans accepts which e old new t (have_bytes new devices) (sizes_before accepts e old new t sizes).nv (h.trusted which);
+    }
+
+-- a bank that runs is trusted now
+module _ {E : Type 0} (accepts : E → Acceptance) (which : Bank) where
+  runs_trusted : (o : Option World) (engine : E) (inner : World) → IsThere (accepts engine) o → o ≡ Some inner → standing_of which inner.notes.list ≡ Running
+      → IsTrusted (now (state_at (device_of which) (world_in o))) (now (world_in o).nv) which (accepts engine)
+  runs_trusted (Some w) engine inner h e runs =
+      let same : w ≡ inner = cc in
+      trusted_now (accepts engine) which w (h.trusted which) (subst (λ (v : World). standing_of which v.notes.list ≡ Running) (sym same) runs)
+  runs_trusted None engine inner h e runs = absurd h
+
+  pub line_trusted : (p : PlatformState E) (o : Option World) (engine : E) (inner : World) (how : Line) → record { world = world_in o; engine = engine } ≡ p → IsThere (accepts engine) o → o ≡ Some inner
+      → standing_by how ≡ standing_of which inner.notes.list → how ≡ line.Running → IsTrusted (now (state_at (device_of which) p.world)) (now p.world.nv) which (accepts p.engine)
+  line_trusted p o engine inner how view h e stands runs =
+      subst (λ (q : PlatformState E). IsTrusted (now (state_at (device_of which) q.world)) (now q.world.nv) which (accepts q.engine)) view
+      (runs_trusted o engine inner h e (sym stands ∙ ap standing_by runs))
