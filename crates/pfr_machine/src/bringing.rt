@@ -91,9 +91,10 @@ impl<F: Flash> Desk<F> {
         requires trusted { IsOk (judged_active (E.accepts engine.now) self.bank fuses.now (story_of self.world)) }
         ensures { EndsSeated (checked_again (E.accepts engine.now) self.bank fuses.now) 1 self result }
     {
-        match self.check(fuses, engine)? {
-            Found::Released(inner) => Ok(inner),
-            Found::Distrusted(_, _) => unreachable!(),
+        match self.check(fuses, engine) {
+            Ok(Found::Released(inner)) => Ok(inner),
+            Ok(Found::Distrusted(_, _)) => unreachable!(),
+            Err(halt) => Err(halt),
         }
     }
 
@@ -172,9 +173,10 @@ impl<F: Flash> Desk<F> {
             IsValidLayout layout (size_of (state_at (device_of self.bank) self.world)) }
         ensures { EndsSeated (tail (E.accepts engine.now) self.bank fuses.now) 3 self result }
     {
-        match self.check(fuses, engine)? {
-            Found::Released(inner) => Ok(inner),
-            Found::Distrusted(desk, why) => desk.distrust_and_recover(why, fuses, engine),
+        match self.check(fuses, engine) {
+            Ok(Found::Released(inner)) => Ok(inner),
+            Ok(Found::Distrusted(desk, why)) => desk.distrust_and_recover(why, fuses, engine),
+            Err(halt) => Err(halt),
         }
     }
 
