@@ -133,7 +133,14 @@ pub fn write_note<K: Sink>(note: &Note, out: &mut K) -> Result<(), SinkFail>
             let level = buffer.format(level).as_bytes();
             write_pieces(
                 out,
-                &[item, b" ", bank_word(bank), b" restored level ", level, b"\n"],
+                &[
+                    item,
+                    b" ",
+                    bank_word(bank),
+                    b" restored level ",
+                    level,
+                    b"\n",
+                ],
             )
         }
         What::Provisioned => write_pieces(out, &[item, b" provisioned\n"]),
