@@ -180,7 +180,7 @@ def block_from(lines, begin):
     indent = len(lines[begin]) - len(lines[begin].lstrip())
     for end in range(begin, len(lines)):
         line = lines[end].rstrip()
-        if line == " " * indent + "}" or (line.endswith(";") and end == begin):
+        if line in (" " * indent + "}", " " * indent + "{}") or (line.endswith(";") and end == begin):
             return lines[begin : end + 1]
     raise Unknown("an item without end: %s" % lines[begin])
 
