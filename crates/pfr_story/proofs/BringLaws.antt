@@ -1,5 +1,5 @@
 -- A power-on brings each bank up of which no call failed.
-use Rattle.std.proofs.Common.{◌≡◌, ◌∙◌, refl, ap, subst, ℕ, ◌*◌, ◌/◌, List, [], ◌∷◌, ◌++◌, length, Some, ◌⊎◌, inl, inr}
+use Rattle.std.proofs.Common.{◌≡◌, ◌∙◌, refl, sym, ap, subst, ℕ, ◌*◌, ◌/◌, List, [], ◌∷◌, ◌++◌, length, Some, ◌⊎◌, inl, inr}
 use Rattle.pfr_flash.specs.Bytes.{AreBytes}
 use Rattle.pfr_flash.specs.FlashState.{size_of}
 use Rattle.pfr_flash.specs.Layout.{IsBankSize}
@@ -32,7 +32,7 @@ use Rattle.pfr_story.specs.Bringing.{IsOver, IsCalm, IsNotedBehind, ReleasedSoon
 use Rattle.pfr_story.proofs.WorldLaws.{AllMoved-trans}
 use Rattle.pfr_story.proofs.SafetyLaws.{image_noted, AllMake-called}
 use Rattle.pfr_story.proofs.Courses.{Steps-moved}
-use Rattle.pfr_story.proofs.Made.{said, notes_after, Steps-made, Whichever, Wrote, Anything, wrote_then, wrote_by, wrote_cut, wrote_moves, never_noted, noted_left, added_is, in_added, only_between}
+use Rattle.pfr_story.proofs.Made.{said, notes_after, Steps-made, Whichever, Wrote, Anything, wrote_then, wrote_by, wrote_cut, wrote_moves, never_noted, noted_left, behind_within, behind_next, added_is, in_added, only_between}
 use Rattle.pfr_story.proofs.Traces.{Precedes, precedes_moved}
 use Rattle.pfr_story.proofs.Bytes.{HaveBytes, images_then, mine_sized, bank_sized}
 use Rattle.pfr_story.proofs.NoteLaws.{at_moment, Turn-releases, Turn-locks}
@@ -214,8 +214,20 @@ module _ (accepts : Acceptance) (first new : World) where
     held_then : (at : Counts) → IsNoted (added first new) (what.Held which at) → at ≡ counts_in c.at
     held_then at n = elim (own (what.Held which at) refl n) [ inl e ↦ cc | inr m ↦ absurd (tail_caused accepts which (held c) bytes (what.Held which at) m) ]
 
-    released_then : (svn : ℕ) (then : Counts) → IsNoted (added first new) (what.Released which svn then) → (then ≡ counts_in c.at) ⊎ IsNoted (added first new) (what.Restored which 1)
-    released_then svn then n = elim (caused (what.Released which svn then) refl (λ e. absurd cc) n) [ inl e ↦ inl e | inr m ↦ inr (put (what.Restored which 1) (inr m)) ]
+    -- what is noted behind another then is so in the step
+    put_behind : (this that : What) → IsNotedBehind this that (behind accepts which (held c)) → IsNotedBehind this that (added first new)
+    put_behind this that k =
+        let own : List Note = said (brought_up accepts which (story_of c.at)) (story_of c.at) in
+        let note : Note = record { item = (story_of c.at).item; what = what.Held which (counts_in c.at) } in
+        subst (λ (notes : List Note). IsNotedBehind this that notes) (sym (added_is (Apart which) (Apart which) first c.at c.end new own c.before own_is c.behind))
+        (behind_within this that c.before.more own c.behind.more (behind_next this that note (behind accepts which (held c)) k))
+
+    released_then : (svn : ℕ) (then : Counts) → IsNoted (added first new) (what.Released which svn then)
+        → (then ≡ counts_in c.at) ⊎ IsNotedBehind (what.Restored which 1) (what.Released which svn then) (added first new)
+    released_then svn then n = elim (caused (what.Released which svn then) refl (λ e. absurd cc) n) [
+      | inl e ↦ inl e
+      | inr m ↦ inr (put_behind (what.Restored which 1) (what.Released which svn then) m)
+    ]
 
     no_fault : IsCalm which (added first new) → (cause : LockWhy) (then : Counts) → IsNoted (added first new) (what.Locked which cause then) → ¬ IsFaultLock cause
     no_fault calm why.FlashFault then n fault = calm.flash then n

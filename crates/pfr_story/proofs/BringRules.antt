@@ -100,7 +100,7 @@ module _ (G : Rule) (accepts : Acceptance) (b : Bank) (Q : Story → Type 0) (P 
   ready_safe (Ok fuses) story q e = (w.asks (device_of b) story (inl refl), active_safe fuses (judged_active accepts b fuses story) story (w.ready fuses story q e) refl)
   ready_safe (Err cause) story q e = (w.unready cause story q e, tt)
 
-  pub behind_safe : (story : Story) → Q story → AllSafe G (by_ready accepts b (ready_of b story) story) story
+  behind_safe : (story : Story) → Q story → AllSafe G (by_ready accepts b (ready_of b story) story) story
   behind_safe story q = ready_safe (ready_of b story) story q refl
 
   pub walk_safe : (story : Story) → G (Says (what.Held b)) story → Q (noted (what.Held b) story) → AllSafe G (brought_up accepts b story) story
@@ -131,9 +131,6 @@ module _ (G : Rule) (accepts : Acceptance) (b : Bank) (h : AllowsBank G b) where
         (AllSafe-append G (copied b 1 fuses capsule story) (Says (λ _. what.Restored b 1) ∷ []) story call (h.restored 1 (after (copied b 1 fuses capsule story) story), tt), tt);
     again = λ fuses m story r j. h.released m.svn story;
   }
-
-  pub allowed_behind : (story : Story) → AllSafe G (by_ready accepts b (ready_of b story) story) story
-  allowed_behind story = behind_safe G accepts b Any (λ fuses story. Unit {0}) (λ fuses cause story. Unit {0}) (λ fuses story. Unit {0}) allowed_walks story tt
 
   pub allowed_safe : (story : Story) → G (Says (what.Held b)) story → AllSafe G (brought_up accepts b story) story
   allowed_safe story held = walk_safe G accepts b Any (λ fuses story. Unit {0}) (λ fuses cause story. Unit {0}) (λ fuses story. Unit {0}) allowed_walks story held tt

@@ -1,11 +1,10 @@
 -- One stretch after another.
 use Rattle.std.proofs.Common.{◌≡◌, ◌∙◌, ◌≤◌, refl, sym, subst, arith, ℕ, Bool, true, false, List, [], ◌∷◌, inl, inr}
 use Rattle.pfr_flash.specs.FlashState.{Rose}
-use Rattle.pfr_flash.specs.declared.names.Device.{Device}
 use Rattle.pfr_story.specs.Story.{Story, after}
 use Rattle.pfr_story.specs.World.{World, story_of, state_at, AllMoved, NoneLost, NoneRose}
 use Rattle.pfr_story.specs.Goes.{Ran}
-use Rattle.pfr_story.specs.Course.{Stretch, Faults, CrossesOrFaults, Ends, goes_on_if, Steps, Halts, lost, calm_of, Course, Follows, Calm}
+use Rattle.pfr_story.specs.Course.{Stretch, Faults, CrossesOrFaults, Ends, goes_on_if, Steps, lost, calm_of, Course, Follows, Calm}
 use Rattle.pfr_story.proofs.WorldLaws.{AllMoved-trans, faults_moved, losses_moved, NoneLost-at, NoneFailed-at}
 use Rattle.pfr_story.proofs.Sequence.{Ran-refl, Ran-append}
 
@@ -26,19 +25,6 @@ Steps-next s ss old mid new g (inr f) q = inr (inl (mid, f, goes_on_true s.goes_
 -- the step ended with a fault on the first stretch
 pub Steps-ended : (s : Stretch) (ss : List Stretch) (old new : World) → s.goes_on ≡ false → Faults s old new → Steps (s ∷ ss) old new
 Steps-ended s ss old new g f = inr (inl (new, f, goes_on_false s.goes_on (Steps ss) new new g (Ran-refl new)))
-
-pub Halts-next : (s : Stretch) (ss : List Stretch) (which : Device) (old mid new : World) → s.goes_on ≡ true
-    → CrossesOrFaults s old mid → Halts ss which mid new → Halts (s ∷ ss) which old new
-Halts-next s ss which old mid new g (inl c) q = inr (inl (mid, c, q))
-Halts-next s ss which old mid new g (inr f) q = inr (inr (mid, f, (g, q)))
-
--- the loss of power is noted
-pub Halts-noted : (ss : List Stretch) (which : Device) (old mid new : World) → Halts ss which old mid → Ran (lost which) mid new → Steps ss old new
-Halts-noted [] which old mid new h r = absurd h
-Halts-noted (s ∷ ss) which old mid new (inl h) r = inr (inr (record { which = which; at = mid; stopped = h; noted = r }))
-Halts-noted (s ∷ ss) which old mid new (inr (inl c)) r = inl (c.0, c.1, Halts-noted ss which c.0 mid new c.2 r)
-Halts-noted (s ∷ ss) which old mid new (inr (inr f)) r =
-    inr (inl (f.0, f.1, goes_on_true s.goes_on (Steps ss) f.0 new f.2.0 (Halts-noted ss which f.0 mid new f.2.1 r)))
 
 -- ---- what the devices did
 -- it went on, or ended

@@ -190,15 +190,6 @@ Turn-trusted_spans accepts which e old new t held size h =
       ];
     }
 
--- The number of the item says nothing of it.
-pub item_trusted_spans : (accepts : Acceptance) (which : Bank) (n : ℕ) (story : Story) → HasTrustedSpans accepts which story → HasTrustedSpans accepts which (record story { item = n })
-item_trusted_spans accepts bank.Bmc n story h = record { spans = h.spans; settled = h.settled }
-item_trusted_spans accepts bank.Pch n story h = record { spans = h.spans; settled = h.settled }
-
--- Nothing was noted yet.
-pub first_trusted_spans : (accepts : Acceptance) (which : Bank) (story : Story) → story.notes ≡ [] → HasTrustedSpans accepts which story
-first_trusted_spans accepts which story e = record { spans = rw e tt; settled = λ runs. absurd (let never : standing.Off ≡ standing.Running = rw e at runs in cc) }
-
 -- ---- a bank that stands released is trusted now
 trusted_at_end : (accepts : Acceptance) (which : Bank) (mine nv : Past) (begin end : Counts) → count_at which end ≡ length mine.ops → end.nv ≡ length nv.ops
     → IsSpan accepts which mine nv begin end → IsTrusted (play mine.start mine.ops) (play nv.start nv.ops) which accepts

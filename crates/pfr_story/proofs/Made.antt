@@ -13,6 +13,7 @@ use Rattle.pfr_story.specs.World.{World, story_of, added}
 use Rattle.pfr_story.specs.Course.{Stretch, Steps, lost}
 use Rattle.pfr_story.specs.Goes.{Stopped}
 use Rattle.pfr_story.specs.Safety.{AllMake}
+use Rattle.pfr_story.specs.Bringing.{IsNotedBehind}
 use Rattle.pfr_story.proofs.Sequence.{after-append}
 use Rattle.pfr_story.proofs.SafetyLaws.{notes_operated, cut_makes}
 use Rattle.pfr_story.proofs.Courses.{went_on}
@@ -68,6 +69,23 @@ pub noted_left : (xs ys : List Note) (that : What) → IsNoted xs that → IsNot
 noted_left [] ys that n = absurd n
 noted_left (x ∷ xs) ys that (inl e) = inl e
 noted_left (x ∷ xs) ys that (inr n) = inr (noted_left xs ys that n)
+
+-- it stands behind that in more notes too
+pub behind_within : (this that : What) (left notes right : List Note) → IsNotedBehind this that notes → IsNotedBehind this that (left ++ (notes ++ right))
+behind_within this that left notes right k =
+    let note : Note = record { item = k.item; what = this } in
+    record {
+      before = left ++ k.before;
+      item = k.item;
+      behind = k.behind ++ right;
+      is = ap (λ (xs : List Note). left ++ (xs ++ right)) k.is ∙ ap (λ (xs : List Note). left ++ xs) (append_assoc k.before (note ∷ k.behind) right)
+          ∙ sym (append_assoc left k.before (note ∷ (k.behind ++ right)));
+      noted = noted_left k.behind right that k.noted;
+    }
+
+pub behind_next : (this that : What) (note : Note) (notes : List Note) → IsNotedBehind this that notes → IsNotedBehind this that (note ∷ notes)
+behind_next this that note notes k =
+    record { before = note ∷ k.before; item = k.item; behind = k.behind; is = ap (λ (xs : List Note). note ∷ xs) k.is; noted = k.noted }
 
 pub noted_first : (moves more : List Move) (story : Story) (that : What) → IsNoted (said moves story) that → IsNoted (said (moves ++ more) story) that
 noted_first moves more story that n =

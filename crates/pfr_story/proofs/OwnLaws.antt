@@ -1,5 +1,5 @@
 -- All that is noted of a bank behind Held, where no call fails, has its cause in the contents then.
-use Rattle.std.proofs.Common.{◌≡◌, refl, sym, subst, List, [], ◌∷◌, ◌++◌, ◌⊎◌, inl, inr, Result, Ok, Err}
+use Rattle.std.proofs.Common.{◌≡◌, ◌∙◌, refl, sym, ap, subst, List, [], ◌∷◌, ◌++◌, append_assoc, ◌⊎◌, inl, inr, Result, Ok, Err}
 use Rattle.pfr_flash.specs.Bytes.{AreBytes}
 use Rattle.pfr_flash.specs.Operation.{Operation}
 use Rattle.pfr_flash.specs.declared.names.Bank.{Bank}
@@ -13,23 +13,26 @@ use Rattle.pfr_capsule.specs.declared.fail.CapsuleFail.{CapsuleFail}
 use Rattle.pfr_auth.specs.declared.fail.ActiveFail.{ActiveFail}
 use Rattle.pfr_report.specs.Texts.{IsNoted}
 use Rattle.pfr_report.specs.declared.note.LockWhy.{LockWhy}
+use Rattle.pfr_report.specs.declared.note.Note.{Note}
 use Rattle.pfr_report.specs.declared.note.What.{What}
 use Rattle.pfr_report.specs.declared.note.What.TheVariants as what
-use Rattle.pfr_story.specs.Story.{Story, Says, after, noted, counts_of, device_of, called}
+use Rattle.pfr_story.specs.Story.{Story, Move, Says, after, noted, counts_of, device_of, called}
 use Rattle.pfr_story.specs.Plans.{mine, store, ready_of, judged_active, judged_recovery, restore_ops, restored, by_second, checked_again, by_recovery, by_active, by_ready}
 use Rattle.pfr_story.specs.Causes.{IsAgainst, IsRestorable}
+use Rattle.pfr_story.specs.Bringing.{IsNotedBehind}
 use Rattle.pfr_story.proofs.BringRules.{IsReady, ready_found}
 use Rattle.pfr_story.proofs.SafetyLaws.{AllMake-append, AllMake-called}
 use Rattle.pfr_story.proofs.Facts.{not_trusted, good_recovery}
-use Rattle.pfr_story.proofs.Made.{said, Whichever, AllSay, said_all}
-use Rattle.pfr_story.proofs.TailLaws.{behind, judged_told, tail_restored}
+use Rattle.pfr_story.proofs.Traces.{noted_append}
+use Rattle.pfr_story.proofs.Made.{said, said_append, Whichever, AllSay, said_all}
+use Rattle.pfr_story.proofs.TailLaws.{behind, distrusted, by_against, judged_told}
 
 -- ---- what is noted
 module _ (accepts : Acceptance) (b : Bank) (story : Story) where
   -- the cause of a note of a bank that is held in this story
   abbrev pub Cause : What → Type 0
   Cause (what.Held c at) = ⊥
-  Cause (what.Released c svn at) = (at ≡ counts_of story) ⊎ IsNoted (behind accepts b story) (what.Restored b 1)
+  Cause (what.Released c svn at) = (at ≡ counts_of story) ⊎ IsNotedBehind (what.Restored b 1) (what.Released c svn at) (behind accepts b story)
   Cause (what.Locked c cause at) = at ≡ counts_of story
   Cause (what.Untrusted c cause) = IsAgainst cause b (mine b story) (store story) accepts
   Cause (what.Restored c level) = (level ≡ 1) × IsRestorable b (mine b story) (store story) accepts
@@ -38,9 +41,31 @@ module _ (accepts : Acceptance) (b : Bank) (story : Story) where
   abbrev told : ActiveFail → Story
   told cause = noted (λ _. what.Untrusted b cause) story
 
-  second_caused : (judged : Result Manifest ActiveFail) (there : Story) → IsNoted (behind accepts b story) (what.Restored b 1) → AllSay Cause (by_second b judged there)
-  second_caused (Ok m) there n = ((λ at. inr n), tt)
-  second_caused (Err cause) there n = tt
+  -- what is noted behind a restore
+  restored_behind : (fuses : FusesState) (cause : ActiveFail) (capsule : CapsuleState) (more : List Move) (that : What)
+      → behind accepts b story ≡ record { item = story.item; what = what.Untrusted b cause } ∷ said (restored b 1 fuses capsule (told cause) ++ more) (told cause)
+      → IsNoted (said more (after (restored b 1 fuses capsule (told cause)) (told cause))) that → IsNotedBehind (what.Restored b 1) that (behind accepts b story)
+  restored_behind fuses cause capsule more that is n =
+      let copy : List Move = called (device_of b) (restore_ops 1 (mine b (told cause)) capsule (layout_of fuses.provision b)) in
+      let tells : List Move = Says (λ _. what.Restored b 1) ∷ [] in
+      let first : Note = record { item = story.item; what = what.Untrusted b cause } in
+      let rest : List Note = said more (after (copy ++ tells) (told cause)) in
+      record {
+        before = first ∷ said copy (told cause);
+        item = (after copy (told cause)).item;
+        behind = rest;
+        is = is ∙ ap (λ (notes : List Note). first ∷ notes)
+            (said_append (copy ++ tells) more (told cause) ∙ ap (λ (notes : List Note). notes ++ rest) (said_append copy tells (told cause))
+            ∙ append_assoc (said copy (told cause)) (said tells (after copy (told cause))) rest);
+        noted = n;
+      }
+
+  second_caused : (judged : Result Manifest ActiveFail) (there : Story)
+      → ((that : What) → IsNoted (said (by_second b judged there) there) that → IsNotedBehind (what.Restored b 1) that (behind accepts b story))
+      → (that : What) → IsNoted (said (by_second b judged there) there) that → Cause that
+  second_caused (Ok m) there put that (inl e) = subst Cause e (inr (put (what.Released b m.svn (counts_of there)) (inl refl)))
+  second_caused (Ok m) there put that (inr none) = absurd none
+  second_caused (Err cause) there put that n = absurd n
 
   restored_caused : (fuses : FusesState) (capsule : CapsuleState) (here : Story) → IsRestorable b (mine b story) (store story) accepts → AllSay Cause (restored b 1 fuses capsule here)
   restored_caused fuses capsule here h =
@@ -50,15 +75,19 @@ module _ (accepts : Acceptance) (b : Bank) (story : Story) where
 
   module _ (bytes : AreBytes (mine b story)) where
     recovery_caused : (fuses : FusesState) (cause : ActiveFail) (judged : Result CapsuleState CapsuleFail) → IsReady b fuses story → IsAgainst cause b (mine b story) (store story) accepts
-        → judged_recovery accepts b fuses story ≡ judged → (that : What) → IsNoted (said (by_recovery accepts b fuses cause judged (told cause)) (told cause)) that → Cause that
-    recovery_caused fuses cause (Ok capsule) r a j that n =
+        → judged_recovery accepts b fuses story ≡ judged → behind accepts b story ≡ distrusted accepts b fuses cause judged story
+        → (that : What) → IsNoted (said (by_recovery accepts b fuses cause judged (told cause)) (told cause)) that → Cause that
+    recovery_caused fuses cause (Ok capsule) r a j is that n =
         let h : IsRestorable b (mine b story) (store story) accepts = (not_trusted cause b (mine b story) (store story) accepts a, good_recovery accepts b fuses capsule story r bytes j) in
-        let there : Story = after (restored b 1 fuses capsule (told cause)) (told cause) in
-        said_all Cause (restored b 1 fuses capsule (told cause) ++ checked_again accepts b fuses there) (told cause)
-        (AllMake-append Whichever (λ w. (at : Counts) → Cause (w at)) (restored b 1 fuses capsule (told cause)) (checked_again accepts b fuses there)
-        (restored_caused fuses capsule (told cause) h) (tt, second_caused (judged_active accepts b fuses there) there (tail_restored accepts b story bytes h))) that n
-    recovery_caused fuses cause (Err other) r a j that (inl e) = subst Cause e refl
-    recovery_caused fuses cause (Err other) r a j that (inr none) = absurd none
+        let moves : List Move = restored b 1 fuses capsule (told cause) in
+        let there : Story = after moves (told cause) in
+        let again : List Move = checked_again accepts b fuses there in
+        elim (noted_append (said moves (told cause)) (said again there) that (subst (λ (notes : List Note). IsNoted notes that) (said_append moves again (told cause)) n)) [
+          | inl m ↦ said_all Cause moves (told cause) (restored_caused fuses capsule (told cause) h) that m
+          | inr m ↦ second_caused (judged_active accepts b fuses there) there (λ it k. restored_behind fuses cause capsule again it is k) that m
+        ]
+    recovery_caused fuses cause (Err other) r a j is that (inl e) = subst Cause e refl
+    recovery_caused fuses cause (Err other) r a j is that (inr none) = absurd none
 
     active_caused : (fuses : FusesState) (judged : Result Manifest ActiveFail) → IsReady b fuses story → judged_active accepts b fuses story ≡ judged
         → (that : What) → IsNoted (said (by_active accepts b fuses judged story) story) that → Cause that
@@ -66,9 +95,10 @@ module _ (accepts : Acceptance) (b : Bank) (story : Story) where
     active_caused fuses (Ok m) r j that (inr none) = absurd none
     active_caused fuses (Err cause) r j that n =
         let against : IsAgainst cause b (mine b story) (store story) accepts = record { fuses = fuses; provisioned = r.provisioned; layout = r.layout; judged = j } in
+        let judged : Result CapsuleState CapsuleFail = judged_recovery accepts b fuses (told cause) in
         elim n [
           | inl e ↦ subst Cause e against
-          | inr m ↦ recovery_caused fuses cause (judged_recovery accepts b fuses (told cause)) r against (sym (judged_told accepts b fuses (λ _. what.Untrusted b cause) story)) that m
+          | inr m ↦ recovery_caused fuses cause judged r against (sym (judged_told accepts b fuses (λ _. what.Untrusted b cause) story)) (by_against accepts b cause story judged against refl) that m
         ]
 
     ready_caused : (ready : Result FusesState LockWhy) → ready_of b story ≡ ready → (that : What) → IsNoted (said (by_ready accepts b ready story) story) that → Cause that

@@ -29,7 +29,7 @@ use Rattle.pfr_story.specs.Story.{Story, Move, Says, Does, Asks, after, noted, o
 use Rattle.pfr_story.specs.World.{World, NoneFailed, NoneLost, story_of, state_at, AllMoved, added}
 use Rattle.pfr_story.specs.Spans.{ReleasedSpans}
 use Rattle.pfr_story.specs.Turn.{Turn, course, begun}
-use Rattle.pfr_story.specs.Run.{takes_arm, with_arm, with_arm_at, armed, Did, Reached, CanRun}
+use Rattle.pfr_story.specs.Run.{with_arm, with_arm_at, armed, Did, Reached, CanRun}
 use Rattle.pfr_story.specs.Causes.{IsTrustedWith, IsDue}
 use Rattle.pfr_story.specs.Promises.{AtCounts, IsFaultLock, IsUndisturbed, ReleasesTrusted, LocksHaveCauses, FaultsHaveCauses, FaultsAreNoted}
 use Rattle.pfr_story.proofs.WorldLaws.{faults_moved, losses_moved, NoneLost-at, NoneFailed-at, NoneFailed-refl, NoneFailed-trans}
@@ -430,25 +430,3 @@ module _ (accepts : Acceptance) where
   CanRun-more tears n items k d i mid new h e t p =
       CanRun-did tears n i (drop (k + 1) items) mid new
       (subst (λ (xs : List Item). CanRun n xs mid) (drop_more items k d h ∙ ap (λ (x : Item). x ∷ drop (k + 1) items) e) p) t
-
-  -- the arm that comes next can be made
-  pub arm_ready : (n : ℕ) (arm : Arm) (items : List Item) (w : World) → CanRun n (item.Arm arm ∷ items) w
-      → (1 ≤ arm.nth) × (arm.tear < n) × (takes_arm arm.what ≤ (state_at arm.device w).arms) × (w.item < 67108863)
-  arm_ready n arm items w p =
-      let known : IsKnownArm n (item.Arm arm) = p.known 0 (item.Arm arm) (omega arith) in
-      (known.0, known.1, arms_here arm.device arm.what (arms_cons arm.device (item.Arm arm) items _ (p.arms arm.device)), omega (arith, p.few))
-    where
-      arms_here : (at : Device) (what : ArmWhat) → cond (is_arm_of at (item.Arm (record { device = at; what = what; nth = 0; tear = 0 }))) 1 0 + arms_in at items ≤ (state_at at w).arms
-          → takes_arm what ≤ (state_at at w).arms
-      arms_here device.Bmc armed_what.Cut h = omega (arith, h)
-      arms_here device.Bmc armed_what.Fault h = omega (arith, h)
-      arms_here device.Bmc armed_what.ReadFault h = omega arith
-      arms_here device.Pch armed_what.Cut h = omega (arith, h)
-      arms_here device.Pch armed_what.Fault h = omega (arith, h)
-      arms_here device.Pch armed_what.ReadFault h = omega arith
-      arms_here device.Nv armed_what.Cut h = omega (arith, h)
-      arms_here device.Nv armed_what.Fault h = omega (arith, h)
-      arms_here device.Nv armed_what.ReadFault h = omega arith
-
-  pub event_ready : (n : ℕ) (e : Event) (items : List Item) (w : World) → CanRun n (item.Event e ∷ items) w → w.item < 67108863
-  event_ready n e items w p = omega (arith, p.few)

@@ -83,14 +83,14 @@ module _ (accepts : Acceptance) (b : Bank) where
       (sym (by_check t.fuses story (Ok t.manifest) t.provisioned t.layout (trusted_judged (mine b story) (store story) b accepts t))) (inl refl)
 
   -- ---- one that isn't
-  abbrev untrusted : ActiveFail → Story → Story
+  abbrev pub untrusted : ActiveFail → Story → Story
   untrusted cause story = noted (λ _. what.Untrusted b cause) story
 
-  abbrev distrusted : FusesState → ActiveFail → Result CapsuleState CapsuleFail → Story → List Note
+  abbrev pub distrusted : FusesState → ActiveFail → Result CapsuleState CapsuleFail → Story → List Note
   distrusted fuses cause judged story =
       record { item = story.item; what = what.Untrusted b cause } ∷ said (by_recovery accepts b fuses cause judged (untrusted cause story)) (untrusted cause story)
 
-  by_against : (cause : ActiveFail) (story : Story) (judged : Result CapsuleState CapsuleFail) (a : IsAgainst cause b (mine b story) (store story) accepts)
+  pub by_against : (cause : ActiveFail) (story : Story) (judged : Result CapsuleState CapsuleFail) (a : IsAgainst cause b (mine b story) (store story) accepts)
       → judged_recovery accepts b a.fuses (untrusted cause story) ≡ judged → behind story ≡ distrusted a.fuses cause judged story
   by_against cause story judged a j =
       by_check a.fuses story (Err cause) a.provisioned a.layout a.judged

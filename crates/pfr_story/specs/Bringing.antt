@@ -51,13 +51,13 @@ pub record ReleasedSoon (which : Bank) (at : Counts) (most : ℕ) (notes : List 
 
 -- What is noted of a bank that is held at these counts, by the contents then.
 pub record BringsUp (accepts : Acceptance) (which : Bank) (w : World) (notes : List Note) (at : Counts) : Type 0 where
-  -- It is held once.
+  -- It is held at these counts alone.
   pub held : IsNoted notes (Held which at)
   pub once : (again : Counts) → IsNoted notes (Held which again) → again ≡ at
   -- It is released where its image is trusted, and else only behind a restore.
   pub trusted : (t : AtCounts (λ image nv. IsTrusted image nv which accepts) which at w) → IsNoted notes (Released which t.manifest.svn at)
   pub released : (svn : ℕ) (then : Counts) → IsNoted notes (Released which svn then)
-      → AtCounts (λ image nv. IsTrustedWith svn image nv which accepts) which then w × ((then ≡ at) ⊎ IsNoted notes (Restored which 1))
+      → AtCounts (λ image nv. IsTrustedWith svn image nv which accepts) which then w × ((then ≡ at) ⊎ IsNotedBehind (Restored which 1) (Released which svn then) notes)
   -- It is locked only with a cause, and always where there is one.
   pub locked : (cause : LockWhy) (then : Counts) → IsNoted notes (Locked which cause then)
       → (then ≡ at) × AtCounts (λ image nv. IsDue cause which image nv accepts) which at w

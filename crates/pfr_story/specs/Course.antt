@@ -1,5 +1,5 @@
 -- How a whole step goes: stretch by stretch, each of which a failed device call may cut short.
-use Rattle.std.specs.Prelude.{◌≡◌, Bool, true, false, List, [], ◌∷◌, ◌⊎◌, Some}
+use Rattle.std.specs.Prelude.{Bool, true, false, List, [], ◌∷◌, ◌⊎◌, Some}
 use Rattle.pfr_flash.specs.declared.flash.FlashFail.TheVariants.{Fault, Lost as Loses}
 use Rattle.pfr_flash.specs.declared.names.Device.{Device}
 use Rattle.pfr_report.specs.declared.note.What.TheVariants.{Lost}
@@ -59,14 +59,6 @@ Steps (stretch ∷ stretches) old new =
 -- the step goes on after the first stretch
 abbrev pub CrossesOrFaults : Stretch → World → World → Type 0
 CrossesOrFaults stretch old new = Crosses stretch old new ⊎ Faults stretch old new
-
--- The same up to a stretch where this device lost the power, which isn't noted yet.
-abbrev pub Halts : List Stretch → Device → World → World → Type 0
-Halts [] which old new = ⊥
-Halts (stretch ∷ stretches) which old new =
-    Stopped (stretch.plan (story_of old)) which Loses old new
-    ⊎ After (Crosses stretch) (Halts stretches which) old new
-    ⊎ After (Faults stretch) (λ mid end. (stretch.goes_on ≡ true) × Halts stretches which mid end) old new
 
 -- What the stretches do where no call fails.
 abbrev pub calm_of : List Stretch → Plan
