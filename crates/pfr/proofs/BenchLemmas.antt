@@ -1,8 +1,9 @@
 -- What a bench promises, by the laws of whole runs.
-use Rattle.std.proofs.Common.{◌≡◌, ap, sym, refl, subst, ℕ, List, [], take, Option, Some, None}
+use Rattle.std.proofs.Common.{◌≡◌, ◌∙◌, ap, sym, refl, subst, ℕ, List, [], length, take, Option, Some, None}
 use Rattle.std.specs.Prelude.{IfSome, slice_index_or}
 use Rattle.pfr_flash.specs.FlashState.{FlashState, Rose}
 use Rattle.pfr_flash.specs.Holding.{HoldsBytes}
+use Rattle.pfr_flash.specs.Layout.{IsBankSize}
 use Rattle.pfr_flash.specs.declared.names.Bank.{Bank}
 use Rattle.pfr_flash.specs.declared.names.Bank.TheVariants as bank
 use Rattle.pfr_flash.specs.declared.names.Counts.{Counts}
@@ -22,8 +23,11 @@ use Rattle.pfr_story.specs.declared.guards.Guards.{Guards}
 use Rattle.pfr_story.proofs.Bytes.{HaveBytes, have_bytes}
 use Rattle.pfr_story.proofs.NoteLaws.{Turn-distrusts, Turn-restores}
 use Rattle.pfr_story.proofs.FaultLaws.{Turn-told}
-use Rattle.pfr_story.proofs.BringLaws.{Turn-brings}
-use Rattle.pfr_story.proofs.RunLaws.{IsFresh, IsLater-refl, Reached-spans, Reached-releases, Reached-causes, Reached-faults, Reached-told, Reached-with, armed_story, failed_armed}
+use Rattle.pfr_story.proofs.BringLaws.{Turn-brings, Turn-powers}
+use Rattle.pfr_story.proofs.RecoveryLaws.{Turn-recoverable}
+use Rattle.pfr_story.proofs.RiseLaws.{Turn-counted}
+use Rattle.pfr_story.proofs.RunLaws.{IsFresh, IsLater, IsLater-refl, Reached-spans, Reached-releases, Reached-causes, Reached-faults, Reached-told, Reached-with, armed_story, failed_armed}
+use Rattle.pfr_machine.specs.Inside.{HasSizes}
 use Rattle.pfr.specs.Benches.{fresh_of, end_of, StandsAs, HasRun, IsRun}
 use Rattle.pfr.specs.Promises.{TellsOfFaults, TellsIn, IsUnheard, IsRunWith, HasReleasedSpans, ReleasesTrustedBanks, HasDueLocks, BringsBanksUp, BringsUpIn, KeepsFuses, StaysProvisioned}
 use Rattle.pfr.specs.declared.finished.Bench.{Bench}
@@ -104,11 +108,11 @@ has_provision bench has = has.kept
 
 -- of each item of a run what its step did says this
 run_with : (bench : Bench) (Goes : Item → World → World → Type 0)
-    → ((i : Item) (old new : World) → HaveBytes new → Did (acceptance bench.engine) bench.script.tears i old new → Goes i old new)
+    → ((i : Item) (old new : World) → IsLater (fresh_of bench) old → HaveBytes new → Did (acceptance bench.engine) bench.script.tears i old new → Goes i old new)
     → (items : List Item) → IsRun items bench → IsRunWith Goes items bench
 run_with bench Goes did items run = record {
   end = run.end;
-  reached = Reached-with (acceptance bench.engine) bench.script.tears Goes (fresh_of bench) (λ i old new before held did_so. did i old new held did_so) items (fresh_of bench) run.end
+  reached = Reached-with (acceptance bench.engine) bench.script.tears Goes (fresh_of bench) did items (fresh_of bench) run.end
       (IsLater-refl (fresh_of bench)) (held_at bench run.end run.left) run.reached;
   left = run.left;
 }
@@ -126,20 +130,32 @@ has_told bench has =
     record {
       whole = of_end (λ (w : World). FaultsAreNoted (fresh_of bench) w) bench has (told_as (fresh_of bench) has.run.end (end_of bench).item (end_of bench).notes.spare (end_of bench).guards
           (Reached-told accepts bench.script.tears (take has.count bench.script.items) (fresh_of bench) has.run.end has.run.reached));
-      each = run_with bench TellsIn (λ i old new held did. did_tells accepts bench.script.tears i old new did);
+      each = run_with bench TellsIn (λ i old new before held did. did_tells accepts bench.script.tears i old new did);
     }
 
-did_brings : (accepts : Acceptance) (tears : List (List ℕ)) (i : Item) (old new : World) → HaveBytes new → Did accepts tears i old new → BringsUpIn accepts i old new
-did_brings accepts tears (item.Event e) old new held t = record {
+-- no size of a device changes in a run
+later_sizes : (first w : World) → HasSizes first → IsLater first w → HasSizes w
+later_sizes first w sizes later = record {
+  bmc = subst (λ (start : List ℕ). IsBankSize (length start)) (sym later.precedes.bmc.start) sizes.bmc;
+  pch = subst (λ (start : List ℕ). IsBankSize (length start)) (sym later.precedes.pch.start) sizes.pch;
+  nv = ap (λ (start : List ℕ). length start) later.precedes.nv.start ∙ sizes.nv;
+}
+
+did_brings : (accepts : Acceptance) (tears : List (List ℕ)) (i : Item) (old new : World) → HasSizes old → HaveBytes new → Did accepts tears i old new → BringsUpIn accepts i old new
+did_brings accepts tears (item.Event e) old new sizes held t = record {
   calm = Turn-brings accepts e old new t held;
   distrusts = Turn-distrusts accepts e old new t;
   restores = Turn-restores accepts e old new t held;
+  counted = Turn-counted accepts e old new t;
+  powers = Turn-powers accepts e old new t held sizes.bmc sizes.pch;
+  recoverable = Turn-recoverable accepts e old new t held sizes.bmc sizes.pch sizes.nv;
 }
-did_brings accepts tears (item.Arm arm) old new held is = tt
+did_brings accepts tears (item.Arm arm) old new sizes held is = tt
 
-brings_up : (bench : Bench) → BringsBanksUp bench
-brings_up bench =
-    run_with bench (BringsUpIn (acceptance bench.engine)) (did_brings (acceptance bench.engine) bench.script.tears)
+brings_up : (bench : Bench) → HasRun bench → BringsBanksUp bench
+brings_up bench has =
+    run_with bench (BringsUpIn (acceptance bench.engine))
+    (λ i old new before held did. did_brings (acceptance bench.engine) bench.script.tears i old new (later_sizes (fresh_of bench) old has.sizes before) held did)
 
 -- ---- of each bench
 of_each : (P : Bench → Type 0) → ((bench : Bench) → HasRun bench → P bench) → (option : Option Bench) → IfSome option HasRun → IfSome option P
@@ -165,4 +181,4 @@ pub each_provision : (option : Option Bench) → IfSome option HasRun → IfSome
 each_provision option has = of_each StaysProvisioned has_provision option has
 
 pub each_brings_up : (option : Option Bench) → IfSome option HasRun → IfSome option BringsBanksUp
-each_brings_up option has = of_each BringsBanksUp (λ bench h. brings_up bench) option has
+each_brings_up option has = of_each BringsBanksUp brings_up option has

@@ -1,16 +1,14 @@
 -- What a bench is the bench of.
-use Rattle.std.specs.Prelude.{◌≡◌, ℕ, ◌*◌, ◌/◌, List, [], ◌∷◌, Some, length, take}
+use Rattle.std.specs.Prelude.{◌≡◌, ℕ, ◌*◌, ◌/◌, List, [], Some, length, take}
 use Rattle.pfr_flash.specs.FlashState.{FlashState}
 use Rattle.pfr_flash.specs.MemFlash.{new_device}
 use Rattle.pfr_fuses.specs.Growth.{NeverGoesBack, KeepsProvision}
 use Rattle.pfr_engine.specs.Accepting.{acceptance}
 use Rattle.pfr_script.specs.declared.item.Item.{Item}
 use Rattle.pfr_report.specs.Texts.{AllText}
-use Rattle.pfr_report.specs.declared.note.Note.{Note}
-use Rattle.pfr_story.specs.Guards.{first_guards, guards_after}
+use Rattle.pfr_story.specs.Guards.{first_guards}
 use Rattle.pfr_story.specs.World.{World}
 use Rattle.pfr_story.specs.Run.{Did, Reached}
-use Rattle.pfr_story.specs.declared.guards.Guards.{Guards}
 use Rattle.pfr_machine.specs.Inside.{HasSizes}
 use Rattle.pfr_shelf.specs.Files.{Files}
 use Rattle.pfr.specs.Judging.{HoldsRows, HoldsScript}
@@ -32,11 +30,6 @@ fresh_of bench = record {
   guards = first_guards;
 }
 
--- the guards once these were noted
-abbrev pub guards_from : Guards → List Note → Guards
-guards_from guards [] = guards
-guards_from guards (note ∷ notes) = guards_from (guards_after note.what guards) notes
-
 -- the platform as it is left
 abbrev pub end_of : Bench → World
 end_of bench = record {
@@ -45,7 +38,7 @@ end_of bench = record {
   nv = bench.nv.device;
   item = length bench.script.items;
   notes = bench.notes;
-  guards = guards_from first_guards bench.notes.list;
+  guards = first_guards;
 }
 
 -- the devices and the notes are those of that world

@@ -4,13 +4,15 @@ use Rattle.pfr_flash.specs.declared.names.Bank.{Bank}
 use Rattle.pfr_engine.specs.Acceptance.{Acceptance}
 use Rattle.pfr_engine.specs.Accepting.{acceptance}
 use Rattle.pfr_fuses.specs.Growth.{NeverGoesBack, KeepsProvision}
+use Rattle.pfr_recoverable.specs.Recoverable.{HasGoodRecovery}
 use Rattle.pfr_script.specs.declared.event.Event.{Event}
 use Rattle.pfr_script.specs.declared.item.Item.{Item}
 use Rattle.pfr_script.specs.declared.item.Item.TheVariants as item
 use Rattle.pfr_story.specs.World.{NoneFailed, World, story_of}
 use Rattle.pfr_story.specs.Run.{Did, Reached}
 use Rattle.pfr_story.specs.Spans.{ReleasedSpans}
-use Rattle.pfr_story.specs.Bringing.{BringsUpCalm}
+use Rattle.pfr_story.specs.Bringing.{BringsUpCalm, PowerReleases}
+use Rattle.pfr_story.specs.Recovery.{CountsRise, StaysRecoverable}
 use Rattle.pfr_story.specs.Promises.{FaultsAreNoted, ReleasesTrusted, LocksHaveCauses, FaultsHaveCauses, DistrustsWithCause, RestoresGood}
 use Rattle.pfr.specs.Benches.{fresh_of, end_of, StandsAs, IsRun}
 use Rattle.pfr.specs.declared.finished.Bench.{Bench}
@@ -38,11 +40,15 @@ abbrev pub StaysProvisioned : Bench → Type 0
 StaysProvisioned bench = KeepsProvision (fresh_of bench).nv bench.nv.device
 
 -- What an event does to banks: a power-on brings each up by the contents where it is held, unless a call failed while it was in
--- work; and none is called untrusted or restored without cause.
+-- work, and releases each that has a good capsule in its recovery area; none is called untrusted or restored without cause; the
+-- counts of the notes rise; and a good capsule stays, from each moment to the next.
 pub record BringsUpSo (accepts : Acceptance) (event : Event) (old new : World) : Type 0 where
   pub calm : BringsUpCalm event accepts old new
   pub distrusts : DistrustsWithCause accepts old new
   pub restores : RestoresGood accepts old new
+  pub counted : CountsRise old new
+  pub powers : PowerReleases (λ bank image nv. HasGoodRecovery bank image nv accepts) event old new
+  pub recoverable : StaysRecoverable (λ bank image nv. HasGoodRecovery bank image nv accepts) old new
 
 abbrev pub BringsUpIn : Acceptance → Item → World → World → Type 0
 BringsUpIn accepts (item.Event event) old new = BringsUpSo accepts event old new
@@ -70,7 +76,7 @@ pub record TellsOfFaults (bench : Bench) : Type 0 where
   pub whole : FaultsAreNoted (fresh_of bench) (end_of bench)
   pub each : (items : List Item) → IsRun items bench → IsRunWith TellsIn items bench
 
--- In the run each power-on released each bank that was trusted, restored each that wasn't and had a good capsule, and locked each
--- that had a cause, unless a device failed.
+-- In the run each power-on released each bank that was trusted, restored and released each that wasn't and had a good capsule, and
+-- locked each that had a cause, unless a device failed; and no event, whatever failed, took a bank's good capsule away.
 abbrev pub BringsBanksUp : Bench → Type 0
 BringsBanksUp bench = (items : List Item) → IsRun items bench → IsRunWith (BringsUpIn (acceptance bench.engine)) items bench
