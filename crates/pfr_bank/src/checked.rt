@@ -1,6 +1,6 @@
 // A bank whose active image was judged and is trusted.
 ghost use Rattle.std.specs.Prelude.{◌≡◌};
-ghost use Rattle.pfr_flash.specs.FlashState.{now, op_count_of, size_of};
+ghost use Rattle.pfr_flash.specs.FlashState.{now};
 ghost use Rattle.pfr_bank.specs.Spelling.{StillSpells};
 
 use crate::held::Held;
@@ -66,26 +66,5 @@ impl<F: Flash> Checked<F> {
         ensures spells { StillSpells (now (F.device self.now.flash)) self.now.manifest self.now.layout }
     {
         let _ = &self.bank;
-    }
-
-    /// How many bytes the flash has.
-    pub fn size(&self) -> u32
-        ensures { result ≡ size_of (F.device self.now.flash) }
-    {
-        self.flash.size()
-    }
-
-    /// How many erases and programs the flash has done.
-    pub fn op_count(&self) -> u32
-        ensures { result ≡ op_count_of (F.device self.now.flash) }
-    {
-        self.flash.op_count()
-    }
-
-    /// Gives the flash up as it stands.
-    pub fn into_flash(self) -> F
-        ensures { result ≡ self.flash }
-    {
-        self.flash
     }
 }

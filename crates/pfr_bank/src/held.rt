@@ -119,11 +119,4 @@ impl<F: Flash> Held<F> {
     {
         self.flash.op_count()
     }
-
-    /// Gives the flash up as it stands.
-    pub fn into_flash(self) -> F
-        ensures { result ≡ self.flash }
-    {
-        self.flash
-    }
 }

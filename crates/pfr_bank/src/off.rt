@@ -1,5 +1,5 @@
 // A bank whose flash has no power.
-ghost use Rattle.std.specs.Prelude.{◌≡◌, ◌<◌, ◌≤◌, true};
+ghost use Rattle.std.specs.Prelude.{◌≡◌, ◌<◌, ◌≤◌, true, false};
 ghost use Rattle.pfr_flash.specs.Flash.{with_cut, with_fault};
 ghost use Rattle.pfr_flash.specs.FlashState.{op_count_of, size_of};
 
@@ -31,6 +31,17 @@ impl<F: Flash> Off<F> {
         let mut flash = self.flash;
         flash.power_up();
         Held { flash, bank }
+    }
+
+    /// Takes the flash's power, where it has any. The bytes stay.
+    pub fn lost(self) -> Off<F>
+        ensures down { F.device result.flash ≡ record (F.device self.flash) { powered = false } }
+        ensures bank { result.bank ≡ self.bank }
+    {
+        let bank = self.bank;
+        let mut flash = self.flash;
+        flash.power_down();
+        Off { flash, bank }
     }
 
     /// How many bytes the flash has.

@@ -37,3 +37,10 @@ fn locked_keeps_its_power(rt: HostRuntime) -> Result<(), Fail> {
     assert_eq!(rt; flash.op_count(), 1);
     Ok(())
 }
+
+#[test]
+fn lost_from_off(rt: HostRuntime) -> Result<(), Fail> {
+    let mut flash = dark(&rt, rt.alloc())?.lost().into_flash();
+    assert_eq!(rt; flash.erase(0), Err(FlashFail::Lost));
+    Ok(())
+}

@@ -60,7 +60,9 @@ fn replace_pages<F: Flash>(
 /// The pages of the manifest area get the capsule's signed manifest, with 0xFF behind it. The pages of each region that
 /// `kind` takes get what the capsule gives for them, and those that it leaves aren't written. Each page is erased, and then
 /// programmed in pieces of 256 bytes. The capsule was judged for this bank with this layout; it lies in the bank's recovery
-/// or staging area, where its bytes are as they were judged. A restore's `level` is 1 to 3.
+/// or staging area, where its bytes are as they were judged.
+///
+/// A restore's `level` is 1 to 3; at another one, bit `level + 1` of the masks is asked all the same.
 ///
 /// At the first call of the flash that fails it ends, with that call's cause: then the pages before were written, and the last
 /// one may be torn.

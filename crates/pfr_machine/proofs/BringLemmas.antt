@@ -23,7 +23,7 @@ use Rattle.pfr_report.specs.declared.note.LockWhy.TheVariants.{NoGoodImage}
 use Rattle.pfr_report.specs.declared.note.What.{What}
 use Rattle.pfr_report.specs.declared.note.What.TheVariants.{Held, Locked, Untrusted}
 use Rattle.pfr_story.specs.Standing.{standing_of, standing_by, Off}
-use Rattle.pfr_story.specs.Story.{Story, Move, Says, Plan, after, then, says, device_of}
+use Rattle.pfr_story.specs.Story.{Story, Move, Says, Plan, after, then, says, device_of, other_bank}
 use Rattle.pfr_story.specs.World.{World, story_of, state_at}
 use Rattle.pfr_story.specs.Goes.{Ran, Stopped, Goes}
 use Rattle.pfr_story.specs.Plans.{mine, asks, asks_store, ready_in, ready_of, judged_active, judged_recovery, restored, by_second, checked_again, by_recovery, recovered, by_active, tail, by_ready, brought_up}
@@ -33,7 +33,7 @@ use Rattle.pfr_story.specs.declared.line.Line.{Line}
 use Rattle.pfr_story.specs.declared.stop.Stop.{Stop}
 use Rattle.pfr_story.proofs.Sequence.{Ran-append, Stopped-first, Stopped-next}
 use Rattle.pfr_story.proofs.RestoreLaws.{restored_judged}
-use Rattle.pfr_machine.specs.Worlds.{AddsNotes, DeskState, IsAwake, Stays, desk_world, other_of, with_note}
+use Rattle.pfr_machine.specs.Worlds.{AddsNotes, DeskState, IsAwake, Stays, desk_world, with_note}
 use Rattle.pfr_machine.specs.Ready.{LeavesSeated, HaltsIn, EndsSeated, DistrustedBy, BroughtUp, Brings, Ended}
 use Rattle.pfr_machine.specs.declared.board.Board.{Board}
 use Rattle.pfr_machine.specs.declared.bringing.Dark.{Dark}
@@ -51,7 +51,7 @@ module _ {T : Type 0} (m n : ℕ) (old mid : DeskState) (answer : Result T Stop)
   leaves_behind : (new : World) → LeavesSeated n mid new → LeavesSeated (m + n) old new
   leaves_behind new l = record {
     mine = subst (λ (b : Bank). standing_of b new.notes.list ≢ Off) s.bank l.mine;
-    other = ap (λ (b : Bank). standing_of (other_of b) new.notes.list) (sym s.bank) ∙ (l.other ∙ ap (λ (how : Line). standing_by how) s.other);
+    other = ap (λ (b : Bank). standing_of (other_bank b) new.notes.list) (sym s.bank) ∙ (l.other ∙ ap (λ (how : Line). standing_by how) s.other);
     notes = AddsNotes-then m n old.world.notes mid.world.notes new.notes s.notes l.notes;
     nv = l.nv;
   }
@@ -238,7 +238,7 @@ module _ (accepts : Acceptance) (old : DeskState) where
   loaded_halted stop new g s = halts_first asks_store (by_fuses accepts old.bank) 0 3 old stop new (omega arith) (halts_called asks_store 0 old stop new g s)
 
 -- ---- the whole: it is held first
-module _ (accepts : Acceptance) (which : Bank) (old : World) (held : DeskState) (b : held.bank ≡ which) (o : standing_by held.other ≡ standing_of (other_of which) old.notes.list)
+module _ (accepts : Acceptance) (which : Bank) (old : World) (held : DeskState) (b : held.bank ≡ which) (o : standing_by held.other ≡ standing_of (other_bank which) old.notes.list)
     (p : Ran (Says (Held which) ∷ []) old held.world) (n : AddsNotes 1 old.notes held.world.notes) where
   brought_ran : (new : World) → Ran (then asks_store (by_fuses accepts which) (story_of held.world)) held.world new → Ran (brought_up accepts which (story_of old)) old new
   brought_ran new q =
@@ -248,7 +248,7 @@ module _ (accepts : Acceptance) (which : Bank) (old : World) (held : DeskState) 
   leaves_up : (m : ℕ) (desk : DeskState) (new : World) → desk.bank ≡ which → desk.other ≡ held.other → AddsNotes m old.notes desk.world.notes → (k : ℕ) → LeavesSeated k desk new → BroughtUp which (m + k) old new
   leaves_up m desk new db line_same notes k l = record {
     mine = subst (λ (x : Bank). standing_of x new.notes.list ≢ Off) db l.mine;
-    other = ap (λ (x : Bank). standing_of (other_of x) new.notes.list) (sym db) ∙ (l.other ∙ (ap (λ (how : Line). standing_by how) line_same ∙ o));
+    other = ap (λ (x : Bank). standing_of (other_bank x) new.notes.list) (sym db) ∙ (l.other ∙ (ap (λ (how : Line). standing_by how) line_same ∙ o));
     notes = AddsNotes-then m k old.notes desk.world.notes new.notes notes l.notes;
     nv = l.nv;
   }

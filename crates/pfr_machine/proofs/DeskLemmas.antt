@@ -20,8 +20,8 @@ use Rattle.pfr_report.specs.Texts.{HasText}
 use Rattle.pfr_report.specs.declared.note.Note.{Note}
 use Rattle.pfr_report.specs.declared.note.What.{What}
 use Rattle.pfr_story.specs.Standing as standing
-use Rattle.pfr_story.specs.Standing.{Standing, standing_after, standing_by, standing_of}
-use Rattle.pfr_story.specs.Story.{Move, Plan, called, device_of, image_at}
+use Rattle.pfr_story.specs.Standing.{Standing, standing_after, standing_of}
+use Rattle.pfr_story.specs.Story.{Move, Plan, called, device_of, image_at, other_bank}
 use Rattle.pfr_story.specs.World.{World, state_at, story_of}
 use Rattle.pfr_story.specs.Goes.{Goes, Ran, Stopped}
 use Rattle.pfr_story.specs.Plans.{copied, restore_ops}
@@ -29,11 +29,10 @@ use Rattle.pfr_story.specs.declared.line.Line.{Line}
 use Rattle.pfr_story.specs.declared.line.Line.TheVariants as line
 use Rattle.pfr_story.specs.declared.stop.Stop.{Stop}
 use Rattle.pfr_story.proofs.Lift.{OnlyAt, Goes-follows, Goes-reads, at_device}
-use Rattle.pfr_machine.specs.Inside.{AreBeside, AreSeated, AreSides, IsDesk, IsSeat}
-use Rattle.pfr_machine.specs.Worlds.{AddsNotes, IsAwake, Stays, StaysAwake, bank_in, desk_world, flash_in, line_in, other_of, pushed, with_note, world_with}
+use Rattle.pfr_machine.specs.Inside.{AreBeside, AreSeated, IsDesk, IsSeat}
+use Rattle.pfr_machine.specs.Worlds.{AddsNotes, IsAwake, Stays, StaysAwake, desk_world, pushed, with_note, world_with}
 use Rattle.pfr_machine.specs.Ready.{LeavesSeated}
 use Rattle.pfr_machine.specs.declared.board.Board.{Board}
-use Rattle.pfr_machine.specs.declared.sides.Sides.{Sides}
 use Rattle.pfr_machine.proofs.WorldLemmas.{AddsNotes-same, standing_noted, seat_noted, seat_stays, board_noted, board_stays}
 
 -- ---- the devices of a desk
@@ -42,7 +41,7 @@ module _ {F : Type 0} where
   state_mine bank.Bmc mine other nv board = refl
   state_mine bank.Pch mine other nv board = refl
 
-  pub state_other : (b : Bank) (mine other nv : FlashState) (board : Board F) → state_at (device_of (other_of b)) (desk_world b mine other nv board) ≡ other
+  pub state_other : (b : Bank) (mine other nv : FlashState) (board : Board F) → state_at (device_of (other_bank b)) (desk_world b mine other nv board) ≡ other
   state_other bank.Bmc mine other nv board = refl
   state_other bank.Pch mine other nv board = refl
 
@@ -126,13 +125,13 @@ module _ {F : Type 0} (b : Bank) (mine other nv : FlashState) (board : Board F) 
 -- ---- a bank stays in work
 pub desk_stays : (b owner other_owner : Bank) (how : Line) (old new : World)
     → size_of (state_at (device_of b) new) ≡ size_of (state_at (device_of b) old) → size_of new.nv ≡ size_of old.nv
-    → state_at (device_of (other_of b)) new ≡ state_at (device_of (other_of b)) old → new.notes.list ≡ old.notes.list
+    → state_at (device_of (other_bank b)) new ≡ state_at (device_of (other_bank b)) old → new.notes.list ≡ old.notes.list
     → IsDesk b owner other_owner how old → IsDesk b owner other_owner how new
 desk_stays b owner other_owner how old new size store other list h = record {
   owner = h.owner;
   size = subst (λ (n : ℕ). IsBankSize n) (sym size) h.size;
   stands = ap (λ (l : List Note). standing_of b l) list ∙ h.stands;
-  other = seat_stays (other_of b) other_owner how old new (ap size_of other) list (λ on. ap (λ (d : FlashState). d.powered) other ∙ h.other.on on) h.other;
+  other = seat_stays (other_bank b) other_owner how old new (ap size_of other) list (λ on. ap (λ (d : FlashState). d.powered) other ∙ h.other.on on) h.other;
   board = board_stays old new store list h.board;
 }
 
@@ -148,8 +147,8 @@ desk_noted b owner other_owner how what w text still h = record {
   owner = h.owner;
   size = subst (λ (d : FlashState). IsBankSize (size_of d)) (sym (state_noted (device_of b) what w)) h.size;
   stands = standing_noted b w.notes.list (record { item = w.item; what = what }) ∙ (still b (standing_of b w.notes.list) ∙ h.stands);
-  other = seat_noted (other_of b) other_owner how (record { item = w.item; what = what }) w (with_note what w) (ap size_of (state_noted (device_of (other_of b)) what w)) refl
-      (still (other_of b) (standing_of (other_of b) w.notes.list) ∙ h.other.stands) (λ on. ap (λ (d : FlashState). d.powered) (state_noted (device_of (other_of b)) what w) ∙ h.other.on on)
+  other = seat_noted (other_bank b) other_owner how (record { item = w.item; what = what }) w (with_note what w) (ap size_of (state_noted (device_of (other_bank b)) what w)) refl
+      (still (other_bank b) (standing_of (other_bank b) w.notes.list) ∙ h.other.stands) (λ on. ap (λ (d : FlashState). d.powered) (state_noted (device_of (other_bank b)) what w) ∙ h.other.on on)
       h.other.owner h.other.size;
   board = board_noted (record { item = w.item; what = what }) w (with_note what w) refl refl text h.board;
 }
@@ -162,24 +161,6 @@ seated_noted bmc_owner pch_owner bmc pch what w text still h = record {
   pch = seat_noted bank.Pch pch_owner pch (record { item = w.item; what = what }) w (with_note what w) refl refl (still bank.Pch (standing_of bank.Pch w.notes.list) ∙ h.pch.stands) h.pch.on h.pch.owner h.pch.size;
   board = board_noted (record { item = w.item; what = what }) w (with_note what w) refl refl text h.board;
 }
-
--- ---- both seats, as one of the banks sees them
-module _ {F : Type 0} (dev : F → FlashState) (sides : Sides F) where
-  abbrev beside_as : Bank → Type 0
-  beside_as b = AreBeside b (bank_in sides.mine) (bank_in sides.other) (line_in sides.mine) (line_in sides.other)
-      (desk_world b (dev (flash_in sides.mine)) (dev (flash_in sides.other)) (dev sides.board.nv) sides.board)
-
-  pub seated_bmc : sides.bank ≡ bank.Bmc → AreSides dev sides
-      → AreSeated (bank_in sides.mine) (bank_in sides.other) (line_in sides.mine) (line_in sides.other) (world_with (dev (flash_in sides.mine)) (dev (flash_in sides.other)) (dev sides.board.nv) sides.board)
-  seated_bmc e h =
-      let k : beside_as bank.Bmc = subst (λ (b : Bank). beside_as b) e h in
-      record { bmc = k.mine; pch = k.other; board = k.board }
-
-  pub seated_pch : sides.bank ≡ bank.Pch → AreSides dev sides
-      → AreSeated (bank_in sides.other) (bank_in sides.mine) (line_in sides.other) (line_in sides.mine) (world_with (dev (flash_in sides.other)) (dev (flash_in sides.mine)) (dev sides.board.nv) sides.board)
-  seated_pch e h =
-      let k : beside_as bank.Pch = subst (λ (b : Bank). beside_as b) e h in
-      record { bmc = k.other; pch = k.mine; board = k.board }
 
 -- ---- what a desk is left as
 note_by : {F : Type 0} (b : Bank) (what : What) (mine other nv : FlashState) (board : Board F) → desk_world b mine other nv (pushed what board) ≡ with_note what (desk_world b mine other nv board)

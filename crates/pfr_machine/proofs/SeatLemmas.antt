@@ -13,15 +13,15 @@ use Rattle.pfr_report.specs.declared.note.Note.{Note}
 use Rattle.pfr_report.specs.declared.note.What.{What}
 use Rattle.pfr_report.specs.declared.note.What.TheVariants.{Held, Released, Locked, Lost}
 use Rattle.pfr_story.specs.Standing.{Standing, standing_after, standing_by, standing_of}
-use Rattle.pfr_story.specs.Story.{Says, device_of}
-use Rattle.pfr_story.specs.World.{World, IsDark, counts_in, state_at}
+use Rattle.pfr_story.specs.Story.{Says, device_of, other_bank}
+use Rattle.pfr_story.specs.World.{World, counts_in, state_at}
 use Rattle.pfr_story.specs.Goes.{Ran}
 use Rattle.pfr_story.specs.declared.line.Line.{Line}
 use Rattle.pfr_story.specs.declared.line.Line.TheVariants as line
 use Rattle.pfr_story.proofs.Lift.{Ran-uncalled}
 use Rattle.pfr_machine.specs.Inside.{AreBeside, AreSides, IsBoard, IsDesk, IsSeat}
 use Rattle.pfr_machine.specs.Ready.{IsText, LeavesSeated}
-use Rattle.pfr_machine.specs.Worlds.{AddsNotes, IsAwake, bank_in, desk_world, flash_in, line_in, other_of, pushed, sides_world, with_note}
+use Rattle.pfr_machine.specs.Worlds.{AddsNotes, bank_in, desk_world, flash_in, line_in, pushed, sides_world, with_note}
 use Rattle.pfr_machine.specs.declared.board.Board.{Board}
 use Rattle.pfr_machine.specs.declared.sides.Sides.{Sides}
 use Rattle.pfr_machine.proofs.DeskLemmas.{leaves_seated, state_mine, state_other, state_store}
@@ -91,14 +91,6 @@ held_desk bank.Pch owner other_owner mine other at w h =
       board = board_noted (note_in w (Held bank.Pch at)) w new refl refl tt h.board;
     }
 
-pub held_awake : (b : Bank) (what : What) (w : World) → IsAwake b (with_note what (with_power b w))
-held_awake bank.Bmc what w = record { mine = refl; nv = refl }
-held_awake bank.Pch what w = record { mine = refl; nv = refl }
-
-pub held_notes : (b : Bank) (what : What) (w : World) → 1 ≤ w.notes.spare → AddsNotes 1 w.notes (with_note what (with_power b w)).notes
-held_notes bank.Bmc what w room = AddsNotes-noted what (with_power bank.Bmc w) room
-held_notes bank.Pch what w room = AddsNotes-noted what (with_power bank.Pch w) room
-
 module _ {F : Type 0} (dev : F → FlashState) where
   held_by : (b : Bank) (what : What) (mine other nv : FlashState) (board : Board F) (store : F)
       → desk_world b (record mine { powered = true }) other (record nv { powered = true }) (pushed what (record board { nv = store })) ≡ with_note what (with_power b (desk_world b mine other nv board))
@@ -127,14 +119,10 @@ pub locked_notes : (b : Bank) (what : What) (w : World) → 1 ≤ w.notes.spare 
 locked_notes bank.Bmc what w room = AddsNotes-noted what (with_mine bank.Bmc w) room
 locked_notes bank.Pch what w room = AddsNotes-noted what (with_mine bank.Pch w) room
 
-pub locked_store : (b : Bank) (what : What) (w : World) → (with_note what (with_mine b w)).nv ≡ w.nv
-locked_store bank.Bmc what w = refl
-locked_store bank.Pch what w = refl
-
 -- a bank stands otherwise by a note, and its device has power
 pub stands_beside : (b owner other_owner : Bank) (later other : Line) (what : What) (w : World)
-    → standing_after b what (standing_of b w.notes.list) ≡ standing_by later → standing_after (other_of b) what (standing_of (other_of b) w.notes.list) ≡ standing_by other → HasText what
-    → owner ≡ b → IsBankSize (size_of (state_at (device_of b) w)) → IsSeat (other_of b) other_owner other w → IsBoard w
+    → standing_after b what (standing_of b w.notes.list) ≡ standing_by later → standing_after (other_bank b) what (standing_of (other_bank b) w.notes.list) ≡ standing_by other → HasText what
+    → owner ≡ b → IsBankSize (size_of (state_at (device_of b) w)) → IsSeat (other_bank b) other_owner other w → IsBoard w
     → AreBeside b owner other_owner later other (with_note what (with_mine b w))
 stands_beside bank.Bmc owner other_owner later other what w after others text owned size seat board =
     let new : World = with_note what (with_mine bank.Bmc w) in
@@ -180,9 +168,6 @@ lost_ran device at w new counts e =
     subst (λ (x : World). Ran (Says (Lost device) ∷ []) w x) (sym same)
     (Ran-uncalled (Says (Lost device) ∷ []) w (with_note (Lost device (counts_in w)) (darkened w)) (record { bmc = refl; pch = refl; nv = refl }) refl)
 
-pub lost_dark : (what : What) (w new : World) → new ≡ with_note what (darkened w) → IsDark new
-lost_dark what w new e = subst (λ (x : World). IsDark x) (sym e) (record { bmc = refl; pch = refl; nv = refl })
-
 pub lost_notes : (what : What) (w : World) → 1 ≤ w.notes.spare → AddsNotes 1 w.notes (with_note what (darkened w)).notes
 lost_notes what w room = AddsNotes-noted what (darkened w) room
 
@@ -193,7 +178,7 @@ lost_seat which owner device at w new size list owned bank_size =
     seat_noted which owner line.Off (note_in w (Lost device at)) w new size list refl (λ on. absurd (on refl)) owned bank_size
 
 pub lost_beside : (b owner other_owner : Bank) (device : Option Device) (at : Counts) (w : World)
-    → owner ≡ b → IsBankSize (size_of (state_at (device_of b) w)) → other_owner ≡ other_of b → IsBankSize (size_of (state_at (device_of (other_of b)) w)) → IsBoard w
+    → owner ≡ b → IsBankSize (size_of (state_at (device_of b) w)) → other_owner ≡ other_bank b → IsBankSize (size_of (state_at (device_of (other_bank b)) w)) → IsBoard w
     → AreBeside b owner other_owner line.Off line.Off (with_note (Lost device at) (darkened w))
 lost_beside bank.Bmc owner other_owner device at w owned size others other_size board =
     let new : World = with_note (Lost device at) (darkened w) in
@@ -265,7 +250,7 @@ module _ {F : Type 0} (dev : F → FlashState) (s : Sides F) (seated : AreSides 
       subst (λ (w : World). AreBeside s.bank whose (bank_in s.other) line.Locked (line_in s.other) w) (sym (locked_sides (Locked s.bank why at) next e))
       (stands_beside s.bank whose (bank_in s.other) line.Locked (line_in s.other) (Locked s.bank why at) (sides_world dev s)
       (after_locked s.bank why at (standing_of s.bank (sides_world dev s).notes.list))
-      (other_locked s.bank why at (standing_of (other_of s.bank) (sides_world dev s).notes.list) ∙ seated.other.stands)
+      (other_locked s.bank why at (standing_of (other_bank s.bank) (sides_world dev s).notes.list) ∙ seated.other.stands)
       (lock_text s.bank why at text) (owned ∙ seated.mine.owner) seated.mine.size seated.other seated.board)
 
   pub locked_says : (b : Bank) (why : LockWhy) (at : Counts) (self : World) (next : Board F) → s.bank ≡ b → sides_world dev s ≡ self → at ≡ counts_in self
@@ -295,12 +280,12 @@ module _ {F : Type 0} (dev : F → FlashState) (b whose other_whose : Bank) (how
   desk_noted_is what next e = noted_world dev b what mine later other board next later_up e ∙ with_mine_on b what (desk_world b mine other (dev board.nv) board) my_power
 
   pub desk_beside : (later_line : Line) (what : What) (later_whose : Bank) (next : Board F) → later_whose ≡ whose → next ≡ pushed what board → HasText what
-      → ((s : Standing) → standing_after b what s ≡ standing_by later_line) → ((s : Standing) → standing_after (other_of b) what s ≡ s)
+      → ((s : Standing) → standing_after b what s ≡ standing_by later_line) → ((s : Standing) → standing_after (other_bank b) what s ≡ s)
       → AreBeside b later_whose other_whose later_line how (desk_world b later other (dev next.nv) next)
   desk_beside later_line what later_whose next owned e text after others =
       subst (λ (w : World). AreBeside b later_whose other_whose later_line how w) (sym (noted_world dev b what mine later other board next later_up e))
       (stands_beside b later_whose other_whose later_line how what (desk_world b mine other (dev board.nv) board) (after (standing_of b (desk_world b mine other (dev board.nv) board).notes.list))
-      (others (standing_of (other_of b) (desk_world b mine other (dev board.nv) board).notes.list) ∙ desk.other.stands) text (owned ∙ desk.owner) desk.size desk.other desk.board)
+      (others (standing_of (other_bank b) (desk_world b mine other (dev board.nv) board).notes.list) ∙ desk.other.stands) text (owned ∙ desk.owner) desk.size desk.other desk.board)
 
   pub desk_locks : (why : LockWhy) (at : Counts) (next : Board F) → at ≡ counts_in (desk_world b mine other (dev board.nv) board) → next ≡ pushed (Locked b why at) board
       → Ran (Says (Locked b why) ∷ []) (desk_world b mine other (dev board.nv) board) (desk_world b later other (dev next.nv) next)
@@ -309,7 +294,7 @@ module _ {F : Type 0} (dev : F → FlashState) (b whose other_whose : Bank) (how
 
   pub desk_leaves : (later_line : Line) (what : What) (next : Board F) → 1 ≤ (desk_world b mine other (dev board.nv) board).notes.spare → (dev board.nv).powered ≡ true
       → next ≡ pushed what board → HasText what → later_line ≢ line.Off
-      → ((s : Standing) → standing_after b what s ≡ standing_by later_line) → ((s : Standing) → standing_after (other_of b) what s ≡ s)
+      → ((s : Standing) → standing_after b what s ≡ standing_by later_line) → ((s : Standing) → standing_after (other_bank b) what s ≡ s)
       → LeavesSeated 1 (record { bank = b; other = how; world = desk_world b mine other (dev board.nv) board }) (desk_world b later other (dev next.nv) next)
   desk_leaves later_line what next room fed e text some after others =
       leaves_seated b whose other_whose later_line how 1 (desk_world b mine other (dev board.nv) board) (desk_world b later other (dev next.nv) next) some
@@ -335,7 +320,7 @@ module _ {F : Type 0} (dev : F → FlashState) (b : Bank) (mine dark other dark_
   pub dark_is : desk_world b dark dark_other (dev store) (record next { nv = store }) ≡ with_note (Lost device at) (darkened (desk_world b mine other (dev board.nv) board))
   dark_is = dark_world dev b (Lost device at) mine dark other dark_other (dev board.nv) board next store m o (n ∙ ap (λ (x : Board F). record (dev x.nv) { powered = false }) e) e
 
-  pub dark_beside : (whose other_whose : Bank) → whose ≡ b → IsBankSize (size_of mine) → other_whose ≡ other_of b → IsBankSize (size_of other) → IsBoard (desk_world b mine other (dev board.nv) board)
+  pub dark_beside : (whose other_whose : Bank) → whose ≡ b → IsBankSize (size_of mine) → other_whose ≡ other_bank b → IsBankSize (size_of other) → IsBoard (desk_world b mine other (dev board.nv) board)
       → AreBeside b whose other_whose line.Off line.Off (desk_world b dark dark_other (dev store) (record next { nv = store }))
   dark_beside whose other_whose owned size others other_size is_board =
       subst (λ (w : World). AreBeside b whose other_whose line.Off line.Off w) (sym dark_is)

@@ -10,19 +10,19 @@ use Rattle.pfr_report.specs.NotesState.{NotesState}
 use Rattle.pfr_report.specs.Texts.{AllText, HasText}
 use Rattle.pfr_report.specs.declared.note.Note.{Note}
 use Rattle.pfr_report.specs.declared.note.What.{What}
-use Rattle.pfr_report.specs.declared.note.What.TheVariants.{Held, Released, Locked}
+use Rattle.pfr_report.specs.declared.note.What.TheVariants.{Released, Locked}
 use Rattle.pfr_report.specs.declared.note.LockWhy.{LockWhy}
 use Rattle.pfr_report.proofs.NotedLemmas.{AllText-append}
 use Rattle.pfr_story.specs.Standing as standing
 use Rattle.pfr_story.specs.Standing.{Standing, standing_from, standing_after, standing_by, standing_of}
-use Rattle.pfr_story.specs.Story.{Says, device_of}
+use Rattle.pfr_story.specs.Story.{Says, device_of, other_bank}
 use Rattle.pfr_story.specs.World.{World, counts_in, state_at}
 use Rattle.pfr_story.specs.Goes.{Ran}
 use Rattle.pfr_story.specs.declared.line.Line.{Line}
 use Rattle.pfr_story.specs.declared.line.Line.TheVariants as line
 use Rattle.pfr_story.proofs.Lift.{Ran-says}
 use Rattle.pfr_machine.specs.Inside.{IsSeat, IsBoard}
-use Rattle.pfr_machine.specs.Worlds.{AddsNotes, other_of, with_note}
+use Rattle.pfr_machine.specs.Worlds.{AddsNotes, with_note}
 
 -- ---- how banks stand once something more is noted
 standing_from-noted : (which : Bank) (how : Standing) (list : List Note) (note : Note) → standing_from which how (list ++ note ∷ []) ≡ standing_after which note.what (standing_from which how list)
@@ -96,19 +96,11 @@ pub board_stays : (old new : World) → size_of new.nv ≡ size_of old.nv → ne
 board_stays old new size list board = record { size = size ∙ board.size; texts = subst (λ (l : List Note). AllText l) (sym list) board.texts }
 
 -- ---- what notes of this bank say of it, and of the other one
-pub after_held : (b : Bank) (at : Counts) (s : Standing) → standing_after b (Held b at) s ≡ standing.Held
-after_held bank.Bmc at s = refl
-after_held bank.Pch at s = refl
-
-pub other_held : (b : Bank) (at : Counts) (s : Standing) → standing_after (other_of b) (Held b at) s ≡ s
-other_held bank.Bmc at s = refl
-other_held bank.Pch at s = refl
-
 pub after_locked : (b : Bank) (why : LockWhy) (at : Counts) (s : Standing) → standing_after b (Locked b why at) s ≡ standing.Locked
 after_locked bank.Bmc why at s = refl
 after_locked bank.Pch why at s = refl
 
-pub other_locked : (b : Bank) (why : LockWhy) (at : Counts) (s : Standing) → standing_after (other_of b) (Locked b why at) s ≡ s
+pub other_locked : (b : Bank) (why : LockWhy) (at : Counts) (s : Standing) → standing_after (other_bank b) (Locked b why at) s ≡ s
 other_locked bank.Bmc why at s = refl
 other_locked bank.Pch why at s = refl
 
@@ -116,6 +108,6 @@ pub after_released : (b : Bank) (svn : ℕ) (at : Counts) (s : Standing) → sta
 after_released bank.Bmc svn at s = refl
 after_released bank.Pch svn at s = refl
 
-pub other_released : (b : Bank) (svn : ℕ) (at : Counts) (s : Standing) → standing_after (other_of b) (Released b svn at) s ≡ s
+pub other_released : (b : Bank) (svn : ℕ) (at : Counts) (s : Standing) → standing_after (other_bank b) (Released b svn at) s ≡ s
 other_released bank.Bmc svn at s = refl
 other_released bank.Pch svn at s = refl

@@ -10,11 +10,11 @@ use Rattle.pfr_story.specs.Guards.{first_guards}
 use Rattle.pfr_story.specs.Keeping.{HasTrustedSpans}
 use Rattle.pfr_story.specs.Standing as standing
 use Rattle.pfr_story.specs.Standing.{standing_of, standing_by, Held}
-use Rattle.pfr_story.specs.Story.{device_of}
+use Rattle.pfr_story.specs.Story.{device_of, other_bank}
 use Rattle.pfr_story.specs.World.{World, state_at, story_of}
 use Rattle.pfr_story.specs.declared.line.Line.{Line}
 use Rattle.pfr_story.specs.declared.line.Line.TheVariants.{Off}
-use Rattle.pfr_machine.specs.Worlds.{bank_in, line_in, other_of, sides_world}
+use Rattle.pfr_machine.specs.Worlds.{bank_in, line_in, sides_world}
 use Rattle.pfr_machine.specs.declared.sides.Sides.{Sides}
 
 -- The seat of a bank, which is this one's and stands so: its device has a bank's size, the notes say the same of the bank, and
@@ -39,7 +39,7 @@ pub record AreSeated (bmc_whose pch_whose : Bank) (bmc_line pch_line : Line) (w 
 -- the same as one of the banks sees it
 pub record AreBeside (which whose other_whose : Bank) (my_line other_line : Line) (w : World) : Type 0 where
   pub mine : IsSeat which whose my_line w
-  pub other : IsSeat (other_of which) other_whose other_line w
+  pub other : IsSeat (other_bank which) other_whose other_line w
   pub board : IsBoard w
 
 abbrev pub AreSides : {F : Type 0} → (F → FlashState) → Sides F → Type 0
@@ -50,7 +50,7 @@ pub record IsDesk (which whose other_whose : Bank) (other_line : Line) (w : Worl
   pub owner : whose ≡ which
   pub size : IsBankSize (size_of (state_at (device_of which) w))
   pub stands : standing_of which w.notes.list ≡ Held
-  pub other : IsSeat (other_of which) other_whose other_line w
+  pub other : IsSeat (other_bank which) other_whose other_line w
   pub board : IsBoard w
 
 -- Between two events both banks are off, or neither is and the store has power; and an item added 64 notes at most.

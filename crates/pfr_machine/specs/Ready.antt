@@ -19,11 +19,11 @@ use Rattle.pfr_story.specs.Course.{Stretch, CrossesOrFaults, LosesPower, Steps, 
 use Rattle.pfr_story.specs.Goes.{Ran, Stopped}
 use Rattle.pfr_story.specs.Plans.{asks, judged_active}
 use Rattle.pfr_story.specs.Standing.{standing_of, standing_by, Off}
-use Rattle.pfr_story.specs.Story.{Plan, Says, then, says}
+use Rattle.pfr_story.specs.Story.{Plan, Says, then, says, other_bank}
 use Rattle.pfr_story.specs.Turn.{fault_of}
 use Rattle.pfr_story.specs.World.{World, IsDark, story_of}
 use Rattle.pfr_story.specs.declared.stop.Stop.{Stop}
-use Rattle.pfr_machine.specs.Worlds.{AddsNotes, DeskState, Stays, other_of}
+use Rattle.pfr_machine.specs.Worlds.{AddsNotes, DeskState, Stays}
 use Rattle.pfr_machine.specs.declared.desk.Found.{Found}
 use Rattle.pfr_machine.specs.declared.desk.Found.TheVariants as found
 use Rattle.pfr_machine.specs.declared.desk.Halt.{Halt}
@@ -37,7 +37,7 @@ IsText why = Unit {0}
 -- The bank in work was released or locked, and the other one stands as before. The store has power.
 pub record LeavesSeated (most : ℕ) (old : DeskState) (new : World) : Type 0 where
   pub mine : standing_of old.bank new.notes.list ≢ Off
-  pub other : standing_of (other_of old.bank) new.notes.list ≡ standing_by old.other
+  pub other : standing_of (other_bank old.bank) new.notes.list ≡ standing_by old.other
   pub notes : AddsNotes most old.world.notes new.notes
   pub nv : new.nv.powered ≡ true
 
@@ -76,7 +76,7 @@ Checks accepts fuses old (Err halt) = HaltsIn (asks old.bank) 0 old halt.stop ha
 -- it was released or locked, and the other one stands as before
 pub record BroughtUp (which : Bank) (most : ℕ) (old new : World) : Type 0 where
   pub mine : standing_of which new.notes.list ≢ Off
-  pub other : standing_of (other_of which) new.notes.list ≡ standing_of (other_of which) old.notes.list
+  pub other : standing_of (other_bank which) new.notes.list ≡ standing_of (other_bank which) old.notes.list
   pub notes : AddsNotes most old.notes new.notes
   pub nv : new.nv.powered ≡ true
 

@@ -69,10 +69,6 @@ with_note what w = record w {
   guards = guards_after what w.guards;
 }
 
-abbrev pub other_of : Bank → Bank
-other_of bank.Bmc = bank.Pch
-other_of bank.Pch = bank.Bmc
-
 -- A bank is in work: the bank, and how the other one stands.
 pub record DeskState : Type 0 where
   pub bank : Bank

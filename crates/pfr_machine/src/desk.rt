@@ -17,7 +17,7 @@ ghost use Rattle.pfr_story.specs.Standing.{Standing, standing_after};
 ghost use Rattle.pfr_story.specs.Story.{Says, device_of};
 ghost use Rattle.pfr_story.specs.World.{IsDark, counts_in, state_at, story_of};
 ghost use Rattle.pfr_machine.specs.Inside.{IsDesk};
-ghost use Rattle.pfr_machine.specs.Worlds.{AddsNotes, IsAwake, Stays, bank_in, desk_world, flash_in, line_in, other_of, with_note};
+ghost use Rattle.pfr_machine.specs.Worlds.{AddsNotes, IsAwake, Stays, bank_in, desk_world, flash_in, line_in, with_note};
 ghost use Rattle.pfr_machine.specs.Ready.{Checks, IsText, LeavesSeated};
 
 use crate::board::Board;
@@ -79,7 +79,7 @@ impl<F: Flash> Model for Desk<F> {
 }
 
 // The device of a bank.
-pub fn device_of(bank: Bank) -> Device
+fn device_of(bank: Bank) -> Device
     ensures { result ≡ device_of bank }
 {
     match bank {

@@ -8,9 +8,9 @@ ghost use Rattle.pfr_report.specs.declared.note.What.TheVariants.{Held, Locked, 
 ghost use Rattle.pfr_story.specs.Goes.{Ran};
 ghost use Rattle.pfr_story.specs.Standing as standing;
 ghost use Rattle.pfr_story.specs.Standing.{Standing, standing_of, standing_after, standing_by};
-ghost use Rattle.pfr_story.specs.Story.{Says};
+ghost use Rattle.pfr_story.specs.Story.{Says, other_bank};
 ghost use Rattle.pfr_story.specs.World.{IsDark, counts_in};
-ghost use Rattle.pfr_machine.specs.Worlds.{AddsNotes, IsAwake, other_of, with_note, with_state};
+ghost use Rattle.pfr_machine.specs.Worlds.{AddsNotes, IsAwake, with_note, with_state};
 ghost use Rattle.pfr_machine.specs.Ready.{IsText};
 
 use crate::board::Board;
@@ -86,7 +86,7 @@ impl<F: Flash> Inner<F> {
     pub fn hold(self, bank: Bank) -> Desk<F>
         requires room { 1 ≤ self.notes.spare }
         ensures bank { result.bank ≡ bank }
-        ensures other { standing_by result.other ≡ standing_of (other_of bank) self.notes.list }
+        ensures other { standing_by result.other ≡ standing_of (other_bank bank) self.notes.list }
         ensures ran { Ran (Says (Held bank) ∷ []) self result.world }
         ensures notes { AddsNotes 1 self.notes result.world.notes }
         ensures awake { IsAwake bank result.world }

@@ -1,5 +1,5 @@
 // The fuses are read at a power-on, and migrated.
-ghost use Rattle.std.specs.Prelude.{◌≡◌, true, Some, Ok, IfOk, IfErr};
+ghost use Rattle.std.specs.Prelude.{◌≡◌, true, Some, Ok, IfOk};
 ghost use Rattle.pfr_flash.specs.FlashState.{now, size_of};
 ghost use Rattle.pfr_flash.specs.Plan.{Follows};
 ghost use Rattle.pfr_flash.specs.Reading.{EndsAt, failed_by};
@@ -57,7 +57,6 @@ impl<F: Flash> Inner<F> {
         requires on { self.old.nv.powered ≡ true }
         ensures goes { Goes asks_store self.old self.new result }
         ensures found { IfOk result (λ found. found ≡ fuses_of (now self.new.nv)) }
-        ensures called { IfErr result (λ stop. stop.device ≡ Nv) }
         ensures stays { StaysSeated 0 self.old self.new result }
     {
         match self.read_store() {
@@ -83,7 +82,6 @@ impl<F: Flash> Inner<F> {
         requires on { self.old.nv.powered ≡ true }
         requires found { found ≡ fuses_of (now self.old.nv) }
         ensures goes { Goes (λ story. called Nv (migration_in (fuses_of (store story)))) self.old self.new result }
-        ensures called { IfErr result (λ stop. stop.device ≡ Nv) }
         ensures stays { StaysSeated 0 self.old self.new result }
     {
         match self.migrate_store(found) {
@@ -99,7 +97,6 @@ impl<F: Flash> Inner<F> {
     pub fn prepare(&mut self) -> Result<(), Stop>
         requires on { self.old.nv.powered ≡ true }
         ensures goes { Goes migrated self.old self.new result }
-        ensures called { IfErr result (λ stop. stop.device ≡ Nv) }
         ensures stays { StaysSeated 0 self.old self.new result }
     {
         let found = self.load()?;

@@ -1,5 +1,5 @@
 // How the platform is provisioned.
-ghost use Rattle.std.specs.Prelude.{◌≡◌, ◌≢◌, ◌≤◌, true, IfOk, IfErr};
+ghost use Rattle.std.specs.Prelude.{◌≡◌, ◌≢◌, ◌≤◌, true, IfOk};
 ghost use Rattle.pfr_flash.specs.FlashState.{now, size_of};
 ghost use Rattle.pfr_flash.specs.Plan.{Follows as FollowsPlan};
 ghost use Rattle.pfr_flash.specs.declared.names.Bank.TheVariants.{Bmc};
@@ -65,7 +65,6 @@ impl<F: Flash> Inner<F> {
         requires room { 1 ≤ self.old.notes.spare }
         requires on { self.old.nv.powered ≡ true }
         ensures goes { Goes (provisioned what.now) self.old self.new result }
-        ensures called { IfErr result (λ stop. stop.device ≡ Nv) }
         ensures stays { StaysSeated 1 self.old self.new result }
         ensures spelled { IsSlot what.now }
     {

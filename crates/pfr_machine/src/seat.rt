@@ -72,7 +72,7 @@ impl<F: Flash> Seat<F> {
         ensures bank { result.bank ≡ bank_in self }
     {
         match self {
-            Seat::Off(off) => off.hold().lost(),
+            Seat::Off(off) => off.lost(),
             Seat::Locked(locked) => locked.lost(),
             Seat::Running(running) => running.lost(),
         }

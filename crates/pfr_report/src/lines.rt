@@ -89,6 +89,43 @@ fn write_no_good_image<K: Sink>(
     )
 }
 
+// The line of a bank that is released.
+fn write_released<K: Sink>(item: u32, bank: Bank, svn: u8, out: &mut K) -> Result<(), SinkFail>
+    ensures { Writes K.tells K.written K.faults out.old out.new
+        (decimal item ++ (codes " " ++ ((bank_word bank ++ (codes " released svn " ++ decimal svn)) ++ codes "\n"))) result }
+{
+    let mut item_buffer = Buffer::new();
+    let item = item_buffer.format(item).as_bytes();
+    let mut buffer = Buffer::new();
+    let svn = buffer.format(svn).as_bytes();
+    write_pieces(
+        out,
+        &[item, b" ", bank_word(bank), b" released svn ", svn, b"\n"],
+    )
+}
+
+// The line of a bank whose active image was restored.
+fn write_restored<K: Sink>(item: u32, bank: Bank, level: u8, out: &mut K) -> Result<(), SinkFail>
+    ensures { Writes K.tells K.written K.faults out.old out.new
+        (decimal item ++ (codes " " ++ ((bank_word bank ++ (codes " restored level " ++ decimal level)) ++ codes "\n"))) result }
+{
+    let mut item_buffer = Buffer::new();
+    let item = item_buffer.format(item).as_bytes();
+    let mut buffer = Buffer::new();
+    let level = buffer.format(level).as_bytes();
+    write_pieces(
+        out,
+        &[
+            item,
+            b" ",
+            bank_word(bank),
+            b" restored level ",
+            level,
+            b"\n",
+        ],
+    )
+}
+
 /// Writes the line of a note. At `Err` a prefix of it was written.
 #[tactic(auto, unfolding(crate::specs::Texts::note_text))]
 pub fn write_note<K: Sink>(note: &Note, out: &mut K) -> Result<(), SinkFail>
@@ -100,14 +137,7 @@ pub fn write_note<K: Sink>(note: &Note, out: &mut K) -> Result<(), SinkFail>
     match note.what {
         What::Power => write_pieces(out, &[item, b" power\n"]),
         What::Held { bank, .. } => { write_pieces(out, &[item, b" ", bank_word(bank), b" held\n"]) }
-        What::Released { bank, svn, .. } => {
-            let mut buffer = Buffer::new();
-            let svn = buffer.format(svn).as_bytes();
-            write_pieces(
-                out,
-                &[item, b" ", bank_word(bank), b" released svn ", svn, b"\n"],
-            )
-        }
+        What::Released { bank, svn, .. } => write_released(note.item, bank, svn, out),
         What::Locked {
             bank,
             why: LockWhy::NoGoodImage(active, recovery),
@@ -128,21 +158,7 @@ pub fn write_note<K: Sink>(note: &Note, out: &mut K) -> Result<(), SinkFail>
             write_pieces(out, &[item, b" lost", lost_word(device), b"\n"])
         }
         What::Untrusted { bank, why } => write_untrusted(note.item, bank, why, out),
-        What::Restored { bank, level } => {
-            let mut buffer = Buffer::new();
-            let level = buffer.format(level).as_bytes();
-            write_pieces(
-                out,
-                &[
-                    item,
-                    b" ",
-                    bank_word(bank),
-                    b" restored level ",
-                    level,
-                    b"\n",
-                ],
-            )
-        }
+        What::Restored { bank, level } => write_restored(note.item, bank, level, out),
         What::Provisioned => write_pieces(out, &[item, b" provisioned\n"]),
         What::ProvisionRefused { why } => write_pieces(
             out,

@@ -1,12 +1,5 @@
-use Rattle.std.proofs.Common.{append_assoc}
 use Rattle.pfr_report.specs.Texts.{note_text}
 use Rattle.pfr_report.proofs.lines.write_note.Goals as goal
-
-pub returns-in-Restored : goal.returns-in-Restored
-unfolding note_text
-returns-in-Restored g c =
-    let h = rw (c.as_bytes-item.ensures.value, c.format.ensures.text, c.bank_word-in-Restored.ensures, c.as_bytes-level.ensures.value, c.format-in-Restored.ensures.text) at c.write_pieces-in-Restored.ensures in
-    rw (c.in-Restored.is, append_assoc) h
 
 pub returns-in-Provisioned : goal.returns-in-Provisioned
 unfolding note_text
