@@ -74,7 +74,7 @@ def run_trial(program, folder):
     subprocess.run([sys.executable, os.path.join(HERE, "make_platform.py"), "ordinary", folder], check=True)
     store = read(folder, "nv")
     put(folder, "nv", b"\xff" * len(store))
-    put(folder, "script", f"provision {store[:SLOT_LENGTH].hex()}\npower\n".encode())
+    put(folder, "script", f"power\nprovision {store[:SLOT_LENGTH].hex()}\npower\n".encode())
     for name in set(os.listdir(folder)) - set(INPUTS):
         os.remove(os.path.join(folder, name))
     first = {name: read(folder, name) for name in INPUTS}
