@@ -1,5 +1,5 @@
 // A bank whose active image was judged and is trusted.
-ghost use Rattle.std.specs.Prelude.{◌≡◌};
+ghost use Rattle.std.specs.Prelude.{◌≡◌, false};
 ghost use Rattle.pfr_flash.specs.FlashState.{now};
 ghost use Rattle.pfr_bank.specs.Spelling.{StillSpells};
 
@@ -40,12 +40,13 @@ pub struct Unchecked<F: Flash> {
 }
 
 impl<F: Flash> Checked<F> {
-    /// Lets the bank run. The flash stays as it is.
+    /// Lets the bank run, with writes of its bus disabled. The flash stays as it is.
     pub fn release(self) -> Running<F>
         ensures flash { result.flash ≡ self.flash }
         ensures bank { result.bank ≡ self.bank }
         ensures manifest { result.manifest ≡ self.manifest }
         ensures layout { result.layout ≡ self.layout }
+        ensures latch { result.latch ≡ false }
     {
         let table = RegionTable::new(&self.manifest);
         let bank = self.bank;
@@ -58,6 +59,7 @@ impl<F: Flash> Checked<F> {
             manifest,
             layout,
             table,
+            latch: false,
         }
     }
 

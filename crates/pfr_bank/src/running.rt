@@ -1,18 +1,28 @@
 // A bank that runs.
-ghost use Rattle.std.specs.Prelude.{◌≡◌, ◌<◌, ◌≤◌, true, false};
+ghost use Rattle.std.specs.Prelude.{◌≡◌, ◌↔◌, ◌+◌, ◌<◌, ◌≤◌, true, false, [], length, drop, All, Ok};
 ghost use Rattle.pfr_flash.specs.Flash.{with_cut, with_fault};
 ghost use Rattle.pfr_flash.specs.FlashState.{now, op_count_of, size_of};
-ghost use Rattle.pfr_manifest.specs.Stretches.{stretches_of};
+ghost use Rattle.pfr_flash.specs.Plan.{Follows};
+ghost use Rattle.pfr_flash.specs.Range.{Leaves};
+ghost use Rattle.pfr_manifest.specs.Access.{IsWritable};
+ghost use Rattle.pfr_auth.specs.Leaving.{LeavesImage};
+ghost use Rattle.pfr_filter.specs.Frames.{IsSafePass, Passes, bus_plan, touched, verdict_on};
+ghost use Rattle.pfr_filter.specs.declared.verdict.BusOp.{BusOp};
+ghost use Rattle.pfr_filter.specs.declared.verdict.Verdict.TheVariants.{Pass};
+ghost use Rattle.pfr_bank.specs.Seats.{latch_left};
 ghost use Rattle.pfr_bank.specs.Spelling.{StillSpells};
 
 use crate::held::Held;
 use crate::off::Off;
-use pfr_flash::{Bank, Flash, Layout, Rigged, Tear};
-use pfr_manifest::{Manifest, RegionTable};
+use pfr_filter::{BusOp, Judged, Verdict, judge_counted};
+use pfr_flash::{Bank, Flash, FlashFail, Layout, Rigged, Tear};
+use pfr_manifest::{Manifest, RegionTable, Steps};
 use std::marker::Model;
+use std::sync::ledger::Ledger;
 
-/// A bank that runs, with the manifest and the layout that it was judged by, and the table of the stretches that its bus
-/// may write. It lends its flash to nobody, so the image holds the manifest still, and what that says.
+/// A bank that runs, with the manifest and the layout that it was judged by, the table of the stretches that its bus may
+/// write, and the latch, which tells whether writes are enabled. It lends its flash to nobody, and its bus writes only what the
+/// manifest lets it, so the image holds the manifest still, and what that says.
 #[derive(Drop)]
 pub struct Running<F: Flash> {
     pub(crate) flash: F,
@@ -20,18 +30,19 @@ pub struct Running<F: Flash> {
     pub(crate) manifest: Manifest,
     pub(crate) layout: Layout,
     pub(crate) table: RegionTable,
+    pub(crate) latch: bool,
 }
 
 impl<F: Flash> Model for Running<F> {
     ghost use Rattle.std.specs.Prelude.{◌≡◌};
     ghost use Rattle.pfr_flash.specs.FlashState.{now};
     ghost use Rattle.pfr_manifest.specs.Stretches.{stretches_of};
-    ghost use Rattle.pfr_bank.specs.Seats.{JudgedState};
+    ghost use Rattle.pfr_bank.specs.Seats.{RunningState};
     ghost use Rattle.pfr_bank.specs.Spelling.{StillSpells};
 
-    ghost Value = { JudgedState F };
+    ghost Value = { RunningState F };
 
-    ghost view = { λ r. record { flash = r.flash; bank = r.bank; manifest = r.manifest; layout = r.layout } };
+    ghost view = { λ r. record { flash = r.flash; bank = r.bank; manifest = r.manifest; layout = r.layout; latch = r.latch } };
 
     ghost invariant = { λ r. StillSpells (now (F.device r.flash)) r.manifest r.layout × (r.table ≡ stretches_of r.manifest) };
 }
@@ -72,11 +83,37 @@ impl<F: Flash> Running<F> {
         let _ = &self.bank;
     }
 
-    /// The stretches of the bank that the manifest's regions are, by which frames of the bus are judged.
-    pub fn table(&self) -> &RegionTable
-        ensures { result.now ≡ stretches_of self.now.manifest }
+    /// Judges a frame on the bank's SPI bus, by its manifest and its latch.
+    pub fn judge<L: Ledger>(&self, frame: &[u8], steps: &mut Steps<L>) -> Judged
+        requires some { 1 ≤ length frame.now }
+        requires most { length frame.now ≤ 261 }
+        // It passes exactly where the manifest and the latch allow it.
+        ensures passes { (op : BusOp) → (result ≡ Pass op)
+            ↔ Passes frame.now (IsWritable self.now.manifest self.now.layout) (size_of (F.device self.now.flash)) self.now.latch op }
+        // What it asks for, or which cause it is: the first in order.
+        ensures exact { result ≡ verdict_on frame.now self.now.manifest self.now.layout (size_of (F.device self.now.flash)) self.now.latch }
+        // At most 8 stretches are looked at for a frame that writes one page, and at most 23 for one that writes sixteen.
+        ensures cost { steps.new ≤ steps.old + (7 + length (touched frame.now)) }
     {
-        &self.table
+        judge_counted(frame, &self.table, &self.layout, self.flash.size(), self.latch, steps)
+    }
+
+    /// Hands a frame that passed to the flash, which does what it asks for. What is read isn't told.
+    pub fn bus(&mut self, judged: &Judged) -> Result<(), FlashFail>
+        requires { IsSafePass self.old.manifest self.old.layout judged.now }
+        // At Ok all that it asks for was done, at Err a front of it, the last operation perhaps torn.
+        ensures follows { Follows (bus_plan judged.now) (F.device self.old.flash) (F.device self.new.flash) result }
+        // A frame that writes nothing isn't handed to the flash.
+        ensures idle { bus_plan judged.now ≡ [] → (result ≡ Ok tt) × (self.new.flash ≡ self.old.flash) }
+        ensures latch { self.new.latch ≡ latch_left judged.now self.old.latch result }
+        ensures rest { self.new ≡ record self.old { flash = self.new.flash; latch = self.new.latch } }
+        // Whatever was cut or torn, no byte of the manifest area or of a static region was touched, and none of the recovery area.
+        ensures image { All (LeavesImage self.old.layout self.old.manifest)
+            (drop (op_count_of (F.device self.old.flash)) (F.device self.new.flash).ops) }
+        ensures recovery { All (Leaves self.old.layout.recovery_at self.old.layout.area_len)
+            (drop (op_count_of (F.device self.old.flash)) (F.device self.new.flash).ops) }
+    {
+        todo!()
     }
 
     /// How many bytes the flash has.
