@@ -10,6 +10,7 @@ pub mod Plans
 pub mod Causes
 pub mod Turn
 pub mod Promises
+pub mod Filtering
 pub mod Bringing
 pub mod Spans
 pub mod Keeping

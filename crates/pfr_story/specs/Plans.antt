@@ -1,5 +1,5 @@
 -- What a step does where no device call fails, from the contents as they are.
-use Rattle.std.specs.Prelude.{ℕ, List, [], length, Result, Ok, Err}
+use Rattle.std.specs.Prelude.{ℕ, Bool, List, [], ◌∷◌, length, Option, Some, None, Result, Ok, Err}
 use Rattle.pfr_flash.specs.Judging.{◌>>=◌, ◌>>◌, told_as}
 use Rattle.pfr_flash.specs.Layout.{judge_layout}
 use Rattle.pfr_flash.specs.Operation.{Operation}
@@ -18,6 +18,15 @@ use Rattle.pfr_fuses.specs.declared.profile.Profile.{Profile}
 use Rattle.pfr_fuses.specs.declared.profile.Profile.TheVariants as profile
 use Rattle.pfr_fuses.specs.declared.root_slot.RootSlot.{RootSlot}
 use Rattle.pfr_manifest.specs.declared.manifest.Manifest.{Manifest}
+use Rattle.pfr_manifest.specs.declared.rule.Rule.{Rule}
+use Rattle.pfr_filter.specs.Asking.{bus_ops}
+use Rattle.pfr_filter.specs.Frames.{verdict_on}
+use Rattle.pfr_filter.specs.declared.verdict.BusOp.{BusOp}
+use Rattle.pfr_filter.specs.declared.verdict.BusOp.TheVariants.{Program, Erase}
+use Rattle.pfr_filter.specs.declared.verdict.Verdict.{Verdict}
+use Rattle.pfr_filter.specs.declared.verdict.Verdict.TheVariants.{Pass, Block}
+use Rattle.pfr_smbus.specs.Frames.{judge_frame, judge_allowed}
+use Rattle.pfr_smbus.specs.declared.cause.SmbusCause.{SmbusCause}
 use Rattle.pfr_capsule.specs.CapsuleState.{CapsuleState}
 use Rattle.pfr_capsule.specs.declared.fail.CapsuleFail.{CapsuleFail}
 use Rattle.pfr_auth.specs.Areas.{judge_area}
@@ -31,8 +40,10 @@ use Rattle.pfr_report.specs.declared.note.LockWhy.{LockWhy}
 use Rattle.pfr_report.specs.declared.note.LockWhy.TheVariants as lock
 use Rattle.pfr_report.specs.declared.note.ProvisionWhy.{ProvisionWhy}
 use Rattle.pfr_report.specs.declared.note.ProvisionWhy.TheVariants as refusal
-use Rattle.pfr_report.specs.declared.note.What.TheVariants.{Held, Released, Locked, Untrusted, Restored, Provisioned, ProvisionRefused}
-use Rattle.pfr_story.specs.Story.{Story, Plan, then, says, called, image_at, device_of}
+use Rattle.pfr_report.specs.declared.note.What.{What}
+use Rattle.pfr_report.specs.declared.note.What.TheVariants.{Held, Released, Locked, Untrusted, Restored, Provisioned, ProvisionRefused, BusPassed, BusBlocked, SmbusPassed, SmbusBlocked}
+use Rattle.pfr_story.specs.Guards.{guard_at}
+use Rattle.pfr_story.specs.Story.{Story, Move, Plan, then, says, called, image_at, device_of}
 
 -- the bytes of a bank, and of the store
 abbrev pub mine : Bank → Story → List ℕ
@@ -135,3 +146,55 @@ provisioned_in what (Err cause) = says (λ _. ProvisionRefused (refusal_of cause
 -- it is judged by the store, which is asked first
 abbrev pub provisioned : RootSlot → Plan
 provisioned what = then asks_store (λ story. provisioned_in what (judge_provision (store story) what (length story.bmc.start) (length story.pch.start)) story)
+
+-- ---- frames on the buses of a bank that runs
+-- the manifest that a bank's image is trusted by, and the layout that the store provisions it with
+pub record Ruling : Type 0 where
+  pub manifest : Manifest
+  pub layout : Layout
+
+abbrev pub ruling_by : Bank → FusesState → Result Manifest ActiveFail → Option Ruling
+ruling_by bank fuses (Ok m) = Some (record { manifest = m; layout = layout_of fuses.provision bank })
+ruling_by bank fuses (Err why) = None
+
+abbrev pub ruling_with : Acceptance → Bank → Story → Result FusesState FuseFail → Option Ruling
+ruling_with accepts bank story (Ok fuses) = ruling_by bank fuses (judged_active accepts bank fuses story)
+ruling_with accepts bank story (Err cause) = None
+
+abbrev pub ruling : Acceptance → Bank → Story → Option Ruling
+ruling accepts bank story = ruling_with accepts bank story (fuses_of (store story))
+
+-- the calls of a frame that passed: one that writes nothing calls nothing
+abbrev pub bus_calls : Bank → BusOp → List Move
+bus_calls bank (Program at page) = called (device_of bank) (bus_ops (Program at page))
+bus_calls bank (Erase sector count) = called (device_of bank) (bus_ops (Erase sector count))
+bus_calls bank op = []
+
+-- what passes is handed to the flash and noted, and what doesn't is noted
+abbrev pub by_verdict : Bank → Verdict → Plan
+by_verdict bank (Pass op) = then (λ story. bus_calls bank op) (says (λ _. BusPassed bank op))
+by_verdict bank (Block why) = says (λ _. BusBlocked bank why)
+
+-- a bank that runs is trusted, so there is always a ruling
+abbrev pub by_ruling : Bank → List ℕ → Bool → Option Ruling → Plan
+by_ruling bank frame latch (Some r) = λ story. by_verdict bank (verdict_on frame r.manifest r.layout (length (mine bank story)) latch) story
+by_ruling bank frame latch None = λ story. []
+
+-- a frame on the SPI bus
+abbrev pub filtered : Acceptance → Bank → List ℕ → Plan
+filtered accepts bank frame story = by_ruling bank frame (guard_at bank story.guards).latch (ruling accepts bank story) story
+
+-- a frame on the SMBus, by the rules of a manifest
+abbrev pub judge_smbus : List Rule → List ℕ → Result (Unit {0}) SmbusCause
+judge_smbus rules frame = judge_frame frame >>= judge_allowed rules
+
+abbrev pub smbus_note : Bank → Result (Unit {0}) SmbusCause → What
+smbus_note bank (Ok passed) = SmbusPassed bank
+smbus_note bank (Err why) = SmbusBlocked bank why
+
+abbrev pub smbus_by : Bank → List ℕ → Option Ruling → Plan
+smbus_by bank frame (Some r) = says (λ _. smbus_note bank (judge_smbus r.manifest.rules frame))
+smbus_by bank frame None = λ story. []
+
+abbrev pub smbus_judged : Acceptance → Bank → List ℕ → Plan
+smbus_judged accepts bank frame story = smbus_by bank frame (ruling accepts bank story) story

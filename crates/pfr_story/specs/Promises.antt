@@ -18,13 +18,14 @@ use Rattle.pfr_report.specs.Texts.{IsNoted}
 use Rattle.pfr_report.specs.declared.note.LockWhy.{LockWhy}
 use Rattle.pfr_report.specs.declared.note.LockWhy.TheVariants as why
 use Rattle.pfr_report.specs.declared.note.Note.{Note}
-use Rattle.pfr_report.specs.declared.note.What.TheVariants.{Released, Locked, Lost, Untrusted, Restored, Provisioned, ProvisionRefused, Ignored}
+use Rattle.pfr_report.specs.declared.note.What.TheVariants.{Released, Locked, Lost, Untrusted, Restored, Provisioned, ProvisionRefused, Ignored, BusPassed, BusBlocked, SmbusPassed, SmbusBlocked}
 use Rattle.pfr_report.specs.declared.note.ProvisionWhy.{ProvisionWhy}
 use Rattle.pfr_report.specs.declared.note.What.{What}
 use Rattle.pfr_story.specs.Story.{device_of}
-use Rattle.pfr_story.specs.World.{World, counts_in, state_at, NoneFailed, IsOn, IsDark, SameDevices, added}
-use Rattle.pfr_story.specs.Standing.{standing_of, is_off, Off}
+use Rattle.pfr_story.specs.World.{World, story_of, counts_in, state_at, NoneFailed, IsOn, IsDark, SameDevices, added}
+use Rattle.pfr_story.specs.Standing.{standing_of, is_off, Off, Running}
 use Rattle.pfr_story.specs.Plans.{refusal_of}
+use Rattle.pfr_story.specs.Turn.{is_idle}
 use Rattle.pfr_story.specs.Causes.{IsTrustedWith, IsRestorable, IsAgainst, IsDue}
 
 -- the count of a bank's operations
@@ -134,23 +135,27 @@ LostEnds old new = (device : Option Device) (at : Counts) → IsNoted (added old
 abbrev pub LostIsDark : World → World → Type 0
 LostIsDark old new = (device : Option Device) (at : Counts) → IsNoted (added old new) (Lost device at) → IsDark new
 
--- ---- banks that are off
+-- ---- events that aren't taken
 
 abbrev pub IsPower : Event → Type 0
 IsPower event.Power = Unit {0}
 IsPower e = ⊥
 
--- where both banks are off, an event that isn't a power-on does no operation, and is noted to be ignored
+-- The banks don't take the event as they stand: off and provisions where they are off, a frame where its bank doesn't run.
+abbrev pub IsIdle : Event → World → Type 0
+IsIdle e old = is_idle e (story_of old) ≡ true
+
+-- such an event does no operation, and is noted to be ignored
 pub record IsIgnored (old new : World) : Type 0 where
   pub counts : counts_in new ≡ counts_in old
   pub notes : added old new ≡ record { item = old.item + 1; what = Ignored } ∷ []
 
 abbrev pub StaysQuiet : Event → World → World → Type 0
-StaysQuiet e old new = AreOff old → ¬ IsPower e → IsIgnored old new
+StaysQuiet e old new = IsIdle e old → IsIgnored old new
 
 -- and no device is called
 abbrev pub CallsNone : Event → World → World → Type 0
-CallsNone e old new = AreOff old → ¬ IsPower e → SameDevices old new
+CallsNone e old new = IsIdle e old → SameDevices old new
 
 -- The devices have power where the banks aren't off.
 abbrev pub HasPower : World → Type 0
@@ -167,12 +172,27 @@ abbrev pub IsKnownSlot : Event → Type 0
 IsKnownSlot (event.Provision what) = IsSlot what
 IsKnownSlot e = Unit {0}
 
--- An event is noted to be ignored only where the banks are off, and isn't a power-on; what a provision comes to is noted only at
--- a provision of banks that aren't off.
+abbrev pub IsSpi : Bank → Event → Type 0
+IsSpi which (event.Spi b frame) = b ≡ which
+IsSpi which e = ⊥
+
+abbrev pub IsSmbus : Bank → Event → Type 0
+IsSmbus which (event.Smbus b frame) = b ≡ which
+IsSmbus which e = ⊥
+
+abbrev pub Runs : Bank → World → Type 0
+Runs which w = standing_of which w.notes.list ≡ Running
+
+-- An event is noted to be ignored only where it isn't taken; what a provision comes to is noted only at a provision of banks that
+-- aren't off, and what a frame comes to only at a frame on that bus of that bank, which runs.
 abbrev pub BelongsTo : Event → World → What → Type 0
-BelongsTo e old Ignored = AreOff old × ¬ IsPower e
+BelongsTo e old Ignored = IsIdle e old
 BelongsTo e old Provisioned = ¬ AreOff old × IsProvision e
 BelongsTo e old (ProvisionRefused why) = ¬ AreOff old × IsProvision e
+BelongsTo e old (BusPassed which op) = Runs which old × IsSpi which e
+BelongsTo e old (BusBlocked which why) = Runs which old × IsSpi which e
+BelongsTo e old (SmbusPassed which) = Runs which old × IsSmbus which e
+BelongsTo e old (SmbusBlocked which why) = Runs which old × IsSmbus which e
 BelongsTo e old what = Unit {0}
 
 abbrev pub NotesBelong : Event → World → World → Type 0

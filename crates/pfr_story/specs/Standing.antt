@@ -34,6 +34,10 @@ abbrev pub is_off : Standing → Bool
 is_off Off = true
 is_off _ = false
 
+abbrev pub is_running : Standing → Bool
+is_running Running = true
+is_running _ = false
+
 -- what the platform says of a bank between two events
 abbrev pub standing_by : Line → Standing
 standing_by line.Off = Off

@@ -8,8 +8,7 @@ use Rattle.pfr_flash.specs.declared.names.Device.{Device}
 use Rattle.pfr_flash.specs.declared.names.Device.TheVariants as device
 use Rattle.pfr_report.specs.declared.note.Note.{Note}
 use Rattle.pfr_report.specs.declared.note.What.{What}
-use Rattle.pfr_story.specs.Guards.{guards_after}
-use Rattle.pfr_story.specs.declared.guards.Guards.{Guards}
+use Rattle.pfr_story.specs.Guards.{Guards, guards_after}
 
 -- the bytes of a device at first, and the operations done since
 pub record Past : Type 0 where

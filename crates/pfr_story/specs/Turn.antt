@@ -1,5 +1,5 @@
 -- What a step does.
-use Rattle.std.specs.Prelude.{◌+◌, List, [], ◌∷◌, Bool, true, false, None}
+use Rattle.std.specs.Prelude.{ℕ, ◌+◌, not, List, [], ◌∷◌, Bool, true, false, None}
 use Rattle.pfr_flash.specs.declared.names.Bank.{Bank}
 use Rattle.pfr_flash.specs.declared.names.Bank.TheVariants as bank
 use Rattle.pfr_flash.specs.declared.names.Device.{Device}
@@ -14,8 +14,8 @@ use Rattle.pfr_report.specs.declared.note.What.TheVariants.{Power, Held, Locked,
 use Rattle.pfr_story.specs.Story.{Story, Move, Says}
 use Rattle.pfr_story.specs.World.{World, story_of}
 use Rattle.pfr_story.specs.Course.{Stretch, Course, Follows}
-use Rattle.pfr_story.specs.Standing.{standing_of, is_off}
-use Rattle.pfr_story.specs.Plans.{brought_up, migrated, provisioned}
+use Rattle.pfr_story.specs.Standing.{standing_of, is_off, is_running}
+use Rattle.pfr_story.specs.Plans.{brought_up, migrated, provisioned, filtered, smbus_judged}
 
 abbrev pub fault_of : Device → LockWhy
 fault_of device.Bmc = FlashFault
@@ -46,11 +46,6 @@ provision_stretch what = record {
 abbrev pub ignored : Course
 ignored = record { first = Says (λ _. Ignored) ∷ []; stretches = [] }
 
--- one course for banks that are off, and another for banks that are not
-abbrev pub where_off : Bool → Course → Course → Course
-where_off true off on = off
-where_off false off on = on
-
 abbrev pub power_course : Acceptance → Course
 power_course accepts = record {
   first = Says (λ _. Power) ∷ [];
@@ -63,11 +58,44 @@ off_course = record { first = Says (Lost None) ∷ []; stretches = [] }
 abbrev pub provision_course : RootSlot → Course
 provision_course what = record { first = []; stretches = provision_stretch what ∷ [] }
 
+-- a frame on the SPI bus of a bank that runs; at a fault of its device the bank is held and locked
+abbrev pub spi_stretch : Acceptance → Bank → List ℕ → Stretch
+spi_stretch accepts which frame = record {
+  plan = filtered accepts which frame;
+  on_fault = λ device. Says (Held which) ∷ Says (Locked which FlashFault) ∷ [];
+  goes_on = false;
+}
+
+abbrev pub spi_course : Acceptance → Bank → List ℕ → Course
+spi_course accepts which frame = record { first = []; stretches = spi_stretch accepts which frame ∷ [] }
+
+-- a frame on its SMBus calls no device
+abbrev pub smbus_course : Acceptance → Bank → List ℕ → Story → Course
+smbus_course accepts which frame story = record { first = smbus_judged accepts which frame story; stretches = [] }
+
+-- the banks don't take the event as they stand
+abbrev pub is_idle : Event → Story → Bool
+is_idle event.Power story = false
+is_idle event.Off story = is_off (standing_of bank.Bmc story.notes)
+is_idle (event.Provision what) story = is_off (standing_of bank.Bmc story.notes)
+is_idle (event.Spi which frame) story = not (is_running (standing_of which story.notes))
+is_idle (event.Smbus which frame) story = not (is_running (standing_of which story.notes))
+
+-- what an event calls for that is taken
+abbrev pub taken : Acceptance → Event → Story → Course
+taken accepts event.Power story = power_course accepts
+taken accepts event.Off story = off_course
+taken accepts (event.Provision what) story = provision_course what
+taken accepts (event.Spi which frame) story = spi_course accepts which frame
+taken accepts (event.Smbus which frame) story = smbus_course accepts which frame story
+
+abbrev pub ignored_if : Bool → Course → Course
+ignored_if true course = ignored
+ignored_if false course = course
+
 -- What a step does where no device call fails.
 abbrev pub course : Acceptance → Event → Story → Course
-course accepts event.Power story = power_course accepts
-course accepts event.Off story = where_off (is_off (standing_of bank.Bmc story.notes)) ignored off_course
-course accepts (event.Provision what) story = where_off (is_off (standing_of bank.Bmc story.notes)) ignored (provision_course what)
+course accepts e story = ignored_if (is_idle e story) (taken accepts e story)
 
 -- the next item begins
 abbrev pub begun : World → World

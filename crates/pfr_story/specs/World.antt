@@ -10,7 +10,7 @@ use Rattle.pfr_flash.specs.declared.names.Device.{Device}
 use Rattle.pfr_flash.specs.declared.names.Device.TheVariants as device
 use Rattle.pfr_report.specs.NotesState.{NotesState}
 use Rattle.pfr_report.specs.declared.note.Note.{Note}
-use Rattle.pfr_story.specs.declared.guards.Guards.{Guards}
+use Rattle.pfr_story.specs.Guards.{Guards}
 use Rattle.pfr_story.specs.Story.{Past, Story, counts_of}
 
 pub record World : Type 0 where

@@ -2,11 +2,11 @@
 #![tactic(auto)]
 
 mod contents;
-mod guards;
 mod line;
 mod stop;
+mod watches;
 
 pub use contents::whole_images;
-pub use guards::{Guard, Guards};
 pub use line::Line;
 pub use stop::Stop;
+pub use watches::Watches;
