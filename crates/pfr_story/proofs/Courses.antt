@@ -1,9 +1,12 @@
 -- One stretch after another.
-use Rattle.std.proofs.Common.{◌≡◌, ◌∙◌, ◌≤◌, refl, sym, subst, arith, ℕ, Bool, true, false, List, [], ◌∷◌, inl, inr}
+use Rattle.std.proofs.Common.{◌≡◌, ◌∙◌, ◌≤◌, refl, sym, subst, arith, ℕ, Bool, true, false, List, [], ◌∷◌, ◌⊎◌, inl, inr}
 use Rattle.pfr_flash.specs.FlashState.{Rose}
 use Rattle.pfr_story.specs.Story.{Story, after}
 use Rattle.pfr_story.specs.World.{World, story_of, state_at, AllMoved, NoneLost, NoneRose}
 use Rattle.pfr_story.specs.Goes.{Ran}
+use Rattle.pfr_engine.specs.Acceptance.{Acceptance}
+use Rattle.pfr_script.specs.declared.event.Event.{Event}
+use Rattle.pfr_story.specs.Turn.{ignored, ignored_if, is_idle, taken, begun, Turn}
 use Rattle.pfr_story.specs.Course.{Stretch, Faults, CrossesOrFaults, Ends, goes_on_if, Steps, lost, calm_of, Course, Follows, Calm}
 use Rattle.pfr_story.proofs.WorldLaws.{AllMoved-trans, faults_moved, losses_moved, NoneLost-at, NoneFailed-at}
 use Rattle.pfr_story.proofs.Sequence.{Ran-refl, Ran-append}
@@ -68,3 +71,16 @@ opening c = record { plan = λ story. c.first; on_fault = lost; goes_on = false 
 pub Follows-calm : (c : Course) (old new : World) → Follows c old new → NoneLost old new → NoneRose old new → Calm c old new
 Follows-calm c old new (mid, first, rest) none_lost none_rose =
     Steps-calm (opening c ∷ c.stretches) old new (inl (mid, first, rest)) none_lost none_rose
+
+-- ---- an event that is ignored, and one that is taken
+abbrev pub IsTakenBy : Acceptance → Event → World → World → Type 0
+IsTakenBy accepts e old new = (is_idle e (story_of old) ≡ false) × Follows (taken accepts e (story_of old)) (begun old) new
+
+by_idle : (accepts : Acceptance) (e : Event) (old new : World) (idle : Bool) → is_idle e (story_of old) ≡ idle → Follows (ignored_if idle (taken accepts e (story_of old))) (begun old) new
+    → ((is_idle e (story_of old) ≡ true) × Follows ignored (begun old) new) ⊎ IsTakenBy accepts e old new
+by_idle accepts e old new true is t = inl (is, t)
+by_idle accepts e old new false is t = inr (is, t)
+
+pub Turn-cases : (accepts : Acceptance) (e : Event) (old new : World) → Turn accepts e old new
+    → ((is_idle e (story_of old) ≡ true) × Follows ignored (begun old) new) ⊎ IsTakenBy accepts e old new
+Turn-cases accepts e old new t = by_idle accepts e old new (is_idle e (story_of old)) refl t

@@ -5,6 +5,7 @@ pub mod SafetyLaws
 pub mod RestoreLaws
 pub mod BringRules
 pub mod Courses
+pub mod BusRules
 pub mod Traces
 pub mod StepTraces
 pub mod Facts

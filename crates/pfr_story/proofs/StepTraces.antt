@@ -88,8 +88,9 @@ module _ (G : Rule) (first last : World) (K : Story → Type 0) (known : (w : Wo
         let banks = AreGood-next Q R (bank_stretch accepts bank.Bmc) (bank_stretch accepts bank.Pch ∷ []) bmc last_one in
         along P (power_course accepts) t (good, tt) p (AreGood-next P Q fuse_stretch (bank_stretch accepts bank.Bmc ∷ bank_stretch accepts bank.Pch ∷ []) fuses banks)
 
-    pub provision_along : (root : RootSlot) (P Q : Story → Type 0) → IsGoodStretch G first last K P (provision_stretch root) Q → P (story_of old) → Follows (provision_course root) old new → Traced G old new
-    provision_along root P Q good p t = along P (provision_course root) t tt p (AreGood-next P Q (provision_stretch root) [] good (AreGood-none Q))
+    -- of one of a single stretch
+    pub single_along : (s : Stretch) (P Q : Story → Type 0) → IsGoodStretch G first last K P s Q → P (story_of old) → Follows (record { first = []; stretches = s ∷ [] }) old new → Traced G old new
+    single_along s P Q good p t = along P (record { first = []; stretches = s ∷ [] }) t tt p (AreGood-next P Q s [] good (AreGood-none Q))
 
 -- ---- a rule that allows what is noted of banks, and calls of their devices
 -- all that is noted of banks and of losses of power, and all that banks' devices do, is good
@@ -141,4 +142,4 @@ module _ (G : Rule) (h : AllowsBanks G) where
   -- of a provision
   pub provision_traced : (P : Story → Type 0) (root : RootSlot) (old new : World) → ((story : Story) → P story → AllSafe G (provisioned root story) story)
       → P (story_of old) → Follows (provision_course root) old new → Traced G old new
-  provision_traced P root old new safe p t = provision_along G old new Any (λ w moved. tt) (allows old new) old new (within old new) root P Any (provision_good old new P root safe) p t
+  provision_traced P root old new safe p t = single_along G old new Any (λ w moved. tt) (allows old new) old new (within old new) (provision_stretch root) P Any (provision_good old new P root safe) p t

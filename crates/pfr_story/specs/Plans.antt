@@ -157,12 +157,12 @@ abbrev pub ruling_by : Bank → FusesState → Result Manifest ActiveFail → Op
 ruling_by bank fuses (Ok m) = Some (record { manifest = m; layout = layout_of fuses.provision bank })
 ruling_by bank fuses (Err why) = None
 
-abbrev pub ruling_with : Acceptance → Bank → Story → Result FusesState FuseFail → Option Ruling
+abbrev pub ruling_with : Acceptance → Bank → Story → Result FusesState LockWhy → Option Ruling
 ruling_with accepts bank story (Ok fuses) = ruling_by bank fuses (judged_active accepts bank fuses story)
-ruling_with accepts bank story (Err cause) = None
+ruling_with accepts bank story (Err why) = None
 
 abbrev pub ruling : Acceptance → Bank → Story → Option Ruling
-ruling accepts bank story = ruling_with accepts bank story (fuses_of (store story))
+ruling accepts bank story = ruling_with accepts bank story (ready_of bank story)
 
 -- the calls of a frame that passed: one that writes nothing calls nothing
 abbrev pub bus_calls : Bank → BusOp → List Move
