@@ -1,0 +1,36 @@
+// Frames are judged.
+ghost use Rattle.std.specs.Prelude.{◌≡◌, ◌↔◌, ◌+◌, ◌≤◌, true, length};
+ghost use Rattle.pfr_flash.specs.declared.layout.Layout.{Layout};
+ghost use Rattle.pfr_manifest.specs.Stretches.{writable_by};
+ghost use Rattle.pfr_filter.specs.Frames.{Passes, judge_spi, touched, verdict_of};
+ghost use Rattle.pfr_filter.specs.declared.verdict.BusOp.{BusOp};
+ghost use Rattle.pfr_filter.specs.declared.verdict.Verdict.TheVariants.{Pass};
+
+use crate::judged::Judged;
+use pfr_flash::Layout;
+use pfr_manifest::{RegionTable, Steps};
+use std::sync::ledger::Ledger;
+
+/// Judges a frame on an SPI bus: an opcode, then an address of four bytes where it has one, its highest byte first, then data.
+/// Bytes behind those that are needed aren't looked at. `size` is the flash's, in bytes; `latch` tells whether writes are enabled.
+///
+/// It looks up the first page that would be written among at most 64 stretches by halves, and at one stretch for each page.
+pub fn judge_counted<L: Ledger>(
+    frame: &[u8],
+    table: &RegionTable,
+    layout: &Layout,
+    size: u32,
+    latch: bool,
+    steps: &mut Steps<L>,
+) -> Judged
+    requires some { 1 ≤ length frame.now }
+    requires most { length frame.now ≤ 261 }
+    // It passes exactly where it is allowed, and then asks for this.
+    ensures passes { (op : BusOp) → (result ≡ Pass op) ↔ Passes frame.now (λ page. writable_by table.now layout.now page ≡ true) size latch op }
+    // What it asks for, or which cause it is: the first in order.
+    ensures exact { result ≡ verdict_of (judge_spi frame.now (writable_by table.now layout.now) size latch) }
+    // At most 8 stretches are looked at for a frame that writes one page, and at most 23 for one that writes sixteen.
+    ensures cost { steps.new ≤ steps.old + (7 + length (touched frame.now)) }
+{
+    todo!()
+}
