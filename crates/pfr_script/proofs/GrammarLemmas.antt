@@ -14,26 +14,41 @@ use Rattle.hex.specs.declared.error.FromHexError.{FromHexError}
 use Rattle.hex.proofs.HexLemmas.{decode_of-ok}
 use Rattle.pfr_flash.specs.Judging.{◌>>=◌, ◌>>◌, require, known}
 use Rattle.pfr_engine.specs.Words.{is_word}
+use Rattle.pfr_flash.specs.declared.names.Bank.{Bank}
+use Rattle.pfr_flash.specs.declared.names.Bank.TheVariants as banks
 use Rattle.pfr_flash.specs.declared.names.Device.{Device}
 use Rattle.pfr_flash.specs.declared.names.Device.TheVariants.{Bmc, Pch, Nv}
 use Rattle.pfr_fuses.specs.RootSlot.{slot_of}
 use Rattle.pfr_script.specs.declared.arm.ArmWhat.{ArmWhat}
 use Rattle.pfr_script.specs.declared.arm.ArmWhat.TheVariants.{Cut, Fault, ReadFault}
 use Rattle.pfr_script.specs.declared.event.Event.{Event}
-use Rattle.pfr_script.specs.declared.event.Event.TheVariants.{Power, Off, Provision}
+use Rattle.pfr_script.specs.declared.event.Event.TheVariants.{Power, Off, Spi, Smbus, Provision}
 use Rattle.pfr_script.specs.declared.line.Line.{Line}
 use Rattle.pfr_script.specs.declared.line.Line.TheVariants.{Happens, Arms}
+use Rattle.pfr_script.specs.declared.script_why.ScriptWhy.{ScriptWhy}
 use Rattle.pfr_script.specs.declared.script_why.ScriptWhy.TheVariants as causes
-use Rattle.pfr_script.specs.Words.{one_word, two_words, three_words, device_of}
+use Rattle.pfr_script.specs.Words.{one_word, two_words, three_words, bank_of, device_of}
 use Rattle.pfr_script.specs.Numbers.{begins_above_zero, is_numeral, judge_number}
-use Rattle.pfr_script.specs.Hex.{decoded, judge_slot, judge_tear}
-use Rattle.pfr_script.specs.Line.{judge_alone, judge_provision, judge_torn, judge_read_fault, judge_words, judge_first}
-use Rattle.pfr_script.specs.Grammar.{device_word, SaysSlot, SaysTear, IsNth, SaysTorn, Says}
+use Rattle.pfr_script.specs.Hex.{decoded, judge_frame, judge_slot, judge_tear}
+use Rattle.pfr_script.specs.Line.{judge_alone, judge_frame_line, judge_spi, judge_smbus, judge_provision, judge_torn, judge_read_fault, judge_words, judge_first}
+use Rattle.pfr_script.specs.Grammar.{bank_word, device_word, SaysFrame, SaysFrameLine, SaysSlot, SaysTear, IsNth, SaysTorn, Says}
 use Rattle.pfr_script.proofs.NumberLemmas.{numerals, some_digit, above_zero}
-use Rattle.pfr_flash.proofs.JudgingLemmas.{passed_part, passed_unit, passed_last}
+use Rattle.pfr_flash.proofs.JudgingLemmas.{Decides-le, passed, passed_part, passed_unit, passed_last}
 use Rattle.pfr_script.proofs.WordLemmas.{ok_same, word_said, word_some, one_ok, two_ok, three_ok, one_said, two_said, three_said}
 
--- devices
+-- banks and devices
+
+bank_is : (word : List ℕ) (bank : Bank) → known causes.Word (bank_of word) ≡ Ok bank → word ≡ bank_word bank
+bank_is word banks.Bmc h = grind (arith, bytes_eq-Decides)
+bank_is word banks.Pch h = grind (arith, bytes_eq-Decides)
+
+bank_said : (bank : Bank) → bank_of (bank_word bank) ≡ Some bank
+bank_said banks.Bmc = refl
+bank_said banks.Pch = refl
+
+bank_some : (bank : Bank) → is_word (bank_word bank) ≡ true
+bank_some banks.Bmc = refl
+bank_some banks.Pch = refl
 
 device_is : (word : List ℕ) (device : Device) → known causes.Word (device_of word) ≡ Ok device → word ≡ device_word device
 device_is word Bmc h = grind (arith, bytes_eq-Decides)
@@ -92,6 +107,25 @@ number_some n h = word_said (decimal n) (decimal_nonempty n (omega (arith, h.1))
 decoded_ok : (r : Result (List ℕ) FromHexError) (bytes : List ℕ) → decoded r ≡ Ok bytes → r ≡ Ok bytes
 decoded_ok (Ok x) bytes h = ap Ok (ok_same x bytes h)
 decoded_ok (Err e) bytes h = cc
+
+frame_is : (most : ℕ) (word bytes : List ℕ) → judge_frame most word ≡ Ok bytes → SaysFrame word bytes most
+unfolding judge_frame
+frame_is most word bytes h =
+    let a = passed_part (decoded (decode_of word)) (λ b. require causes.Length (nat_le 1 (length b)) >> (require causes.Length (nat_le (length b) most) >> Ok b)) bytes h in
+    let b = passed causes.Length (nat_le 1 (length a.0)) (require causes.Length (nat_le (length a.0) most) >> Ok a.0) bytes (Decides-le 1 (length a.0)) a.2 in
+    let c = passed causes.Length (nat_le (length a.0) most) (Ok a.0) bytes (Decides-le (length a.0) most) b.1 in
+    let same : a.0 ≡ bytes = ok_same a.0 bytes c.1 in
+    record { hex = decoded_ok (decode_of word) a.0 a.1 ∙ ap Ok same; some = rw (sym same) b.0; few = rw (sym same) c.0 }
+
+frame_said : (most : ℕ) (word bytes : List ℕ) → SaysFrame word bytes most → judge_frame most word ≡ Ok bytes
+unfolding judge_frame
+frame_said most word bytes h =
+    let some : nat_le 1 (length bytes) ≡ true = grind (arith, nat_tests, h.some) in
+    let few : nat_le (length bytes) most ≡ true = grind (arith, nat_tests, h.few) in
+    rw (h.hex, some, few) refl
+
+frame_some : (most : ℕ) (word bytes : List ℕ) → SaysFrame word bytes most → is_word word ≡ true
+frame_some most word bytes h = word_said word (omega (arith, (decode_of-ok word bytes h.hex).2, h.some))
 
 slot_is : (word bytes : List ℕ) → judge_slot word ≡ Ok bytes → SaysSlot word bytes
 unfolding judge_slot
@@ -154,6 +188,38 @@ tear_some (Some bytes) word h = word_said word (omega (arith, h.1, (decode_of-ok
 alone_is : (event : Event) (words : List (List ℕ)) (line : Line) → judge_alone event words ≡ Ok line → (words ≡ []) × (Happens event ≡ line)
 alone_is event [] line h = (refl, ok_same (Happens event) line h)
 alone_is event (word ∷ words) line h = cc
+
+-- what a line says behind `spi` or `smbus`
+pub record IsFrameLine (most : ℕ) (words : List (List ℕ)) (parts : Bank × List ℕ) : Type 0 where
+  word : List ℕ
+  says : SaysFrame word parts.1 most
+  words_are : words ≡ bank_word parts.0 ∷ word ∷ []
+
+frame_line_is : (most : ℕ) (words : List (List ℕ)) (parts : Bank × List ℕ) → judge_frame_line most words ≡ Ok parts → IsFrameLine most words parts
+unfolding judge_frame_line
+frame_line_is most words parts h =
+    let a = passed_part (two_words words) (λ parts. known causes.Word (bank_of parts.0) >>= λ bank. judge_frame most parts.1 >>= λ frame. Ok (bank, frame)) parts h in
+    let b = passed_part (known causes.Word (bank_of a.0.0)) (λ bank. judge_frame most a.0.1 >>= λ frame. Ok (bank, frame)) parts a.2 in
+    let c = passed_part (judge_frame most a.0.1) (λ frame. Ok (b.0, frame)) parts b.2 in
+    let is : IsFrameLine most words (b.0, c.0) = record {
+      word = a.0.1;
+      says = frame_is most a.0.1 c.0 c.1;
+      words_are = (two_ok words a.0 a.1).0 ∙ ap (λ w. w ∷ a.0.1 ∷ []) (bank_is a.0.0 b.0 b.1);
+    } in
+    subst (IsFrameLine most words) (ok_same (b.0, c.0) parts c.2) is
+
+frame_line_said : (most : ℕ) (bank : Bank) (word frame : List ℕ) → SaysFrame word frame most → judge_frame_line most (bank_word bank ∷ word ∷ []) ≡ Ok (bank, frame)
+unfolding judge_frame_line
+frame_line_said most bank word frame h =
+    rw (two_said (bank_word bank) word (bank_some bank) (frame_some most word frame h), bank_said bank, frame_said most word frame h) refl
+
+spi_said : (bank : Bank) (word frame : List ℕ) → SaysFrame word frame 261 → judge_spi (bank_word bank ∷ word ∷ []) ≡ Ok (Happens (Spi bank frame))
+unfolding judge_spi
+spi_said bank word frame h = rw (frame_line_said 261 bank word frame h) refl
+
+smbus_said : (bank : Bank) (word frame : List ℕ) → SaysFrame word frame 35 → judge_smbus (bank_word bank ∷ word ∷ []) ≡ Ok (Happens (Smbus bank frame))
+unfolding judge_smbus
+smbus_said bank word frame h = rw (frame_line_said 35 bank word frame h) refl
 
 -- what a line says behind `provision`
 pub record IsSlotLine (words : List (List ℕ)) (line : Line) : Type 0 where
@@ -253,55 +319,89 @@ torn_says : (first : List ℕ) (what : ArmWhat) (words : List (List ℕ)) (line 
     SaysTorn first t.device t.nth t.tear (first ∷ words)
 torn_says first what words line t = (t.number, t.word, t.says, ap (λ ws. first ∷ ws) t.words_are)
 
-says_by : (power off provision cut fault read : Bool) (first : List ℕ) (words : List (List ℕ)) (line : Line) →
-    (power ≡ true → first ≡ codes "power") → (off ≡ true → first ≡ codes "off") → (provision ≡ true → first ≡ codes "provision") →
-    (cut ≡ true → first ≡ codes "cut") → (fault ≡ true → first ≡ codes "fault") → (read ≡ true → first ≡ codes "readfault") →
-    (if power then judge_alone Power words
-    else if off then judge_alone Off words
-    else if provision then judge_provision words
-    else if cut then judge_torn Cut words
-    else if fault then judge_torn Fault words
-    else if read then judge_read_fault words
-    else Err causes.Word) ≡ Ok line → Says line (first ∷ words)
-says_by true off provision cut fault read first words line p o s c f r h =
+power_says : (words : List (List ℕ)) (line : Line) → judge_alone Power words ≡ Ok line → Says line (codes "power" ∷ words)
+power_says words line h =
     let a = alone_is Power words line h in
-    let P : Line → Type 0 = λ l. Says l (first ∷ words) in
-    subst P a.1 (rw (p refl, a.0) refl)
-says_by false true provision cut fault read first words line p o s c f r h =
+    let P : Line → Type 0 = λ l. Says l (codes "power" ∷ words) in
+    subst P a.1 (rw a.0 refl)
+
+off_says : (words : List (List ℕ)) (line : Line) → judge_alone Off words ≡ Ok line → Says line (codes "off" ∷ words)
+off_says words line h =
     let a = alone_is Off words line h in
-    let P : Line → Type 0 = λ l. Says l (first ∷ words) in
-    subst P a.1 (rw (o refl, a.0) refl)
-says_by false false true cut fault read first words line p o s c f r h =
+    let P : Line → Type 0 = λ l. Says l (codes "off" ∷ words) in
+    subst P a.1 (rw a.0 refl)
+
+frame_line_says : (first : List ℕ) (most : ℕ) (words : List (List ℕ)) (parts : Bank × List ℕ) → IsFrameLine most words parts →
+    SaysFrameLine first most parts.0 parts.1 (first ∷ words)
+frame_line_says first most words parts is = (is.word, is.says, ap (λ ws. first ∷ ws) is.words_are)
+
+spi_says : (words : List (List ℕ)) (line : Line) → judge_spi words ≡ Ok line → Says line (codes "spi" ∷ words)
+unfolding judge_spi
+spi_says words line h =
+    let a = passed_part (judge_frame_line 261 words) (λ parts. Ok (Happens (Spi parts.0 parts.1))) line h in
+    let P : Line → Type 0 = λ l. Says l (codes "spi" ∷ words) in
+    subst P (ok_same (Happens (Spi a.0.0 a.0.1)) line a.2) (frame_line_says (codes "spi") 261 words a.0 (frame_line_is 261 words a.0 a.1))
+
+smbus_says : (words : List (List ℕ)) (line : Line) → judge_smbus words ≡ Ok line → Says line (codes "smbus" ∷ words)
+unfolding judge_smbus
+smbus_says words line h =
+    let a = passed_part (judge_frame_line 35 words) (λ parts. Ok (Happens (Smbus parts.0 parts.1))) line h in
+    let P : Line → Type 0 = λ l. Says l (codes "smbus" ∷ words) in
+    subst P (ok_same (Happens (Smbus a.0.0 a.0.1)) line a.2) (frame_line_says (codes "smbus") 35 words a.0 (frame_line_is 35 words a.0 a.1))
+
+provision_says : (words : List (List ℕ)) (line : Line) → judge_provision words ≡ Ok line → Says line (codes "provision" ∷ words)
+provision_says words line h =
     let a = provision_is words line h in
-    let P : Line → Type 0 = λ l. Says l (first ∷ words) in
-    subst P a.line_is (a.word, a.bytes, a.says, refl, ap (λ w. w ∷ words) (s refl) ∙ ap (λ ws. codes "provision" ∷ ws) a.words_are)
-says_by false false false true fault read first words line p o s c f r h =
+    let P : Line → Type 0 = λ l. Says l (codes "provision" ∷ words) in
+    subst P a.line_is (a.word, a.bytes, a.says, refl, ap (λ ws. codes "provision" ∷ ws) a.words_are)
+
+cut_says : (words : List (List ℕ)) (line : Line) → judge_torn Cut words ≡ Ok line → Says line (codes "cut" ∷ words)
+cut_says words line h =
     let a = torn_is Cut words line h in
-    let P : Line → Type 0 = λ l. Says l (first ∷ words) in
-    subst P a.line_is (rw (c refl) (torn_says (codes "cut") Cut words line a))
-says_by false false false false true read first words line p o s c f r h =
+    let P : Line → Type 0 = λ l. Says l (codes "cut" ∷ words) in
+    subst P a.line_is (torn_says (codes "cut") Cut words line a)
+
+fault_says : (words : List (List ℕ)) (line : Line) → judge_torn Fault words ≡ Ok line → Says line (codes "fault" ∷ words)
+fault_says words line h =
     let a = torn_is Fault words line h in
-    let P : Line → Type 0 = λ l. Says l (first ∷ words) in
-    subst P a.line_is (rw (f refl) (torn_says (codes "fault") Fault words line a))
-says_by false false false false false true first words line p o s c f r h =
+    let P : Line → Type 0 = λ l. Says l (codes "fault" ∷ words) in
+    subst P a.line_is (torn_says (codes "fault") Fault words line a)
+
+read_says : (words : List (List ℕ)) (line : Line) → judge_read_fault words ≡ Ok line → Says line (codes "readfault" ∷ words)
+read_says words line h =
     let a = read_is words line h in
-    let P : Line → Type 0 = λ l. Says l (first ∷ words) in
-    subst P a.line_is (a.number, refl, ap (λ w. w ∷ words) (r refl) ∙ ap (λ ws. codes "readfault" ∷ ws) a.words_are)
-says_by false false false false false false first words line p o s c f r h = cc
+    let P : Line → Type 0 = λ l. Says l (codes "readfault" ∷ words) in
+    subst P a.line_is (a.number, refl, ap (λ ws. codes "readfault" ∷ ws) a.words_are)
+
+-- a line says something behind this word, or behind another
+said_by : (test : Bool) (here others : Result Line ScriptWhy) (first word : List ℕ) (words : List (List ℕ)) (line : Line) → (test ≡ true → first ≡ word) →
+    (if test then here else others) ≡ Ok line → (here ≡ Ok line → Says line (word ∷ words)) → (others ≡ Ok line → Says line (first ∷ words)) → Says line (first ∷ words)
+said_by true here others first word words line is h this that = rw (is refl) (this h)
+said_by false here others first word words line is h this that = that h
+
+said_first : {here others : Result Line ScriptWhy} (first word : List ℕ) (words : List (List ℕ)) (line : Line) → (if bytes_eq first word then here else others) ≡ Ok line →
+    (here ≡ Ok line → Says line (word ∷ words)) → (others ≡ Ok line → Says line (first ∷ words)) → Says line (first ∷ words)
+said_first {here} {others} first word words line h this that = said_by (bytes_eq first word) here others first word words line (bytes_eq-Decides first word).0 h this that
 
 is_said : (words : List (List ℕ)) (line : Line) → judge_first words ≡ Ok line → Says line words
 unfolding judge_words
 is_said [] line h = cc
 is_said (first ∷ words) line h =
-    says_by (bytes_eq first (codes "power")) (bytes_eq first (codes "off")) (bytes_eq first (codes "provision"))
-    (bytes_eq first (codes "cut")) (bytes_eq first (codes "fault")) (bytes_eq first (codes "readfault")) first words line
-    (bytes_eq-Decides first (codes "power")).0 (bytes_eq-Decides first (codes "off")).0 (bytes_eq-Decides first (codes "provision")).0
-    (bytes_eq-Decides first (codes "cut")).0 (bytes_eq-Decides first (codes "fault")).0 (bytes_eq-Decides first (codes "readfault")).0 h
+    said_first first (codes "power") words line h (power_says words line) (λ h.
+    said_first first (codes "off") words line h (off_says words line) (λ h.
+    said_first first (codes "spi") words line h (spi_says words line) (λ h.
+    said_first first (codes "smbus") words line h (smbus_says words line) (λ h.
+    said_first first (codes "provision") words line h (provision_says words line) (λ h.
+    said_first first (codes "cut") words line h (cut_says words line) (λ h.
+    said_first first (codes "fault") words line h (fault_says words line) (λ h.
+    said_first first (codes "readfault") words line h (read_says words line) (λ h. cc))))))))
 
 is_read : (line : Line) (words : List (List ℕ)) → Says line words → judge_first words ≡ Ok line
 unfolding judge_words
 is_read (Happens Power) words h = rw h refl
 is_read (Happens Off) words h = rw h refl
+is_read (Happens (Spi bank frame)) words h = rw h.2 (spi_said bank h.0 frame h.1)
+is_read (Happens (Smbus bank frame)) words h = rw h.2 (smbus_said bank h.0 frame h.1)
 is_read (Happens (Provision slot)) words h = rw (h.4, h.3) (provision_said h.0 h.1 h.2)
 is_read (Arms device Cut nth tear) words h = rw h.3 (torn_said Cut device nth tear h.1 h.0 h.2)
 is_read (Arms device Fault nth tear) words h = rw h.3 (torn_said Fault device nth tear h.1 h.0 h.2)

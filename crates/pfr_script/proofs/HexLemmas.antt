@@ -1,5 +1,5 @@
 -- Words that are hex, and those that aren't.
-use Rattle.std.proofs.Common.{◌≡◌, ℕ, ◌*◌, ◌%◌, ◌<◌, ◌==◌, true, false, nat_le, codes, List, length, Result, Ok, Err, refl, sym, ◌∙◌, arith}
+use Rattle.std.proofs.Common.{◌≡◌, ℕ, ◌*◌, ◌/◌, ◌%◌, ◌<◌, ◌≤◌, ◌==◌, true, false, nat_le, codes, List, length, Result, Ok, Err, refl, sym, ◌∙◌, arith}
 use Rattle.std.specs.List.{list_all}
 use Rattle.std.specs.Str.{bytes_eq}
 use Rattle.std.proofs.lemmas.Bool.{and_parts}
@@ -9,7 +9,7 @@ use Rattle.hex.specs.Hex.{decode_of, decode_sized, is_hex_digit}
 use Rattle.hex.specs.declared.error.FromHexError.{FromHexError}
 use Rattle.hex.proofs.HexLemmas.{decode_of-ok, decode_of-digits, decode_sized-twice}
 use Rattle.pfr_script.specs.declared.script_why.ScriptWhy.TheVariants as causes
-use Rattle.pfr_script.specs.Hex.{is_hex, decoded, judge_slot, judge_tear}
+use Rattle.pfr_script.specs.Hex.{is_hex, decoded, judge_frame, judge_slot, judge_tear}
 
 refused : (word : List ℕ) (r : Result (List ℕ) FromHexError) → is_hex word ≡ false → decode_of word ≡ r → decoded r ≡ Err causes.Hex
 refused word (Ok bytes) h e =
@@ -54,3 +54,30 @@ tear_length word other h long =
     let d = hex_bytes word h in
     let no : nat_le (length d.0) 4096 ≡ false = grind (arith, nat_tests, d.2) in
     rw (other, d.1, no) refl
+
+pub frame_not_hex : (most : ℕ) (word : List ℕ) → is_hex word ≡ false → judge_frame most word ≡ Err causes.Hex
+unfolding judge_frame
+frame_not_hex most word h = rw (not_hex word h) refl
+
+pub frame_none : (most : ℕ) (word : List ℕ) → is_hex word ≡ true → length word / 2 ≡ 0 → judge_frame most word ≡ Err causes.Length
+unfolding judge_frame
+frame_none most word h none =
+    let d = hex_bytes word h in
+    let no : nat_le 1 (length d.0) ≡ false = grind (arith, nat_tests, d.2, none) in
+    rw (d.1, no) refl
+
+pub frame_long : (most : ℕ) (word : List ℕ) → is_hex word ≡ true → 1 ≤ length word / 2 → most < length word / 2 → judge_frame most word ≡ Err causes.Length
+unfolding judge_frame
+frame_long most word h some long =
+    let d = hex_bytes word h in
+    let yes : nat_le 1 (length d.0) ≡ true = grind (arith, nat_tests, d.2, some) in
+    let no : nat_le (length d.0) most ≡ false = grind (arith, nat_tests, d.2, long) in
+    rw (d.1, yes, no) refl
+
+pub frame_fits : (most : ℕ) (word : List ℕ) → is_hex word ≡ true → 1 ≤ length word / 2 → length word / 2 ≤ most → judge_frame most word ≡ decoded (decode_of word)
+unfolding judge_frame
+frame_fits most word h some few =
+    let d = hex_bytes word h in
+    let yes : nat_le 1 (length d.0) ≡ true = grind (arith, nat_tests, d.2, some) in
+    let fits : nat_le (length d.0) most ≡ true = grind (arith, nat_tests, d.2, few) in
+    rw (d.1, yes, fits) refl

@@ -1,18 +1,34 @@
 -- The lines of a script: which words say what.
 use Rattle.std.specs.Prelude.{◌≡◌, ℕ, ◌≤◌, codes, decimal, List, [], ◌∷◌, length, Option, Some, None, Ok}
 use Rattle.hex.specs.Hex.{decode_of}
+use Rattle.pfr_flash.specs.declared.names.Bank.{Bank}
+use Rattle.pfr_flash.specs.declared.names.Bank.TheVariants as banks
 use Rattle.pfr_flash.specs.declared.names.Device.{Device}
 use Rattle.pfr_flash.specs.declared.names.Device.TheVariants.{Bmc, Pch, Nv}
 use Rattle.pfr_fuses.specs.RootSlot.{slot_of}
 use Rattle.pfr_script.specs.declared.arm.ArmWhat.TheVariants.{Cut, Fault, ReadFault}
-use Rattle.pfr_script.specs.declared.event.Event.TheVariants.{Power, Off, Provision}
+use Rattle.pfr_script.specs.declared.event.Event.TheVariants.{Power, Off, Spi, Smbus, Provision}
 use Rattle.pfr_script.specs.declared.line.Line.{Line}
 use Rattle.pfr_script.specs.declared.line.Line.TheVariants.{Happens, Arms}
+
+abbrev pub bank_word : Bank → List ℕ
+bank_word banks.Bmc = codes "bmc"
+bank_word banks.Pch = codes "pch"
 
 abbrev pub device_word : Device → List ℕ
 device_word Bmc = codes "bmc"
 device_word Pch = codes "pch"
 device_word Nv = codes "nv"
+
+-- hex digits of either case that spell a frame's bytes, 1 to so many
+pub record SaysFrame (word bytes : List ℕ) (most : ℕ) : Type 0 where
+  pub hex : decode_of word ≡ Ok bytes
+  pub some : 1 ≤ length bytes
+  pub few : length bytes ≤ most
+
+-- a word before a bank and a frame
+abbrev pub SaysFrameLine : List ℕ → ℕ → Bank → List ℕ → List (List ℕ) → Type 0
+SaysFrameLine first most bank frame words = (word : List ℕ) × SaysFrame word frame most × (words ≡ first ∷ bank_word bank ∷ word ∷ [])
 
 -- hex digits of either case that spell a slot's bytes before its gate
 pub record SaysSlot (word bytes : List ℕ) : Type 0 where
@@ -36,6 +52,8 @@ SaysTorn first device nth tear words = IsNth nth × (word : List ℕ) × SaysTea
 abbrev pub Says : Line → List (List ℕ) → Type 0
 Says (Happens Power) words = words ≡ codes "power" ∷ []
 Says (Happens Off) words = words ≡ codes "off" ∷ []
+Says (Happens (Spi bank frame)) words = SaysFrameLine (codes "spi") 261 bank frame words
+Says (Happens (Smbus bank frame)) words = SaysFrameLine (codes "smbus") 35 bank frame words
 Says (Happens (Provision slot)) words = (word : List ℕ) × (bytes : List ℕ) × SaysSlot word bytes × (slot ≡ slot_of bytes)
     × (words ≡ codes "provision" ∷ word ∷ [])
 Says (Arms device Cut nth tear) words = SaysTorn (codes "cut") device nth tear words

@@ -24,6 +24,14 @@ judge_slot word = do
   require causes.Length (length bytes == 72)
   Ok bytes
 
+-- the bytes of a frame, 1 at least and so many at most
+unfoldable pub judge_frame : ℕ → List ℕ → Result (List ℕ) ScriptWhy
+judge_frame most word = do
+  bytes ← decoded (decode_of word)
+  require causes.Length (nat_le 1 (length bytes))
+  require causes.Length (nat_le (length bytes) most)
+  Ok bytes
+
 -- a tear of at most 4,096 bytes, or none, where the word is `-`
 unfoldable pub judge_tear : List ℕ → Result (Option (List ℕ)) ScriptWhy
 judge_tear word =

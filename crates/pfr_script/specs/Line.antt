@@ -2,18 +2,19 @@
 use Rattle.std.specs.Prelude.{ℕ, ◌≤◌, codes, if◌then◌else◌, List, [], ◌∷◌, None, Result, Ok, Err}
 use Rattle.std.specs.Str.{bytes_eq}
 use Rattle.pfr_flash.specs.Judging.{◌>>=◌, ◌>>◌, known}
+use Rattle.pfr_flash.specs.declared.names.Bank.{Bank}
 use Rattle.pfr_fuses.specs.RootSlot.{slot_of}
 use Rattle.pfr_script.specs.declared.arm.ArmWhat.{ArmWhat}
 use Rattle.pfr_script.specs.declared.arm.ArmWhat.TheVariants.{Cut, Fault, ReadFault}
 use Rattle.pfr_script.specs.declared.event.Event.{Event}
-use Rattle.pfr_script.specs.declared.event.Event.TheVariants.{Power, Off, Provision}
+use Rattle.pfr_script.specs.declared.event.Event.TheVariants.{Power, Off, Spi, Smbus, Provision}
 use Rattle.pfr_script.specs.declared.line.Line.{Line}
 use Rattle.pfr_script.specs.declared.line.Line.TheVariants.{Happens, Arms}
 use Rattle.pfr_script.specs.declared.script_why.ScriptWhy.{ScriptWhy}
 use Rattle.pfr_script.specs.declared.script_why.ScriptWhy.TheVariants as causes
-use Rattle.pfr_script.specs.Words.{no_word, one_word, two_words, three_words, device_of}
+use Rattle.pfr_script.specs.Words.{no_word, one_word, two_words, three_words, bank_of, device_of}
 use Rattle.pfr_script.specs.Numbers.{judge_number}
-use Rattle.pfr_script.specs.Hex.{judge_slot, judge_tear}
+use Rattle.pfr_script.specs.Hex.{judge_frame, judge_slot, judge_tear}
 
 -- a failure's number counts from 1
 abbrev pub IsNumbered : Line → Type 0
@@ -23,6 +24,26 @@ IsNumbered (Arms device what nth tear) = 1 ≤ nth
 -- `power` and `off`
 abbrev pub judge_alone : Event → List (List ℕ) → Result Line ScriptWhy
 judge_alone event words = no_word words >> Ok (Happens event)
+
+-- the bank and the frame of at most so many bytes that stand behind `spi` and `smbus`
+unfoldable pub judge_frame_line : ℕ → List (List ℕ) → Result (Bank × List ℕ) ScriptWhy
+judge_frame_line most words = do
+  parts ← two_words words
+  bank ← known causes.Word (bank_of parts.0)
+  frame ← judge_frame most parts.1
+  Ok (bank, frame)
+
+-- `spi <bank> <hex>`
+unfoldable pub judge_spi : List (List ℕ) → Result Line ScriptWhy
+judge_spi words = do
+  parts ← judge_frame_line 261 words
+  Ok (Happens (Spi parts.0 parts.1))
+
+-- `smbus <bank> <hex>`
+unfoldable pub judge_smbus : List (List ℕ) → Result Line ScriptWhy
+judge_smbus words = do
+  parts ← judge_frame_line 35 words
+  Ok (Happens (Smbus parts.0 parts.1))
 
 -- `provision <hex>`
 unfoldable pub judge_provision : List (List ℕ) → Result Line ScriptWhy
@@ -53,6 +74,8 @@ unfoldable pub judge_words : List ℕ → List (List ℕ) → Result Line Script
 judge_words first words =
     if bytes_eq first (codes "power") then judge_alone Power words
     else if bytes_eq first (codes "off") then judge_alone Off words
+    else if bytes_eq first (codes "spi") then judge_spi words
+    else if bytes_eq first (codes "smbus") then judge_smbus words
     else if bytes_eq first (codes "provision") then judge_provision words
     else if bytes_eq first (codes "cut") then judge_torn Cut words
     else if bytes_eq first (codes "fault") then judge_torn Fault words

@@ -4,6 +4,8 @@ use Rattle.std.specs.List.{slice_split}
 use Rattle.std.specs.Str.{bytes_eq}
 use Rattle.pfr_flash.specs.Judging.{◌>>=◌, ◌>>◌, require}
 use Rattle.pfr_engine.specs.Words.{is_word, words_in}
+use Rattle.pfr_flash.specs.declared.names.Bank.{Bank}
+use Rattle.pfr_flash.specs.declared.names.Bank.TheVariants as banks
 use Rattle.pfr_flash.specs.declared.names.Device.{Device}
 use Rattle.pfr_flash.specs.declared.names.Device.TheVariants.{Bmc, Pch, Nv}
 use Rattle.pfr_script.specs.declared.script_why.ScriptWhy.{ScriptWhy}
@@ -48,6 +50,13 @@ three_words words = do
   first ← next_word words
   others ← two_words first.1
   Ok (first.0, others.0, others.1)
+
+-- the bank of a name
+abbrev pub bank_of : List ℕ → Option Bank
+bank_of word =
+    if bytes_eq word (codes "bmc") then Some banks.Bmc
+    else if bytes_eq word (codes "pch") then Some banks.Pch
+    else None
 
 -- the device of a name
 abbrev pub device_of : List ℕ → Option Device

@@ -2,8 +2,9 @@
 ghost use Rattle.std.specs.Prelude.{◌≡◌, ◌≤◌, length};
 ghost use Rattle.std.specs.List.{list_all};
 ghost use Rattle.hex.specs.Hex.{decode_of, is_hex_digit};
-ghost use Rattle.pfr_script.specs.Hex.{decoded, is_hex, judge_slot, judge_tear};
+ghost use Rattle.pfr_script.specs.Hex.{decoded, is_hex, judge_frame, judge_slot, judge_tear};
 
+use crate::frame::Frame;
 use crate::script_why::ScriptWhy;
 use hex::{FromHex, decode_to_slice};
 use pfr_flash::Tear;
@@ -33,6 +34,35 @@ pub fn read_slot(word: &[u8]) -> Result<[u8; 72], ScriptWhy>
         Ok(bytes) => Ok(bytes),
         Err(_) => Err(ScriptWhy::Length),
     }
+}
+
+fn frame_of(word: &[u8]) -> Result<Frame, ScriptWhy>
+    requires some { 2 ≤ length word.now }
+    requires most { length word.now ≤ 522 }
+    ensures { result ≡ decoded (decode_of word.now) }
+{
+    let mut bytes = [0; 261];
+    let count = word.len() / 2;
+    match decode_to_slice(word, &mut bytes[0..count]) {
+        Ok(()) => Ok(Frame::new(&bytes[0..count])),
+        Err(_) => Err(ScriptWhy::Hex),
+    }
+}
+
+/// A frame of 1 byte at least and of so many at most.
+#[tactic(auto, unfolding(crate::specs::Hex::judge_frame))]
+pub fn read_frame(word: &[u8], most: usize) -> Result<Frame, ScriptWhy>
+    requires { most ≤ 261 }
+    ensures { result ≡ judge_frame most word.now }
+{
+    if !is_hex(word) {
+        return Err(ScriptWhy::Hex);
+    }
+    let count = word.len() / 2;
+    if count == 0 || count > most {
+        return Err(ScriptWhy::Length);
+    }
+    frame_of(word)
 }
 
 fn tear_of(word: &[u8]) -> Result<Tear, ScriptWhy>

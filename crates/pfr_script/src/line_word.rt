@@ -1,18 +1,20 @@
 // Reads what a line says, word by word.
-ghost use Rattle.std.specs.Prelude.{◌≡◌, ◌↔◌, IfOk};
+ghost use Rattle.std.specs.Prelude.{◌≡◌, ◌↔◌, ◌≤◌, IfOk};
 ghost use Rattle.std.specs.Option.{option_copied};
 ghost use Rattle.pfr_engine.specs.Words.{words_in};
 ghost use Rattle.pfr_script.specs.Words.{words_behind};
 ghost use Rattle.pfr_script.specs.Grammar.{Says};
-ghost use Rattle.pfr_script.specs.Line.{IsNumbered, judge_alone, judge_provision, judge_torn, judge_read_fault, judge_words, judge_first};
+ghost use Rattle.pfr_script.specs.Line.{IsNumbered, judge_alone, judge_frame_line, judge_provision, judge_smbus, judge_spi, judge_torn, judge_read_fault, judge_words, judge_first};
 
 use crate::arm::ArmWhat;
 use crate::event::Event;
-use crate::hex_word::{read_slot, read_tear};
+use crate::frame::Frame;
+use crate::hex_word::{read_frame, read_slot, read_tear};
 use crate::line::Line;
 use crate::number::read_number;
 use crate::script_why::ScriptWhy;
-use crate::words::{device_of, first_word, no_word, one_word, three_words, two_words};
+use crate::words::{bank_of, device_of, first_word, no_word, one_word, three_words, two_words};
+use pfr_flash::Bank;
 use pfr_fuses::RootSlot;
 
 // An event whose word stands alone.
@@ -22,6 +24,38 @@ fn read_alone(event: Event, rest: Option<&[u8]>) -> Result<Line, ScriptWhy>
 {
     no_word(rest)?;
     Ok(Line::Happens(event))
+}
+
+// The bank and the frame behind `spi` or `smbus`.
+#[tactic(auto, unfolding(crate::specs::Line::judge_frame_line))]
+fn read_frame_line(rest: Option<&[u8]>, most: usize) -> Result<(Bank, Frame), ScriptWhy>
+    requires { most ≤ 261 }
+    ensures { result ≡ judge_frame_line most (words_behind (option_copied rest.entry)) }
+{
+    let (bank, frame) = two_words(rest)?;
+    let bank = bank_of(bank).ok_or(ScriptWhy::Word)?;
+    let frame = read_frame(frame, most)?;
+    Ok((bank, frame))
+}
+
+// `spi <bank> <hex>`
+#[tactic(auto, unfolding(crate::specs::Line::judge_spi))]
+fn read_spi(rest: Option<&[u8]>) -> Result<Line, ScriptWhy>
+    ensures exact { result ≡ judge_spi (words_behind (option_copied rest.entry)) }
+    ensures numbered { IfOk result IsNumbered }
+{
+    let (bank, frame) = read_frame_line(rest, 261)?;
+    Ok(Line::Happens(Event::Spi { bank, frame }))
+}
+
+// `smbus <bank> <hex>`
+#[tactic(auto, unfolding(crate::specs::Line::judge_smbus))]
+fn read_smbus(rest: Option<&[u8]>) -> Result<Line, ScriptWhy>
+    ensures exact { result ≡ judge_smbus (words_behind (option_copied rest.entry)) }
+    ensures numbered { IfOk result IsNumbered }
+{
+    let (bank, frame) = read_frame_line(rest, 35)?;
+    Ok(Line::Happens(Event::Smbus { bank, frame }))
 }
 
 // `provision <hex>`
@@ -79,6 +113,10 @@ fn read_words(word: &[u8], rest: Option<&[u8]>) -> Result<Line, ScriptWhy>
         read_alone(Event::Power, rest)
     } else if word == b"off".as_slice() {
         read_alone(Event::Off, rest)
+    } else if word == b"spi".as_slice() {
+        read_spi(rest)
+    } else if word == b"smbus".as_slice() {
+        read_smbus(rest)
     } else if word == b"provision".as_slice() {
         read_provision(rest)
     } else if word == b"cut".as_slice() {

@@ -2,10 +2,10 @@
 ghost use Rattle.std.specs.Prelude.{◌≡◌, ◌==◌, ◌<◌, [], ◌∷◌, length, position, MatchOption, MatchResult, IfSome};
 ghost use Rattle.std.specs.Option.{option_copied};
 ghost use Rattle.pfr_engine.specs.Words.{words_in};
-ghost use Rattle.pfr_script.specs.Words.{pieces, words_behind, next_word, no_word, one_word, two_words, three_words, device_of};
+ghost use Rattle.pfr_script.specs.Words.{pieces, words_behind, next_word, no_word, one_word, two_words, three_words, bank_of, device_of};
 
 use crate::script_why::ScriptWhy;
-use pfr_flash::Device;
+use pfr_flash::{Bank, Device};
 
 fn place_of(text: &[u8], separator: u8) -> Option<usize>
     ensures { result ≡ position (λ byte. byte == separator) text.now }
@@ -90,6 +90,19 @@ pub fn three_words(rest: Option<&[u8]>) -> Result<(&[u8], &[u8], &[u8]), ScriptW
     let (first, rest) = next_word(rest)?;
     let (second, third) = two_words(rest)?;
     Ok((first, second, third))
+}
+
+/// The bank of a name.
+pub fn bank_of(word: &[u8]) -> Option<Bank>
+    ensures { result ≡ bank_of word.now }
+{
+    if word == b"bmc".as_slice() {
+        Some(Bank::Bmc)
+    } else if word == b"pch".as_slice() {
+        Some(Bank::Pch)
+    } else {
+        None
+    }
 }
 
 /// The device of a name.
