@@ -7,13 +7,15 @@ use Rattle.pfr_flash.specs.declared.names.Bank.{Bank}
 use Rattle.pfr_flash.specs.declared.names.Bank.TheVariants as bank
 use Rattle.pfr_flash.specs.declared.names.Device.{Device}
 use Rattle.pfr_flash.specs.declared.names.Device.TheVariants as device
-use Rattle.pfr_report.specs.Words.{rule_word, active_text, capsule_text, AreFound}
+use Rattle.pfr_filter.specs.declared.verdict.BusOp.{BusOp}
+use Rattle.pfr_filter.specs.declared.verdict.BusOp.TheVariants as op
+use Rattle.pfr_report.specs.Words.{rule_word, active_text, capsule_text, block_text, smbus_word, AreFound}
 use Rattle.pfr_report.specs.declared.note.LockWhy.{LockWhy}
 use Rattle.pfr_report.specs.declared.note.LockWhy.TheVariants.{Unprovisioned, SlotsSpent, Layout, FlashFault, StoreFault, NoGoodImage}
 use Rattle.pfr_report.specs.declared.note.ProvisionWhy.{ProvisionWhy}
 use Rattle.pfr_report.specs.declared.note.ProvisionWhy.TheVariants as provision
 use Rattle.pfr_report.specs.declared.note.What.{What}
-use Rattle.pfr_report.specs.declared.note.What.TheVariants.{Power, Held, Released, Locked, Lost, Untrusted, Restored, Provisioned, ProvisionRefused, Ignored}
+use Rattle.pfr_report.specs.declared.note.What.TheVariants.{Power, Held, Released, Locked, Lost, Untrusted, Restored, BusPassed, BusBlocked, SmbusPassed, SmbusBlocked, Provisioned, ProvisionRefused, Ignored}
 use Rattle.pfr_report.specs.declared.note.Note.{Note}
 
 abbrev pub bank_word : Bank → List ℕ
@@ -48,6 +50,16 @@ provision_word provision.AlreadyProvisioned = codes "already-provisioned"
 provision_word (provision.LayoutBad bank rule) = codes "layout " ++ (bank_word bank ++ (codes " " ++ rule_word rule))
 provision_word provision.SlotsSpent = codes "slots-spent"
 
+-- what a frame asks of a flash: enabling writes and disabling them have one word
+abbrev pub op_word : BusOp → List ℕ
+op_word op.Read = codes "read"
+op_word op.Status = codes "status"
+op_word op.Id = codes "id"
+op_word op.WriteEnable = codes "latch"
+op_word op.WriteDisable = codes "latch"
+op_word (op.Program at page) = codes "program"
+op_word (op.Erase sector count) = codes "erase"
+
 abbrev pub what_text : What → List ℕ
 what_text Power = codes "power"
 what_text (Held bank counts) = bank_word bank ++ codes " held"
@@ -56,6 +68,10 @@ what_text (Locked bank why counts) = bank_word bank ++ (codes " locked " ++ lock
 what_text (Lost device counts) = codes "lost" ++ lost_word device
 what_text (Untrusted bank why) = bank_word bank ++ (codes " untrusted " ++ active_text why)
 what_text (Restored bank level) = bank_word bank ++ (codes " restored level " ++ decimal level)
+what_text (BusPassed bank op) = bank_word bank ++ (codes " pass " ++ op_word op)
+what_text (BusBlocked bank why) = bank_word bank ++ (codes " blocked " ++ block_text why)
+what_text (SmbusPassed bank) = bank_word bank ++ codes " smbus pass"
+what_text (SmbusBlocked bank why) = bank_word bank ++ (codes " smbus blocked " ++ smbus_word why)
 what_text Provisioned = codes "provisioned"
 what_text (ProvisionRefused why) = codes "provision refused " ++ provision_word why
 what_text Ignored = codes "ignored"

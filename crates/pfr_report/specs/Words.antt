@@ -7,6 +7,10 @@ use Rattle.pfr_chain.specs.declared.fail.ChainFail.{ChainFail}
 use Rattle.pfr_chain.specs.declared.fail.ChainFail.TheVariants as chain
 use Rattle.pfr_manifest.specs.declared.fail.ManifestFail.{ManifestFail}
 use Rattle.pfr_manifest.specs.declared.fail.ManifestFail.TheVariants as manifest
+use Rattle.pfr_smbus.specs.declared.cause.SmbusCause.{SmbusCause}
+use Rattle.pfr_smbus.specs.declared.cause.SmbusCause.TheVariants as smbus
+use Rattle.pfr_filter.specs.declared.verdict.BlockCause.{BlockCause}
+use Rattle.pfr_filter.specs.declared.verdict.BlockCause.TheVariants as block
 use Rattle.pfr_capsule.specs.Answer.{capsule_failure}
 use Rattle.pfr_capsule.specs.declared.fail.CapsuleFail.{CapsuleFail}
 use Rattle.pfr_capsule.specs.declared.fail.CapsuleFail.TheVariants as capsule
@@ -77,6 +81,29 @@ digits (Some number) = decimal number
 
 abbrev pub numbered : List ℕ → Option ℕ → List ℕ
 numbered word number = word ++ (colon number ++ digits number)
+
+-- The word of a cause for which a frame on an SPI bus is blocked, and the number of the page behind it.
+abbrev pub block_word : BlockCause → List ℕ
+block_word block.Opcode = codes "opcode"
+block_word block.ChipErase = codes "chip-erase"
+block_word block.ShortFrame = codes "short-frame"
+block_word block.Range = codes "range"
+block_word (block.NotWritable page) = codes "not-writable"
+block_word block.NoLatch = codes "no-latch"
+
+abbrev pub block_number : BlockCause → Option ℕ
+block_number (block.NotWritable page) = Some page
+block_number cause = None
+
+abbrev pub block_text : BlockCause → List ℕ
+block_text cause = numbered (block_word cause) (block_number cause)
+
+-- the same of a frame on an SMBus
+abbrev pub smbus_word : SmbusCause → List ℕ
+smbus_word smbus.ShortFrame = codes "short-frame"
+smbus_word smbus.BadAddress = codes "bad-address"
+smbus_word smbus.NoRule = codes "no-rule"
+smbus_word smbus.Command = codes "command"
 
 -- what is before the word of an active image's cause, its word, and its number
 abbrev pub active_kind : ActiveFail → List ℕ

@@ -3,12 +3,13 @@ ghost use Rattle.std.specs.Prelude.{◌≡◌, [], codes, None, Some};
 ghost use Rattle.pfr_flash.specs.Answer.{IsFound};
 ghost use Rattle.pfr_auth.specs.Answer.{active_failure};
 ghost use Rattle.pfr_capsule.specs.Answer.{capsule_failure};
-ghost use Rattle.pfr_report.specs.Words.{active_kind, active_word, active_number, capsule_kind, capsule_word, capsule_number, colon, digits, manifest_number, manifest_word};
+ghost use Rattle.pfr_report.specs.Words.{active_kind, active_word, active_number, block_number, block_word, capsule_kind, capsule_word, capsule_number, colon, digits, manifest_number, manifest_word};
 
-use crate::cause_words::{chain_word, manifest_number, manifest_word};
+use crate::cause_words::{block_word, chain_word, manifest_number, manifest_word};
 use itoa::Buffer;
 use pfr_auth::ActiveFail;
 use pfr_capsule::CapsuleFail;
+use pfr_filter::BlockCause;
 use pfr_manifest::ManifestFail;
 
 /// A cause as a report writes it: what it is a cause of with a colon, or nothing; its word; and the page, region or place
@@ -130,5 +131,18 @@ pub fn capsule_cause(why: CapsuleFail) -> Cause
         CapsuleFail::StaticNotCovered(region) => numbered(b"static-not-covered", region),
         CapsuleFail::Incoherent(region) => numbered(b"incoherent", region),
         CapsuleFail::Flash(_) => unreachable!(),
+    }
+}
+
+/// The cause for which a frame on an SPI bus is blocked.
+pub fn block_cause(why: BlockCause) -> Cause
+    ensures kind { result.kind.now ≡ [] }
+    ensures word { result.word.now ≡ block_word why }
+    ensures number { result.number ≡ block_number why }
+{
+    let word = block_word(why);
+    match why {
+        BlockCause::NotWritable(page) => numbered(word, page),
+        _ => plain(word),
     }
 }

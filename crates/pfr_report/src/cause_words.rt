@@ -1,13 +1,24 @@
 // The words of causes.
 ghost use Rattle.std.specs.Prelude.{◌≡◌, None, Some};
-ghost use Rattle.pfr_report.specs.Words.{chain_word, manifest_number, manifest_word, rule_word};
+ghost use Rattle.pfr_report.specs.Words.{block_word, chain_word, manifest_number, manifest_word, rule_word, smbus_word};
 ghost use Rattle.pfr_chain.specs.Answer.{chain_failure};
-ghost use Rattle.pfr_report.specs.Texts.{bank_word, lock_word, lost_word, provision_word, HasWord};
+ghost use Rattle.pfr_report.specs.Texts.{bank_word, lock_word, lost_word, op_word, provision_word, HasWord};
 
 use crate::note::{LockWhy, ProvisionWhy};
 use pfr_chain::ChainFail;
+use pfr_filter::{BlockCause, BusOp};
 use pfr_flash::{Bank, Device, LayoutRule};
 use pfr_manifest::ManifestFail;
+use pfr_smbus::SmbusCause;
+
+// A cause's word: one row for each variant of its enum.
+macro_rules! words {
+    ($cause:expr; $kind:ident { $($variant:ident $(($field:tt))? => $word:literal,)+ }) => {
+        match $cause {
+            $($kind::$variant $(($field))? => $word,)+
+        }
+    };
+}
 
 /// The name of a bank, as lines spell it.
 pub fn bank_word(bank: Bank) -> &'static [u8]
@@ -137,4 +148,44 @@ pub fn manifest_number(cause: ManifestFail) -> Option<u32>
         | ManifestFail::Overlap(number) => Some(number),
         _ => None,
     }
+}
+
+/// The word of what a frame asks of a flash.
+pub fn op_word(op: &BusOp) -> &'static [u8]
+    ensures { result.now ≡ op_word op.now }
+{
+    match op {
+        BusOp::Read => b"read",
+        BusOp::Status => b"status",
+        BusOp::Id => b"id",
+        BusOp::WriteEnable | BusOp::WriteDisable => b"latch",
+        BusOp::Program { .. } => b"program",
+        BusOp::Erase { .. } => b"erase",
+    }
+}
+
+/// The word of a cause for which a frame on an SPI bus is blocked.
+pub fn block_word(cause: BlockCause) -> &'static [u8]
+    ensures { result.now ≡ block_word cause }
+{
+    words!(cause; BlockCause {
+        Opcode => b"opcode",
+        ChipErase => b"chip-erase",
+        ShortFrame => b"short-frame",
+        Range => b"range",
+        NotWritable(_) => b"not-writable",
+        NoLatch => b"no-latch",
+    })
+}
+
+/// The word of a cause for which a frame on an SMBus is blocked.
+pub fn smbus_word(cause: SmbusCause) -> &'static [u8]
+    ensures { result.now ≡ smbus_word cause }
+{
+    words!(cause; SmbusCause {
+        ShortFrame => b"short-frame",
+        BadAddress => b"bad-address",
+        NoRule => b"no-rule",
+        Command => b"command",
+    })
 }

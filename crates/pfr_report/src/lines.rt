@@ -3,18 +3,35 @@ ghost use Rattle.std.specs.Prelude.{None, ◌≡◌, ◌++◌, ℕ, codes, decim
 ghost use Rattle.pfr_flash.specs.Answer.{IsFound};
 ghost use Rattle.pfr_auth.specs.Answer.{active_failure};
 ghost use Rattle.pfr_shelf.specs.Pieces.{Writes};
-ghost use Rattle.pfr_report.specs.Words.{active_text, AreFound};
+ghost use Rattle.pfr_report.specs.Words.{active_text, block_text, AreFound};
 ghost use Rattle.pfr_report.specs.Texts.{bank_word, lock_word, note_text, HasText};
 ghost use Rattle.pfr_report.specs.declared.note.LockWhy.TheVariants.{NoGoodImage};
 
-use crate::cause::{active_cause, capsule_cause};
-use crate::cause_words::{bank_word, lock_word, lost_word, provision_word};
+use crate::cause::{active_cause, block_cause, capsule_cause};
+use crate::cause_words::{bank_word, lock_word, lost_word, op_word, provision_word, smbus_word};
 use crate::note::{LockWhy, Note, What};
 use itoa::Buffer;
 use pfr_auth::ActiveFail;
 use pfr_capsule::CapsuleFail;
+use pfr_filter::BlockCause;
 use pfr_flash::Bank;
 use pfr_shelf::{Sink, SinkFail, write_pieces};
+
+// The line of a bank that words alone tell.
+fn write_words<K: Sink>(
+    item: u32,
+    bank: Bank,
+    text: &'static [u8],
+    word: &'static [u8],
+    out: &mut K,
+) -> Result<(), SinkFail>
+    ensures { Writes K.tells K.written K.faults out.old out.new
+        (decimal item ++ (codes " " ++ ((bank_word bank ++ (text.now ++ word.now)) ++ codes "\n"))) result }
+{
+    let mut buffer = Buffer::new();
+    let item = buffer.format(item).as_bytes();
+    write_pieces(out, &[item, b" ", bank_word(bank), text, word, b"\n"])
+}
 
 // The line of a bank whose active image isn't trusted.
 fn write_untrusted<K: Sink>(
@@ -126,6 +143,36 @@ fn write_restored<K: Sink>(item: u32, bank: Bank, level: u8, out: &mut K) -> Res
     )
 }
 
+// The line of a frame on a bank's SPI bus that is blocked.
+fn write_blocked<K: Sink>(
+    item: u32,
+    bank: Bank,
+    why: BlockCause,
+    out: &mut K,
+) -> Result<(), SinkFail>
+    ensures { Writes K.tells K.written K.faults out.old out.new
+        (decimal item ++ (codes " " ++ ((bank_word bank ++ (codes " blocked " ++ block_text why)) ++ codes "\n"))) result }
+{
+    let mut item_buffer = Buffer::new();
+    let item = item_buffer.format(item).as_bytes();
+    let cause = block_cause(why);
+    let mut buffer = Buffer::new();
+    let digits = cause.digits(&mut buffer);
+    write_pieces(
+        out,
+        &[
+            item,
+            b" ",
+            bank_word(bank),
+            b" blocked ",
+            cause.word,
+            cause.colon(),
+            digits,
+            b"\n",
+        ],
+    )
+}
+
 /// Writes the line of a note. At `Err` a prefix of it was written.
 #[tactic(auto, unfolding(crate::specs::Texts::note_text))]
 pub fn write_note<K: Sink>(note: &Note, out: &mut K) -> Result<(), SinkFail>
@@ -136,29 +183,29 @@ pub fn write_note<K: Sink>(note: &Note, out: &mut K) -> Result<(), SinkFail>
     let item = buffer.format(note.item).as_bytes();
     match note.what {
         What::Power => write_pieces(out, &[item, b" power\n"]),
-        What::Held { bank, .. } => { write_pieces(out, &[item, b" ", bank_word(bank), b" held\n"]) }
+        What::Held { bank, .. } => write_words(note.item, bank, b" held", b"", out),
         What::Released { bank, svn, .. } => write_released(note.item, bank, svn, out),
         What::Locked {
             bank,
             why: LockWhy::NoGoodImage(active, recovery),
             ..
         } => write_no_good_image(note.item, bank, active, recovery, out),
-        What::Locked { bank, why, .. } => write_pieces(
-            out,
-            &[
-                item,
-                b" ",
-                bank_word(bank),
-                b" locked ",
-                lock_word(why),
-                b"\n",
-            ],
-        ),
+        What::Locked { bank, why, .. } => {
+            write_words(note.item, bank, b" locked ", lock_word(why), out)
+        }
         What::Lost { device, .. } => {
             write_pieces(out, &[item, b" lost", lost_word(device), b"\n"])
         }
         What::Untrusted { bank, why } => write_untrusted(note.item, bank, why, out),
         What::Restored { bank, level } => write_restored(note.item, bank, level, out),
+        What::BusPassed { bank, ref op } => {
+            write_words(note.item, bank, b" pass ", op_word(op), out)
+        }
+        What::BusBlocked { bank, why } => write_blocked(note.item, bank, why, out),
+        What::SmbusPassed { bank } => write_words(note.item, bank, b" smbus pass", b"", out),
+        What::SmbusBlocked { bank, why } => {
+            write_words(note.item, bank, b" smbus blocked ", smbus_word(why), out)
+        }
         What::Provisioned => write_pieces(out, &[item, b" provisioned\n"]),
         What::ProvisionRefused { why } => write_pieces(
             out,

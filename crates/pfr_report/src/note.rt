@@ -2,7 +2,9 @@
 
 use pfr_auth::ActiveFail;
 use pfr_capsule::CapsuleFail;
+use pfr_filter::{BlockCause, BusOp};
 use pfr_flash::{Bank, Counts, Device, LayoutRule};
+use pfr_smbus::SmbusCause;
 
 /// Why a bank is locked.
 #[derive(Clone, Copy, Debug, PartialEq, Eq)]
@@ -69,6 +71,25 @@ pub enum What {
     Restored {
         bank: Bank,
         level: u8,
+    },
+    /// A frame on the bank's SPI bus passed, and asked this of its flash.
+    BusPassed {
+        bank: Bank,
+        op: BusOp,
+    },
+    /// A frame on the bank's SPI bus was blocked, and its flash did nothing.
+    BusBlocked {
+        bank: Bank,
+        why: BlockCause,
+    },
+    /// A frame on the bank's SMBus passed.
+    SmbusPassed {
+        bank: Bank,
+    },
+    /// A frame on the bank's SMBus was blocked.
+    SmbusBlocked {
+        bank: Bank,
+        why: SmbusCause,
     },
     /// The platform was provisioned.
     Provisioned,
