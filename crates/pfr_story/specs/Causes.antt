@@ -52,11 +52,13 @@ pub record HasBadRecovery (cause : CapsuleFail) (which : Bank) (image nv : List 
   pub provisioned : fuses_of nv ≡ Ok fuses
   pub judged : judge_area Recovery which image fuses accepts ≡ Err cause
 
--- when the contents call for a lock, and for which
+-- When the contents allow a lock, and which. That a watch was spent isn't in the contents.
 abbrev pub IsDue : LockWhy → Bank → List ℕ → List ℕ → Acceptance → Type 0
 IsDue why.Unprovisioned which image nv accepts = IsUnset nv × HasBlank nv
 IsDue why.SlotsSpent which image nv accepts = IsUnset nv × ¬ HasBlank nv
 IsDue (why.Layout rule) which image nv accepts = IsMisplaced rule which image nv
 IsDue (why.NoGoodImage active recovery) which image nv accepts = IsAgainst active which image nv accepts × HasBadRecovery recovery which image nv accepts
+IsDue why.WatchdogSpent which image nv accepts = Unit {0}
+IsDue (why.NoRecovery recovery) which image nv accepts = HasBadRecovery recovery which image nv accepts
 IsDue why.FlashFault which image nv accepts = ⊥
 IsDue why.StoreFault which image nv accepts = ⊥

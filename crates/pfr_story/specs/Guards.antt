@@ -4,8 +4,8 @@ use Rattle.pfr_flash.specs.declared.names.Bank.{Bank}
 use Rattle.pfr_flash.specs.declared.names.Bank.TheVariants as bank
 use Rattle.pfr_filter.specs.Asking.{latched}
 use Rattle.pfr_report.specs.declared.note.What.{What}
-use Rattle.pfr_report.specs.declared.note.What.TheVariants.{Held, Released, Locked, Lost, Power, BusPassed}
-use Rattle.pfr_watch.specs.Watching.{begun}
+use Rattle.pfr_report.specs.declared.note.What.TheVariants.{Held, Released, Locked, Lost, Power, BusPassed, Expired, Passed, Booted}
+use Rattle.pfr_watch.specs.Watching.{begun, passed}
 use Rattle.pfr_watch.specs.declared.watch.Watch.{Watch}
 use Rattle.pfr_story.specs.declared.watches.Watches.{Watches}
 
@@ -35,10 +35,13 @@ same_bank bank.Bmc bank.Pch = false
 same_bank bank.Pch bank.Bmc = false
 same_bank bank.Pch bank.Pch = true
 
--- The watch of a bank once this is noted: a release begins it again, after as many recoveries as before, and a power-on forgets
--- the recoveries.
+-- The watch of a bank once this is noted: a release begins it again, after as many recoveries as before, a stage that is passed
+-- takes it to the next one, an expiry tells how many recoveries there were, and a power-on forgets them.
 abbrev pub watch_after : Bank → What → Watch → Watch
 watch_after which (Released b svn counts) watch = if same_bank which b then begun which watch.recoveries else watch
+watch_after which (Passed b stage) watch = if same_bank which b then passed watch else watch
+watch_after which (Booted b) watch = if same_bank which b then passed watch else watch
+watch_after which (Expired b level) watch = if same_bank which b then record watch { recoveries = level } else watch
 watch_after which Power watch = record watch { recoveries = 0 }
 watch_after which what watch = watch
 

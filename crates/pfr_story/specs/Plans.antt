@@ -1,5 +1,5 @@
 -- What a step does where no device call fails, from the contents as they are.
-use Rattle.std.specs.Prelude.{ℕ, Bool, List, [], ◌∷◌, length, Option, Some, None, Result, Ok, Err}
+use Rattle.std.specs.Prelude.{ℕ, ◌+◌, min, nat_lt, Bool, true, false, List, [], ◌∷◌, length, Option, Some, None, Result, Ok, Err}
 use Rattle.pfr_flash.specs.Judging.{◌>>=◌, ◌>>◌, told_as}
 use Rattle.pfr_flash.specs.Layout.{judge_layout}
 use Rattle.pfr_flash.specs.Operation.{Operation}
@@ -31,17 +31,22 @@ use Rattle.pfr_capsule.specs.CapsuleState.{CapsuleState}
 use Rattle.pfr_capsule.specs.declared.fail.CapsuleFail.{CapsuleFail}
 use Rattle.pfr_auth.specs.Areas.{judge_area}
 use Rattle.pfr_auth.specs.Judge.{judge_active}
-use Rattle.pfr_auth.specs.declared.areas.Area.TheVariants.{Recovery}
+use Rattle.pfr_auth.specs.declared.areas.Area.TheVariants.{Recovery, Staging}
 use Rattle.pfr_auth.specs.declared.fail.ActiveFail.{ActiveFail}
-use Rattle.pfr_jobs.specs.declared.job.JobKind.TheVariants.{ActiveFromRecovery}
+use Rattle.pfr_jobs.specs.declared.job.JobKind.{JobKind}
+use Rattle.pfr_jobs.specs.declared.job.JobKind.TheVariants.{ActiveFromRecovery, ActiveFromStaging}
 use Rattle.pfr_strokes.specs.Strokes.{strokes_of}
 use Rattle.pfr_rebuilt.specs.ActiveCopying.{active_page, active_pages}
+use Rattle.pfr_script.specs.declared.event.Intent.{Intent}
+use Rattle.pfr_script.specs.declared.event.Intent.TheVariants.{Active, Full}
+use Rattle.pfr_watch.specs.declared.watch.Watch.{Watch}
 use Rattle.pfr_report.specs.declared.note.LockWhy.{LockWhy}
 use Rattle.pfr_report.specs.declared.note.LockWhy.TheVariants as lock
 use Rattle.pfr_report.specs.declared.note.ProvisionWhy.{ProvisionWhy}
 use Rattle.pfr_report.specs.declared.note.ProvisionWhy.TheVariants as refusal
+use Rattle.pfr_report.specs.declared.note.Refusal.TheVariants as refusing
 use Rattle.pfr_report.specs.declared.note.What.{What}
-use Rattle.pfr_report.specs.declared.note.What.TheVariants.{Held, Released, Locked, Untrusted, Restored, Provisioned, ProvisionRefused, BusPassed, BusBlocked, SmbusPassed, SmbusBlocked}
+use Rattle.pfr_report.specs.declared.note.What.TheVariants.{Held, Released, Locked, Untrusted, Restored, Provisioned, ProvisionRefused, BusPassed, BusBlocked, SmbusPassed, SmbusBlocked, Expired, Updated, Refused}
 use Rattle.pfr_story.specs.Guards.{guard_at}
 use Rattle.pfr_story.specs.Story.{Story, Move, Plan, then, says, called, image_at, device_of}
 
@@ -75,20 +80,24 @@ ready_of bank story = ready_in bank (length (mine bank story)) (fuses_of (store 
 abbrev pub judged_active : Acceptance → Bank → FusesState → Story → Result Manifest ActiveFail
 judged_active accepts bank fuses story = judge_active (mine bank story) bank fuses accepts
 
+abbrev pub judged_staging : Acceptance → Bank → FusesState → Story → Result CapsuleState CapsuleFail
+judged_staging accepts bank fuses story = judge_area Staging bank (mine bank story) fuses accepts
+
 abbrev pub judged_recovery : Acceptance → Bank → FusesState → Story → Result CapsuleState CapsuleFail
 judged_recovery accepts bank fuses story = judge_area Recovery bank (mine bank story) fuses accepts
 
--- what restores the active image from a capsule, at a level of recovery
-abbrev pub restore_ops : ℕ → List ℕ → CapsuleState → Layout → List Operation
-restore_ops level image capsule layout = strokes_of (active_page image capsule layout) (active_pages (ActiveFromRecovery level) image capsule layout)
+-- what makes the active image anew from a capsule, by a job
+abbrev pub job_ops : JobKind → List ℕ → CapsuleState → Layout → List Operation
+job_ops kind image capsule layout = strokes_of (active_page image capsule layout) (active_pages kind image capsule layout)
 
-abbrev pub copied : Bank → ℕ → FusesState → CapsuleState → Plan
-copied bank level fuses capsule story = called (device_of bank) (restore_ops level (mine bank story) capsule (layout_of fuses.provision bank))
+abbrev pub copied : Bank → JobKind → FusesState → CapsuleState → Plan
+copied bank kind fuses capsule story = called (device_of bank) (job_ops kind (mine bank story) capsule (layout_of fuses.provision bank))
 
+-- from the recovery area at a level of recovery
 abbrev pub restored : Bank → ℕ → FusesState → CapsuleState → Plan
-restored bank level fuses capsule = then (copied bank level fuses capsule) (says (λ _. Restored bank level))
+restored bank level fuses capsule = then (copied bank (ActiveFromRecovery level) fuses capsule) (says (λ _. Restored bank level))
 
--- the second check, behind a restore: what was restored is released, since it is trusted always
+-- the second check, behind that: what was made anew is released, since it is trusted always
 abbrev pub by_second : Bank → Result Manifest ActiveFail → Plan
 by_second bank (Ok m) = says (Released bank m.svn)
 by_second bank (Err why) = λ story. []
@@ -120,6 +129,51 @@ by_ready accepts bank (Err why) = says (Locked bank why)
 -- It is held, its fuses are read off the store, and it is checked.
 abbrev pub brought_up : Acceptance → Bank → Plan
 brought_up accepts bank = then (says (Held bank)) (then asks_store (λ story. by_ready accepts bank (ready_of bank story) story))
+
+-- ---- the watch over a bank's boot expires
+-- how many recoveries there are by an expiry, 4 at most
+abbrev pub level_after : Watch → ℕ
+level_after watch = min (watch.recoveries + 1) 4
+
+-- a bank is restored from a good capsule at this level, or locked where there is none
+abbrev pub by_capsule : Acceptance → Bank → FusesState → ℕ → Result CapsuleState CapsuleFail → Plan
+by_capsule accepts bank fuses level (Ok capsule) = then (restored bank level fuses capsule) (checked_again accepts bank fuses)
+by_capsule accepts bank fuses level (Err cause) = says (Locked bank (lock.NoRecovery cause))
+
+abbrev pub recovered_with : Acceptance → Bank → ℕ → Result FusesState LockWhy → Plan
+recovered_with accepts bank level (Ok fuses) = then (asks bank) (λ story. by_capsule accepts bank fuses level (judged_recovery accepts bank fuses story) story)
+recovered_with accepts bank level (Err why) = says (Locked bank why)
+
+-- the fourth expiry locks the bank
+abbrev pub by_level : Acceptance → Bank → ℕ → Bool → Plan
+by_level accepts bank level true = then asks_store (λ story. recovered_with accepts bank level (ready_of bank story) story)
+by_level accepts bank level false = says (Locked bank lock.WatchdogSpent)
+
+abbrev pub expired_to : Acceptance → Bank → ℕ → Plan
+expired_to accepts bank level = then (says (λ _. Expired bank level)) (then (says (Held bank)) (by_level accepts bank level (nat_lt level 4)))
+
+abbrev pub expired : Acceptance → Bank → Plan
+expired accepts bank story = expired_to accepts bank (level_after (guard_at bank story.guards).watch) story
+
+-- ---- the active image is updated from the staging area
+abbrev pub updated : Bank → Bool → FusesState → CapsuleState → Plan
+updated bank dynamic fuses capsule = then (copied bank (ActiveFromStaging dynamic) fuses capsule) (says (λ _. Updated bank dynamic capsule.manifest.svn))
+
+-- from a good capsule; one that isn't is refused, and the bank is checked as it is
+abbrev pub by_staged : Acceptance → Bank → Bool → FusesState → Result CapsuleState CapsuleFail → Plan
+by_staged accepts bank dynamic fuses (Ok capsule) = then (updated bank dynamic fuses capsule) (checked_again accepts bank fuses)
+by_staged accepts bank dynamic fuses (Err cause) = then (says (λ _. Refused bank (refusing.Capsule cause))) (tail accepts bank fuses)
+
+abbrev pub updated_with : Acceptance → Bank → Bool → Result FusesState LockWhy → Plan
+updated_with accepts bank dynamic (Ok fuses) = then (asks bank) (λ story. by_staged accepts bank dynamic fuses (judged_staging accepts bank fuses story) story)
+updated_with accepts bank dynamic (Err why) = says (Locked bank why)
+
+abbrev pub is_dynamic : Intent → Bool
+is_dynamic Active = false
+is_dynamic Full = true
+
+abbrev pub updating : Acceptance → Bank → Intent → Plan
+updating accepts bank intent = then (says (Held bank)) (then asks_store (λ story. updated_with accepts bank (is_dynamic intent) (ready_of bank story) story))
 
 -- ---- the fuses are read and migrated at power-on, where the store is provisioned and of profile 1
 abbrev pub migration_by : Profile → FusesState → List Operation

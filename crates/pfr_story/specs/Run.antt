@@ -13,7 +13,7 @@ use Rattle.pfr_script.specs.declared.arm.ArmWhat.TheVariants.{Cut, Fault, ReadFa
 use Rattle.pfr_script.specs.declared.item.Item.{Item}
 use Rattle.pfr_script.specs.declared.item.Item.TheVariants as item
 use Rattle.pfr_story.specs.World.{World, state_at}
-use Rattle.pfr_story.specs.Turn.{Turn, begun}
+use Rattle.pfr_story.specs.Turn.{Turn, next_item}
 
 -- how many of a device's arms it takes
 abbrev pub takes_arm : ArmWhat → ℕ
@@ -34,7 +34,7 @@ with_arm_at device.Nv what nth tear w = record w { nv = with_arm what nth tear w
 
 -- an arm is an item too
 abbrev pub armed : Arm → List ℕ → World → World
-armed arm tear w = begun (with_arm_at arm.device arm.what arm.nth tear w)
+armed arm tear w = next_item (with_arm_at arm.device arm.what arm.nth tear w)
 
 -- one item, whose tears are these
 abbrev pub Did : Acceptance → List (List ℕ) → Item → World → World → Type 0
