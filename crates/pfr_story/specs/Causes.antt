@@ -8,11 +8,12 @@ use Rattle.pfr_fuses.specs.FusesState.{FusesState}
 use Rattle.pfr_fuses.specs.FusesOf.{fuses_of}
 use Rattle.pfr_fuses.specs.RootSlot.{layout_of}
 use Rattle.pfr_fuses.specs.Slots.{IsUnset, HasBlank}
+use Rattle.pfr_capsule.specs.Good.{IsGood}
 use Rattle.pfr_capsule.specs.declared.fail.CapsuleFail.{CapsuleFail}
 use Rattle.pfr_auth.specs.Areas.{judge_area}
 use Rattle.pfr_auth.specs.Judge.{judge_active}
 use Rattle.pfr_auth.specs.Trusted.{IsTrusted}
-use Rattle.pfr_auth.specs.declared.areas.Area.TheVariants.{Recovery}
+use Rattle.pfr_auth.specs.declared.areas.Area.TheVariants.{Recovery, Staging}
 use Rattle.pfr_auth.specs.declared.fail.ActiveFail.{ActiveFail}
 use Rattle.pfr_recoverable.specs.Recoverable.{HasGoodRecovery}
 use Rattle.pfr_report.specs.declared.note.LockWhy.{LockWhy}
@@ -46,19 +47,31 @@ pub record IsAgainst (cause : ActiveFail) (which : Bank) (image nv : List ℕ) (
   pub layout : IsValidLayout (layout_of fuses.provision which) (length image)
   pub judged : judge_active image which fuses accepts ≡ Err cause
 
+-- this is the first cause against what stands in the staging area
+pub record HasBadStaging (cause : CapsuleFail) (which : Bank) (image nv : List ℕ) (accepts : Acceptance) : Type 0 where
+  pub fuses : FusesState
+  pub provisioned : fuses_of nv ≡ Ok fuses
+  pub judged : judge_area Staging which image fuses accepts ≡ Err cause
+
+-- a good capsule stands in the bank's staging area
+pub record HasGoodStaging (which : Bank) (image nv : List ℕ) (accepts : Acceptance) : Type 0 where
+  pub fuses : FusesState
+  pub provisioned : fuses_of nv ≡ Ok fuses
+  pub good : IsGood image (layout_of fuses.provision which).staging_at (layout_of fuses.provision which).area_len nv which accepts
+
 -- this is the first cause against what stands in the recovery area
 pub record HasBadRecovery (cause : CapsuleFail) (which : Bank) (image nv : List ℕ) (accepts : Acceptance) : Type 0 where
   pub fuses : FusesState
   pub provisioned : fuses_of nv ≡ Ok fuses
   pub judged : judge_area Recovery which image fuses accepts ≡ Err cause
 
--- When the contents allow a lock, and which. That a watch was spent isn't in the contents.
+-- when the contents call for a lock, and for which; locks for faults and of expired watches aren't among these
 abbrev pub IsDue : LockWhy → Bank → List ℕ → List ℕ → Acceptance → Type 0
 IsDue why.Unprovisioned which image nv accepts = IsUnset nv × HasBlank nv
 IsDue why.SlotsSpent which image nv accepts = IsUnset nv × ¬ HasBlank nv
 IsDue (why.Layout rule) which image nv accepts = IsMisplaced rule which image nv
 IsDue (why.NoGoodImage active recovery) which image nv accepts = IsAgainst active which image nv accepts × HasBadRecovery recovery which image nv accepts
-IsDue why.WatchdogSpent which image nv accepts = Unit {0}
-IsDue (why.NoRecovery recovery) which image nv accepts = HasBadRecovery recovery which image nv accepts
+IsDue why.WatchdogSpent which image nv accepts = ⊥
+IsDue (why.NoRecovery recovery) which image nv accepts = ⊥
 IsDue why.FlashFault which image nv accepts = ⊥
 IsDue why.StoreFault which image nv accepts = ⊥

@@ -12,6 +12,8 @@ pub mod Turn
 pub mod Promises
 pub mod Filtering
 pub mod Bringing
+pub mod Guarding
+pub mod Updating
 pub mod Spans
 pub mod Keeping
 pub mod Run

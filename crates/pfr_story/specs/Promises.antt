@@ -1,5 +1,5 @@
 -- What each step promises of its notes.
-use Rattle.std.specs.Prelude.{◌≡◌, ◌↔◌, ℕ, ◌+◌, ◌<◌, ◌≤◌, List, [], ◌∷◌, ◌++◌, Option, Some, None, Result, Ok, Err, true}
+use Rattle.std.specs.Prelude.{◌≡◌, ◌≢◌, ◌↔◌, ◌⊎◌, Bool, false, ℕ, ◌+◌, ◌<◌, ◌≤◌, List, [], ◌∷◌, ◌++◌, Option, Some, None, Result, Ok, Err, true}
 use Rattle.pfr_flash.specs.FlashState.{now, upto, Rose, size_of}
 use Rattle.pfr_flash.specs.declared.names.Bank.{Bank}
 use Rattle.pfr_flash.specs.declared.names.Bank.TheVariants as bank
@@ -12,20 +12,25 @@ use Rattle.pfr_fuses.specs.Provisioning.{judge_provision}
 use Rattle.pfr_fuses.specs.declared.fuse_fail.FuseFail.{FuseFail}
 use Rattle.pfr_fuses.specs.declared.root_slot.RootSlot.{RootSlot}
 use Rattle.pfr_auth.specs.declared.fail.ActiveFail.{ActiveFail}
+use Rattle.pfr_recoverable.specs.Recoverable.{HasGoodRecovery}
+use Rattle.pfr_watch.specs.Stages.{next_stage}
+use Rattle.pfr_watch.specs.declared.stage.Stage.{Stage}
+use Rattle.pfr_watch.specs.declared.stage.Stage.TheVariants.{Done}
 use Rattle.pfr_script.specs.declared.event.Event.{Event}
 use Rattle.pfr_script.specs.declared.event.Event.TheVariants as event
 use Rattle.pfr_report.specs.Texts.{IsNoted}
 use Rattle.pfr_report.specs.declared.note.LockWhy.{LockWhy}
 use Rattle.pfr_report.specs.declared.note.LockWhy.TheVariants as why
 use Rattle.pfr_report.specs.declared.note.Note.{Note}
-use Rattle.pfr_report.specs.declared.note.What.TheVariants.{Released, Locked, Lost, Untrusted, Restored, Provisioned, ProvisionRefused, Ignored, BusPassed, BusBlocked, SmbusPassed, SmbusBlocked}
+use Rattle.pfr_report.specs.declared.note.What.TheVariants.{Released, Locked, Lost, Untrusted, Restored, Provisioned, ProvisionRefused, Ignored, BusPassed, BusBlocked, SmbusPassed, SmbusBlocked, Expired, Passed, Booted, Updated, Refused}
 use Rattle.pfr_report.specs.declared.note.ProvisionWhy.{ProvisionWhy}
 use Rattle.pfr_report.specs.declared.note.What.{What}
 use Rattle.pfr_story.specs.Story.{device_of}
 use Rattle.pfr_story.specs.World.{World, story_of, counts_in, state_at, NoneFailed, IsOn, IsDark, SameDevices, added}
 use Rattle.pfr_story.specs.Standing.{standing_of, is_off, Off, Running}
-use Rattle.pfr_story.specs.Plans.{refusal_of}
-use Rattle.pfr_story.specs.Turn.{is_idle}
+use Rattle.pfr_story.specs.Guards.{guard_at}
+use Rattle.pfr_story.specs.Plans.{refusal_of, level_after, is_dynamic}
+use Rattle.pfr_story.specs.Turn.{is_idle, is_due, stage_at}
 use Rattle.pfr_story.specs.Causes.{IsTrustedWith, IsRestorable, IsAgainst, IsDue}
 
 -- the count of a bank's operations
@@ -59,15 +64,21 @@ IsFaultLock why.FlashFault = Unit {0}
 IsFaultLock why.StoreFault = Unit {0}
 IsFaultLock cause = ⊥
 
+-- a lock that an expired watch calls for
+abbrev pub IsWatchLock : LockWhy → Type 0
+IsWatchLock why.WatchdogSpent = Unit {0}
+IsWatchLock (why.NoRecovery recovery) = Unit {0}
+IsWatchLock cause = ⊥
+
 -- a bank is locked for a fault only where a count of faults rose: its own device's, or the store's
 pub record FaultsHaveCauses (old new : World) : Type 0 where
   pub flash : (which : Bank) (at : Counts) → IsNoted (added old new) (Locked which why.FlashFault at)
       → Rose (state_at (device_of which) old).faults (state_at (device_of which) new).faults
   pub store : (which : Bank) (at : Counts) → IsNoted (added old new) (Locked which why.StoreFault at) → Rose old.nv.faults new.nv.faults
 
--- Each other lock has its cause in the contents at its counts.
+-- Each lock, but for a fault or by an expired watch, has its cause in the contents at its counts.
 abbrev pub LocksHaveCauses : Acceptance → World → World → Type 0
-LocksHaveCauses accepts old new = (which : Bank) (cause : LockWhy) (at : Counts) → IsNoted (added old new) (Locked which cause at) → ¬ IsFaultLock cause
+LocksHaveCauses accepts old new = (which : Bank) (cause : LockWhy) (at : Counts) → IsNoted (added old new) (Locked which cause at) → ¬ IsFaultLock cause → ¬ IsWatchLock cause
     → AtCounts (λ image nv. IsDue cause which image nv accepts) which at new
 
 -- An image is called untrusted only with the first cause against it, at a moment of the step; also where a call fails behind it.
@@ -75,11 +86,15 @@ abbrev pub DistrustsWithCause : Acceptance → World → World → Type 0
 DistrustsWithCause accepts old new = (which : Bank) (cause : ActiveFail) → IsNoted (added old new) (Untrusted which cause)
     → (at : Counts) × IsMoment old new at × AtCounts (λ image nv. IsAgainst cause which image nv accepts) which at new
 
--- A bank is restored only at level 1, and where its image isn't trusted and a good capsule stands in its recovery area, at a
--- moment of the step.
+-- A bank is restored only where a good capsule stands in its recovery area, at a moment of the step: at level 1 where its image
+-- isn't trusted, and else at the level to which its watch expired.
+abbrev pub CallsForRestore : Acceptance → Bank → ℕ → List Note → List ℕ → List ℕ → Type 0
+CallsForRestore accepts which level notes image nv =
+    ((level ≡ 1) × IsRestorable which image nv accepts) ⊎ (IsNoted notes (Expired which level) × HasGoodRecovery which image nv accepts)
+
 abbrev pub RestoresGood : Acceptance → World → World → Type 0
 RestoresGood accepts old new = (which : Bank) (level : ℕ) → IsNoted (added old new) (Restored which level)
-    → (level ≡ 1) × ((at : Counts) × IsMoment old new at × AtCounts (λ image nv. IsRestorable which image nv accepts) which at new)
+    → (at : Counts) × IsMoment old new at × AtCounts (CallsForRestore accepts which level (added old new)) which at new
 
 -- no bank is locked for a fault
 pub record IsUndisturbed (notes : List Note) : Type 0 where
@@ -180,11 +195,32 @@ abbrev pub IsSmbus : Bank → Event → Type 0
 IsSmbus which (event.Smbus b frame) = b ≡ which
 IsSmbus which e = ⊥
 
+abbrev pub IsUpdate : Bank → Bool → Event → Type 0
+IsUpdate which dynamic (event.Update b intent) = (b ≡ which) × (is_dynamic intent ≡ dynamic)
+IsUpdate which dynamic e = ⊥
+
+abbrev pub IsPassing : Bank → Event → Type 0
+IsPassing which (event.Boot b true) = b ≡ which
+IsPassing which e = ⊥
+
 abbrev pub Runs : Bank → World → Type 0
 Runs which w = standing_of which w.notes.list ≡ Running
 
+-- a bank that runs is at this stage of its boot, which isn't done
+pub record IsAtStage (which : Bank) (stage : Stage) (w : World) : Type 0 where
+  pub runs : Runs which w
+  pub at : stage_at which (story_of w) ≡ stage
+  pub undone : stage ≢ Done
+
+-- the watch of a bank that runs expires: by ticks, or since its boot failed
+abbrev pub IsExpiring : Event → Bank → World → Type 0
+IsExpiring (event.Tick n) which old = is_due which n (story_of old) ≡ true
+IsExpiring (event.Boot b false) which old = (b ≡ which) × (is_idle (event.Boot b false) (story_of old) ≡ false)
+IsExpiring e which old = ⊥
+
 -- An event is noted to be ignored only where it isn't taken; what a provision comes to is noted only at a provision of banks that
--- aren't off, and what a frame comes to only at a frame on that bus of that bank, which runs.
+-- aren't off; what a frame comes to only at a frame on that bus of that bank, which runs; stages only as they are passed, expiries
+-- only where a watch expires, to the next count of recoveries; and updates only at an update of a bank that runs.
 abbrev pub BelongsTo : Event → World → What → Type 0
 BelongsTo e old Ignored = IsIdle e old
 BelongsTo e old Provisioned = ¬ AreOff old × IsProvision e
@@ -193,6 +229,11 @@ BelongsTo e old (BusPassed which op) = Runs which old × IsSpi which e
 BelongsTo e old (BusBlocked which why) = Runs which old × IsSpi which e
 BelongsTo e old (SmbusPassed which) = Runs which old × IsSmbus which e
 BelongsTo e old (SmbusBlocked which why) = Runs which old × IsSmbus which e
+BelongsTo e old (Expired which level) = IsExpiring e which old × (level ≡ level_after (guard_at which old.guards).watch)
+BelongsTo e old (Passed which stage) = IsPassing which e × IsAtStage which stage old × (next_stage stage ≢ Done)
+BelongsTo e old (Booted which) = IsPassing which e × (stage : Stage) × IsAtStage which stage old × (next_stage stage ≡ Done)
+BelongsTo e old (Updated which dynamic svn) = Runs which old × IsUpdate which dynamic e
+BelongsTo e old (Refused which why) = Runs which old × (dynamic : Bool) × IsUpdate which dynamic e
 BelongsTo e old what = Unit {0}
 
 abbrev pub NotesBelong : Event → World → World → Type 0
