@@ -15,11 +15,11 @@ use Rattle.pfr_filter.specs.declared.verdict.BusOp.TheVariants.{Read, Status, Id
 abbrev pub address_of : List ℕ → ℕ
 address_of frame = big_at frame 1 4
 
--- The bytes of a page of 256 bytes that is programmed from a place in it on: byte i of the data stands at (place + i) % 256,
--- and 0xFF where nothing goes.
+-- The bytes of a page of 256 bytes into which these are programmed from a place in it on: byte i of them stands at
+-- (place + i) % 256, and 0xFF where none goes.
 abbrev pub page_with : ℕ → List ℕ → List ℕ
-page_with place data =
-    let padded : List ℕ = data ++ replicate (256 - length data) 255 in
+page_with place bytes =
+    let padded : List ℕ = bytes ++ replicate (256 - length bytes) 255 in
     drop (256 - place) padded ++ take (256 - place) padded
 
 -- what a frame asks for, by its opcode

@@ -1,3 +1,4 @@
 pub mod Opcodes
 pub mod Asking
 pub mod Frames
+pub mod Rows

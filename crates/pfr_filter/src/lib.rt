@@ -2,6 +2,7 @@
 //! its processor write.
 #![tactic(auto)]
 
+mod asking;
 mod command;
 mod judged;
 mod judging;
