@@ -1,9 +1,10 @@
 // Which of the pages that a frame would write the bus may not write.
-ghost use Rattle.std.specs.Prelude.{◌≡◌, ◌+◌, ◌*◌, ◌≤◌, length};
+ghost use Rattle.std.specs.Prelude.{◌≡◌, ◌+◌, ◌≤◌, ◌||◌, length};
 ghost use Rattle.pfr_flash.specs.declared.layout.Layout.{Layout};
 ghost use Rattle.pfr_manifest.specs.Stretches.{is_page_within, lets_write, writable_by};
 ghost use Rattle.pfr_filter.specs.Asking.{IsFormed, numbers_from, pages_of};
 ghost use Rattle.pfr_filter.specs.Frames.{first_without};
+ghost use Rattle.pfr_filter.specs.Walking.{IsFirstBehind};
 
 use crate::verdict::BusOp;
 use pfr_flash::Layout;
@@ -22,11 +23,8 @@ fn is_page_within(page: u32, from: u32, upto: u64) -> bool
 fn is_in_staging(page: u32, layout: &Layout) -> bool
     ensures { result ≡ is_page_within page layout.now.staging_at (layout.now.staging_at + layout.now.area_len) }
 {
-    is_page_within(
-        page,
-        layout.staging_at,
-        layout.staging_at as u64 + layout.area_len as u64,
-    )
+    let upto = layout.staging_at as u64 + layout.area_len as u64;
+    is_page_within(page, layout.staging_at, upto)
 }
 
 // Whether the stretch lets the bus write the page.
@@ -36,8 +34,39 @@ fn lets_write(page: u32, stretch: &Stretch) -> bool
     stretch.writable && is_page_within(page, stretch.start, stretch.end as u64)
 }
 
-// The first of so many pages from one on that the bus may not write. The first stretch that ends behind the begin of a page is
-// that of the page before it, or the next one where that stretch ends there: so it looks at one for each page.
+// Whether the bus may write the page: the stretch lets it, or it lies in the staging area.
+fn may_write(page: u32, stretch: &Stretch, layout: &Layout) -> bool
+    ensures { result ≡ (lets_write page stretch.now || is_page_within page layout.now.staging_at (layout.now.staging_at + layout.now.area_len)) }
+{
+    lets_write(page, stretch) || is_in_staging(page, layout)
+}
+
+// Whether the bus may write a page, and which stretch is the first behind the begin of the page after it: that behind its
+// own, or the next one.
+fn look_at<L: Ledger>(
+    table: &RegionTable,
+    layout: &Layout,
+    page: u32,
+    number: u32,
+    steps: &mut Steps<L>,
+) -> (bool, u32)
+    requires { IsFirstBehind table.now page number }
+    ensures open { result.0 ≡ writable_by table.now layout.now page }
+    ensures next { IsFirstBehind table.now (page + 1) result.1 }
+    ensures cost { steps.new ≤ steps.old + 1 }
+{
+    if number >= table.len() {
+        return (is_in_staging(page, layout), number);
+    }
+    let stretch = table.probe(number, steps);
+    let open = may_write(page, &stretch, layout);
+    if stretch.end as u64 <= 4096 * (page as u64 + 1) {
+        return (open, number + 1);
+    }
+    (open, number)
+}
+
+// The first of so many pages from one on that the bus may not write.
 fn first_closed<L: Ledger>(
     table: &RegionTable,
     layout: &Layout,
@@ -52,24 +81,19 @@ fn first_closed<L: Ledger>(
     if count == 0 {
         return None;
     }
-    let mut next = table.first_behind(4096 * first, steps);
+    let mut number = table.first_behind(4096 * first, steps);
     for page in first..first + count {
-        let mut open = is_in_staging(page, layout);
-        if next < table.len() {
-            let stretch = table.probe(next, steps);
-            open = open || lets_write(page, &stretch);
-            if stretch.end as u64 <= 4096 * (page as u64 + 1) {
-                next += 1;
-            }
-        }
+        let (open, next) = look_at(table, layout, page, number, steps);
         if !open {
             return Some(page);
         }
+        number = next;
     }
     None
 }
 
 /// The first of the pages that it would write which the bus may not write.
+#[tactic(auto, unfolding(crate::specs::Frames::first_without))]
 pub(crate) fn first_closed_of<L: Ledger>(
     op: &BusOp,
     table: &RegionTable,
