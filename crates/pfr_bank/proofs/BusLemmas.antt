@@ -25,7 +25,7 @@ use Rattle.pfr_auth.proofs.LeavingLaw.{left_image}
 use Rattle.pfr_filter.specs.Asking.{IsFormed, IsSafe, bus_ops, numbers_from}
 use Rattle.pfr_filter.specs.Frames.{IsFormedVerdict, IsSafePass, Passes, judge_spi, verdict_of, verdict_on}
 use Rattle.pfr_filter.specs.declared.verdict.BusOp.{BusOp}
-use Rattle.pfr_filter.specs.declared.verdict.BusOp.TheVariants.{Erase}
+use Rattle.pfr_filter.specs.declared.verdict.BusOp.TheVariants.{Erase, Program}
 use Rattle.pfr_filter.specs.declared.verdict.Verdict.{Verdict}
 use Rattle.pfr_filter.specs.declared.verdict.Verdict.TheVariants.{Pass}
 use Rattle.pfr_filter.proofs.JudgeLaws.{verdict_passes}
@@ -43,6 +43,13 @@ judged_by_manifest frame m layout table count size latch verdict op tabled sized
     is ∙ ap (λ (t : List Stretch). verdict_of (judge_spi frame (writable_by t layout) count latch)) tabled ∙ ap (λ (n : ℕ). verdict_on frame m layout n latch) sized in
     subst (λ (v : Verdict). (v ≡ Pass op) ↔ Passes frame (IsWritable m layout) size latch op) (sym found)
     (verdict_passes frame (writable_by (stretches_of m) layout) (IsWritable m layout) (Decides-writable m layout) size latch op)
+
+-- ---- what writes nothing
+pub follows_nothing : (op : BusOp) (d : FlashState) → ((at : ℕ) (page : List ℕ) → op ≡ Program at page → ⊥) → ((sector count : ℕ) → op ≡ Erase sector count → ⊥)
+    → Follows {A = Unit {0}} (bus_ops op) d d (Ok tt)
+follows_nothing (Program at page) d no_program no_erase = absurd (no_program at page refl)
+follows_nothing (Erase sector count) d no_program no_erase = absurd (no_erase sector count refl)
+follows_nothing _ d no_program no_erase = Follows-none d tt
 
 -- ---- sectors
 -- the erases of so many sectors from one on

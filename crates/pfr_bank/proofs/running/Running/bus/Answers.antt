@@ -1,4 +1,4 @@
-use Rattle.std.proofs.Common.{◌≡◌, ◌∙◌, sym}
+use Rattle.std.proofs.Common.{◌∙◌, sym}
 use Rattle.pfr_bank.proofs.BusLemmas.{bus_inside, bus_leaves_image, bus_leaves_recovery, bus_spells}
 use Rattle.pfr_bank.proofs.running.Running.bus.Goals as goal
 
