@@ -9,7 +9,7 @@ carry_out-requires-clause-inside g c =
 pub invariant_of-self : goal.invariant_of-self
 invariant_of-self g c = (
   bus_spells g.F.Flash.device _ _ c.self.view_is c.args.judged.now c.in-Pass.op (sym c.verdict.ensures.is ∙ c.in-Pass.is) c.verdict.ensures.formed c.requires c.self.invariant.0
-  _ c.carry_out.result c.carry_out.ensures.follows,
+      _ c.carry_out.result c.carry_out.ensures.follows,
   c.self.invariant.1,
 )
 
@@ -26,7 +26,7 @@ returns-in_err-carry_out-clause-recovery g c =
 pub invariant_of-self-2 : goal.invariant_of-self-2
 invariant_of-self-2 g c = (
   bus_spells g.F.Flash.device _ _ c.self.view_is c.args.judged.now c.in-Pass.op (sym c.verdict.ensures.is ∙ c.in-Pass.is) c.verdict.ensures.formed c.requires c.self.invariant.0
-  _ c.carry_out.result c.carry_out.ensures.follows,
+      _ c.carry_out.result c.carry_out.ensures.follows,
   c.self.invariant.1,
 )
 
