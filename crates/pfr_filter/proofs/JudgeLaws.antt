@@ -6,6 +6,7 @@ use Rattle.std.proofs.lemmas.Bool.{cases_Bool, eqb-true}
 use Rattle.std.proofs.lemmas.Bool.Decides.{Decides-ltb, Decides-like}
 use Rattle.std.proofs.lemmas.List.{length-replicate}
 use Rattle.std.proofs.lemmas.List.Elements.{All-nil, All-cons, All-head, All-tail}
+use Rattle.pfr_flash.specs.Bytes.{bytes_at}
 use Rattle.pfr_flash.specs.Judging.{◌>>=◌, ◌>>◌, require, known, require_none}
 use Rattle.pfr_flash.proofs.JudgingLemmas.{passed, passed_known, passed_test, passed_none, goes_on, Decides-le, Decides-true}
 use Rattle.pfr_filter.specs.Opcodes.{chip_erase, command_of, needs, is_addressed}
@@ -136,7 +137,7 @@ formed ReadId frame size few small inside = tt
 formed WriteEnable frame size few small inside = tt
 formed WriteDisable frame size few small inside = tt
 formed PageProgram frame size few small inside =
-    (omega arith, length-page_with (address_of frame % 256) (drop 5 frame) (omega arith) (omega (arith, length-drop 5 frame)))
+    (omega arith, length-page_with (address_of frame % 256) (bytes_at frame 5 256) (omega arith) (omega (arith, length-take 256 (drop 5 frame))))
 formed SectorErase frame size few small inside = let less = inside refl in omega (arith, less)
 formed BlockErase frame size few small inside = let less = inside refl in omega (arith, less)
 
