@@ -7,6 +7,7 @@ pub mod BringRules
 pub mod Courses
 pub mod BusRules
 pub mod Rulings
+pub mod RulingLaws
 pub mod Traces
 pub mod StepTraces
 pub mod Facts
