@@ -102,9 +102,11 @@ def row_case(head, lines, row):
 
 
 def table_cases(head, lines):
-    """A case for each row of the table, which is the last line of these."""
-    if not lines or lines[-1].words[0] != "rows":
+    """A case for each row of the table, which is the last line of these; behind `times` so many without columns."""
+    if not lines or lines[-1].words[0] not in ("rows", "times"):
         raise CaseFault(f"{head.place}: a table without rows")
+    if lines[-1].words[0] == "times":
+        return [row_case(head, lines[:-1], {"row": f"{time:03}"}) for time in range(1, int(lines[-1].words[1]) + 1)]
     columns = lines[-1].words[1:]
     cases = []
     for number, text in enumerate(lines[-1].block, 1):
