@@ -1,5 +1,5 @@
 -- Numbers that digits spell.
-use Rattle.std.proofs.Common.{◌≡◌, ℕ, ◌+◌, ◌*◌, ◌<◌, ◌≤◌, Bool, true, false, nat_le, List, [], ◌∷◌, length, Result, Ok, Err, refl, arith, rules}
+use Rattle.std.proofs.Common.{◌≡◌, ℕ, ◌+◌, ◌*◌, ◌<◌, ◌≤◌, Bool, true, false, nat_le, List, [], ◌∷◌, length, Result, Ok, Err, refl, ◌∙◌, arith, rules}
 use Rattle.std.specs.Prelude.{IfOk}
 use Rattle.std.specs.Char.{is_ascii_digit, digit_value}
 use Rattle.std.specs.List.{list_all}
@@ -75,3 +75,12 @@ pub narrowed : (most : ℕ) (word : List ℕ) → most ≤ 4294967295 →
     judge_number most word ≡ (judge_number 4294967295 word >>= λ number. require causes.Number (nat_le number most) >> Ok number)
 unfolding judge_number
 narrowed most word h = narrowed_by (is_numeral word) (nat_le (digits_value 10 word) 4294967295) (digits_value 10 word) most h refl
+
+pub narrow_in : (most : ℕ) (word : List ℕ) (n : ℕ) → most ≤ 4294967295 → judge_number 4294967295 word ≡ Ok n → n ≤ most → judge_number most word ≡ Ok n
+narrow_in most word n wide is few = let small : nat_le n most ≡ true = grind (arith, nat_tests) in narrowed most word wide ∙ rw (is, small) refl
+
+pub narrow_out : (most : ℕ) (word : List ℕ) (n : ℕ) → most ≤ 4294967295 → judge_number 4294967295 word ≡ Ok n → most < n → judge_number most word ≡ Err causes.Number
+narrow_out most word n wide is many = let large : nat_le n most ≡ false = grind (arith, nat_tests) in narrowed most word wide ∙ rw (is, large) refl
+
+pub narrow_err : (most : ℕ) (word : List ℕ) (why : ScriptWhy) → most ≤ 4294967295 → judge_number 4294967295 word ≡ Err why → judge_number most word ≡ Err why
+narrow_err most word why wide is = narrowed most word wide ∙ rw is refl
