@@ -22,21 +22,23 @@ use Rattle.pfr_fuses.specs.RootSlot.{slot_of}
 use Rattle.pfr_script.specs.declared.arm.ArmWhat.{ArmWhat}
 use Rattle.pfr_script.specs.declared.arm.ArmWhat.TheVariants.{Cut, Fault, ReadFault}
 use Rattle.pfr_script.specs.declared.event.Event.{Event}
-use Rattle.pfr_script.specs.declared.event.Event.TheVariants.{Power, Off, Spi, Smbus, Provision}
+use Rattle.pfr_script.specs.declared.event.Event.TheVariants.{Power, Off, Tick, Boot, Spi, Smbus, Update, Provision}
+use Rattle.pfr_script.specs.declared.event.Intent.{Intent}
+use Rattle.pfr_script.specs.declared.event.Intent.TheVariants.{Active, Full}
 use Rattle.pfr_script.specs.declared.line.Line.{Line}
 use Rattle.pfr_script.specs.declared.line.Line.TheVariants.{Happens, Arms}
 use Rattle.pfr_script.specs.declared.script_why.ScriptWhy.{ScriptWhy}
 use Rattle.pfr_script.specs.declared.script_why.ScriptWhy.TheVariants as causes
-use Rattle.pfr_script.specs.Words.{one_word, two_words, three_words, bank_of, device_of}
+use Rattle.pfr_script.specs.Words.{one_word, two_words, three_words, bank_of, bank_and_word, pass_of, intent_of, device_of}
 use Rattle.pfr_script.specs.Numbers.{begins_above_zero, is_numeral, judge_number}
 use Rattle.pfr_script.specs.Hex.{decoded, judge_frame, judge_slot, judge_tear}
-use Rattle.pfr_script.specs.Line.{judge_alone, judge_frame_line, judge_spi, judge_smbus, judge_provision, judge_torn, judge_read_fault, judge_words, judge_first}
-use Rattle.pfr_script.specs.Grammar.{bank_word, device_word, SaysFrame, SaysFrameLine, SaysSlot, SaysTear, IsNth, SaysTorn, Says}
+use Rattle.pfr_script.specs.Line.{judge_alone, judge_tick, judge_boot, judge_frame_line, judge_spi, judge_smbus, judge_update, judge_provision, judge_torn, judge_read_fault, judge_words, judge_first}
+use Rattle.pfr_script.specs.Grammar.{bank_word, device_word, pass_word, intent_word, SaysFrame, SaysFrameLine, SaysSlot, SaysTear, IsUpTo, IsNth, SaysTorn, Says}
 use Rattle.pfr_script.proofs.NumberLemmas.{numerals, some_digit, above_zero}
 use Rattle.pfr_flash.proofs.JudgingLemmas.{Decides-le, passed, passed_part, passed_unit, passed_last}
 use Rattle.pfr_script.proofs.WordLemmas.{ok_same, word_said, word_some, one_ok, two_ok, three_ok, one_said, two_said, three_said}
 
--- banks and devices
+-- banks, devices, how a boot went, intents
 
 bank_is : (word : List ℕ) (bank : Bank) → known causes.Word (bank_of word) ≡ Ok bank → word ≡ bank_word bank
 bank_is word banks.Bmc h = grind (arith, bytes_eq-Decides)
@@ -65,6 +67,30 @@ device_some Bmc = refl
 device_some Pch = refl
 device_some Nv = refl
 
+pass_is : (word : List ℕ) (pass : Bool) → known causes.Word (pass_of word) ≡ Ok pass → word ≡ pass_word pass
+pass_is word true h = grind (arith, bytes_eq-Decides)
+pass_is word false h = grind (arith, bytes_eq-Decides)
+
+pass_said : (pass : Bool) → pass_of (pass_word pass) ≡ Some pass
+pass_said true = refl
+pass_said false = refl
+
+pass_some : (pass : Bool) → is_word (pass_word pass) ≡ true
+pass_some true = refl
+pass_some false = refl
+
+intent_is : (word : List ℕ) (intent : Intent) → known causes.Word (intent_of word) ≡ Ok intent → word ≡ intent_word intent
+intent_is word Active h = grind (arith, bytes_eq-Decides)
+intent_is word Full h = grind (arith, bytes_eq-Decides)
+
+intent_said : (intent : Intent) → intent_of (intent_word intent) ≡ Some intent
+intent_said Active = refl
+intent_said Full = refl
+
+intent_some : (intent : Intent) → is_word (intent_word intent) ≡ true
+intent_some Active = refl
+intent_some Full = refl
+
 -- numbers
 
 first_not : (word : List ℕ) → begins_above_zero word ≡ true → get_or word 0 0 ≡ 48 → length word ≡ 1
@@ -75,32 +101,41 @@ begins_from : (word : List ℕ) → 48 < get_or word 0 0 → begins_above_zero w
 begins_from [] h = absurd (omega (arith, h))
 begins_from (first ∷ others) h = (Decides-ltb 48 first).1 h
 
-number_is : (word : List ℕ) (n : ℕ) → judge_number word ≡ Ok n → (word ≡ decimal n) × IsNth n
+number_is : (most : ℕ) (word : List ℕ) (n : ℕ) → most ≤ 4294967295 → judge_number most word ≡ Ok n → (word ≡ decimal n) × IsUpTo most n
 unfolding judge_number
-number_is word n h =
+number_is most word n wide h =
     let value = digits_value 10 word in
-    let a = passed_unit (require causes.Number (is_numeral word)) (require causes.Number (nat_le value 4294967295) >> Ok value) n h in
-    let b = passed_unit (require causes.Number (nat_le value 4294967295)) (Ok value) n a.1 in
+    let a = passed_unit (require causes.Number (is_numeral word)) (require causes.Number (nat_le value most) >> Ok value) n h in
+    let b = passed_unit (require causes.Number (nat_le value most)) (Ok value) n a.1 in
     let p = and_parts (list_all is_ascii_digit word) (begins_above_zero word) (passed_last causes.Number (is_numeral word) a.0) in
-    let range : nat_le value 4294967295 ≡ true = passed_last causes.Number (nat_le value 4294967295) b.0 in
-    let most : value ≤ 4294967295 = grind (arith, nat_tests) in
+    let range : nat_le value most ≡ true = passed_last causes.Number (nat_le value most) b.0 in
+    let few : value ≤ most = grind (arith, nat_tests) in
     let same : value ≡ n = ok_same value n b.1 in
     let least : 1 ≤ value = above_zero word p.0 p.1 in
-    let text : decimal value ≡ word = decimal-digits_value numerals word p.0 (some_digit word p.1) (first_not word p.1) (omega (arith, most)) in
-    (sym text ∙ ap decimal same, (rw (sym same) least, rw (sym same) most))
+    let text : decimal value ≡ word = decimal-digits_value numerals word p.0 (some_digit word p.1) (first_not word p.1) (omega (arith, few, wide)) in
+    (sym text ∙ ap decimal same, (rw (sym same) least, rw (sym same) few))
 
-number_said : (n : ℕ) → IsNth n → judge_number (decimal n) ≡ Ok n
+number_said : (most n : ℕ) → most ≤ 4294967295 → IsUpTo most n → judge_number most (decimal n) ≡ Ok n
 unfolding judge_number
-number_said n h =
-    let small : n < 2 ^ 64 = omega (arith, h.1) in
+number_said most n wide h =
+    let small : n < 2 ^ 64 = omega (arith, h.1, wide) in
     let digits : list_all is_ascii_digit (decimal n) ≡ true = digits_decimal numerals n small in
     let begins : begins_above_zero (decimal n) ≡ true = begins_from (decimal n) (first_decimal n (omega (arith, h.0)) small) in
     let value : digits_value 10 (decimal n) ≡ n = digits_value-decimal numerals n small in
-    let range : nat_le n 4294967295 ≡ true = grind (arith, nat_tests) in
+    let range : nat_le n most ≡ true = grind (arith, nat_tests, h.1) in
     rw (digits, begins, value, range) refl
 
-number_some : (n : ℕ) → IsNth n → is_word (decimal n) ≡ true
-number_some n h = word_said (decimal n) (decimal_nonempty n (omega (arith, h.1)))
+number_some : (most n : ℕ) → most ≤ 4294967295 → IsUpTo most n → is_word (decimal n) ≡ true
+number_some most n wide h = word_said (decimal n) (decimal_nonempty n (omega (arith, h.1, wide)))
+
+nth_is : (word : List ℕ) (nth : ℕ) → judge_number 4294967295 word ≡ Ok nth → (word ≡ decimal nth) × IsNth nth
+nth_is word nth h = number_is 4294967295 word nth (omega arith) h
+
+nth_said : (nth : ℕ) → IsNth nth → judge_number 4294967295 (decimal nth) ≡ Ok nth
+nth_said nth h = number_said 4294967295 nth (omega arith) h
+
+nth_some : (nth : ℕ) → IsNth nth → is_word (decimal nth) ≡ true
+nth_some nth h = number_some 4294967295 nth (omega arith) h
 
 -- hex
 
@@ -189,6 +224,32 @@ alone_is : (event : Event) (words : List (List ℕ)) (line : Line) → judge_alo
 alone_is event [] line h = (refl, ok_same (Happens event) line h)
 alone_is event (word ∷ words) line h = cc
 
+tick_said : (ticks : ℕ) → IsUpTo 65535 ticks → judge_tick (decimal ticks ∷ []) ≡ Ok (Happens (Tick ticks))
+unfolding judge_tick
+tick_said ticks h =
+    let wide : 65535 ≤ 4294967295 = omega arith in
+    rw (one_said (decimal ticks) (number_some 65535 ticks wide h), number_said 65535 ticks wide h) refl
+
+bank_and_word_is : (words : List (List ℕ)) (parts : Bank × List ℕ) → bank_and_word words ≡ Ok parts → words ≡ bank_word parts.0 ∷ parts.1 ∷ []
+unfolding bank_and_word
+bank_and_word_is words parts h =
+    let a = passed_part (two_words words) (λ parts. known causes.Word (bank_of parts.0) >>= λ bank. Ok (bank, parts.1)) parts h in
+    let b = passed_part (known causes.Word (bank_of a.0.0)) (λ bank. Ok (bank, a.0.1)) parts a.2 in
+    let words_are = (two_ok words a.0 a.1).0 ∙ ap (λ w. w ∷ a.0.1 ∷ []) (bank_is a.0.0 b.0 b.1) in
+    words_are ∙ ap (λ (p : Bank × List ℕ). bank_word p.0 ∷ p.1 ∷ []) (ok_same (b.0, a.0.1) parts b.2)
+
+bank_and_word_said : (bank : Bank) (word : List ℕ) → is_word word ≡ true → bank_and_word (bank_word bank ∷ word ∷ []) ≡ Ok (bank, word)
+unfolding bank_and_word
+bank_and_word_said bank word h = rw (two_said (bank_word bank) word (bank_some bank) h, bank_said bank) refl
+
+boot_said : (bank : Bank) (pass : Bool) → judge_boot (bank_word bank ∷ pass_word pass ∷ []) ≡ Ok (Happens (Boot bank pass))
+unfolding judge_boot
+boot_said bank pass = rw (bank_and_word_said bank (pass_word pass) (pass_some pass), pass_said pass) refl
+
+update_said : (bank : Bank) (intent : Intent) → judge_update (bank_word bank ∷ intent_word intent ∷ []) ≡ Ok (Happens (Update bank intent))
+unfolding judge_update
+update_said bank intent = rw (bank_and_word_said bank (intent_word intent) (intent_some intent), intent_said intent) refl
+
 -- what a line says behind `spi` or `smbus`
 pub record IsFrameLine (most : ℕ) (words : List (List ℕ)) (parts : Bank × List ℕ) : Type 0 where
   bank : Bank
@@ -201,22 +262,21 @@ pub record IsFrameLine (most : ℕ) (words : List (List ℕ)) (parts : Bank × L
 frame_line_is : (most : ℕ) (words : List (List ℕ)) (parts : Bank × List ℕ) → judge_frame_line most words ≡ Ok parts → IsFrameLine most words parts
 unfolding judge_frame_line
 frame_line_is most words parts h =
-    let a = passed_part (two_words words) (λ parts. known causes.Word (bank_of parts.0) >>= λ bank. judge_frame most parts.1 >>= λ frame. Ok (bank, frame)) parts h in
-    let b = passed_part (known causes.Word (bank_of a.0.0)) (λ bank. judge_frame most a.0.1 >>= λ frame. Ok (bank, frame)) parts a.2 in
-    let c = passed_part (judge_frame most a.0.1) (λ frame. Ok (b.0, frame)) parts b.2 in
+    let a = passed_part (bank_and_word words) (λ parts. judge_frame most parts.1 >>= λ frame. Ok (parts.0, frame)) parts h in
+    let b = passed_part (judge_frame most a.0.1) (λ frame. Ok (a.0.0, frame)) parts a.2 in
     record {
-      bank = b.0;
-      frame = c.0;
+      bank = a.0.0;
+      frame = b.0;
       word = a.0.1;
-      says = frame_is most a.0.1 c.0 c.1;
-      words_are = (two_ok words a.0 a.1).0 ∙ ap (λ w. w ∷ a.0.1 ∷ []) (bank_is a.0.0 b.0 b.1);
-      parts_are = ok_same (b.0, c.0) parts c.2;
+      says = frame_is most a.0.1 b.0 b.1;
+      words_are = bank_and_word_is words a.0 a.1;
+      parts_are = ok_same (a.0.0, b.0) parts b.2;
     }
 
 frame_line_said : (most : ℕ) (bank : Bank) (word frame : List ℕ) → SaysFrame word frame most → judge_frame_line most (bank_word bank ∷ word ∷ []) ≡ Ok (bank, frame)
 unfolding judge_frame_line
 frame_line_said most bank word frame h =
-    rw (two_said (bank_word bank) word (bank_some bank) (frame_some most word frame h), bank_said bank, frame_said most word frame h) refl
+    rw (bank_and_word_said bank word (frame_some most word frame h), frame_said most word frame h) refl
 
 spi_said : (bank : Bank) (word frame : List ℕ) → SaysFrame word frame 261 → judge_spi (bank_word bank ∷ word ∷ []) ≡ Ok (Happens (Spi bank frame))
 unfolding judge_spi
@@ -259,13 +319,13 @@ pub record IsTornLine (what : ArmWhat) (words : List (List ℕ)) (line : Line) :
 torn_is : (what : ArmWhat) (words : List (List ℕ)) (line : Line) → judge_torn what words ≡ Ok line → IsTornLine what words line
 unfolding judge_torn
 torn_is what words line h =
-    let a = passed_part (three_words words) (λ parts. known causes.Word (device_of parts.0) >>= λ device. judge_number parts.1 >>= λ nth. judge_tear parts.2 >>= λ tear. Ok (Arms device what nth tear)) line h in
+    let a = passed_part (three_words words) (λ parts. known causes.Word (device_of parts.0) >>= λ device. judge_number 4294967295 parts.1 >>= λ nth. judge_tear parts.2 >>= λ tear. Ok (Arms device what nth tear)) line h in
     let parts = a.0 in
-    let b = passed_part (known causes.Word (device_of parts.0)) (λ device. judge_number parts.1 >>= λ nth. judge_tear parts.2 >>= λ tear. Ok (Arms device what nth tear)) line a.2 in
-    let c = passed_part (judge_number parts.1) (λ nth. judge_tear parts.2 >>= λ tear. Ok (Arms b.0 what nth tear)) line b.2 in
+    let b = passed_part (known causes.Word (device_of parts.0)) (λ device. judge_number 4294967295 parts.1 >>= λ nth. judge_tear parts.2 >>= λ tear. Ok (Arms device what nth tear)) line a.2 in
+    let c = passed_part (judge_number 4294967295 parts.1) (λ nth. judge_tear parts.2 >>= λ tear. Ok (Arms b.0 what nth tear)) line b.2 in
     let d = passed_part (judge_tear parts.2) (λ tear. Ok (Arms b.0 what c.0 tear)) line c.2 in
     let w = three_ok words parts a.1 in
-    let n = number_is parts.1 c.0 c.1 in
+    let n = nth_is parts.1 c.0 c.1 in
     record {
       device = b.0;
       nth = c.0;
@@ -282,9 +342,9 @@ torn_said : (what : ArmWhat) (device : Device) (nth : ℕ) (tear : Option (List 
 unfolding judge_torn
 torn_said what device nth tear word number says =
     rw (
-      three_said (device_word device) (decimal nth) word (device_some device) (number_some nth number) (tear_some tear word says),
+      three_said (device_word device) (decimal nth) word (device_some device) (nth_some nth number) (tear_some tear word says),
       device_said device,
-      number_said nth number,
+      nth_said nth number,
       tear_said tear word says,
     ) refl
 
@@ -299,12 +359,12 @@ pub record IsReadLine (words : List (List ℕ)) (line : Line) : Type 0 where
 read_is : (words : List (List ℕ)) (line : Line) → judge_read_fault words ≡ Ok line → IsReadLine words line
 unfolding judge_read_fault
 read_is words line h =
-    let a = passed_part (two_words words) (λ parts. known causes.Word (device_of parts.0) >>= λ device. judge_number parts.1 >>= λ nth. Ok (Arms device ReadFault nth None)) line h in
+    let a = passed_part (two_words words) (λ parts. known causes.Word (device_of parts.0) >>= λ device. judge_number 4294967295 parts.1 >>= λ nth. Ok (Arms device ReadFault nth None)) line h in
     let parts = a.0 in
-    let b = passed_part (known causes.Word (device_of parts.0)) (λ device. judge_number parts.1 >>= λ nth. Ok (Arms device ReadFault nth None)) line a.2 in
-    let c = passed_part (judge_number parts.1) (λ nth. Ok (Arms b.0 ReadFault nth None)) line b.2 in
+    let b = passed_part (known causes.Word (device_of parts.0)) (λ device. judge_number 4294967295 parts.1 >>= λ nth. Ok (Arms device ReadFault nth None)) line a.2 in
+    let c = passed_part (judge_number 4294967295 parts.1) (λ nth. Ok (Arms b.0 ReadFault nth None)) line b.2 in
     let w = two_ok words parts a.1 in
-    let n = number_is parts.1 c.0 c.1 in
+    let n = nth_is parts.1 c.0 c.1 in
     record {
       device = b.0;
       nth = c.0;
@@ -316,7 +376,7 @@ read_is words line h =
 read_said : (device : Device) (nth : ℕ) → IsNth nth → judge_read_fault (device_word device ∷ decimal nth ∷ []) ≡ Ok (Arms device ReadFault nth None)
 unfolding judge_read_fault
 read_said device nth number =
-    rw (two_said (device_word device) (decimal nth) (device_some device) (number_some nth number), device_said device, number_said nth number) refl
+    rw (two_said (device_word device) (decimal nth) (device_some device) (nth_some nth number), device_said device, nth_said nth number) refl
 
 -- the first word
 
@@ -335,6 +395,34 @@ off_says words line h =
     let a = alone_is Off words line h in
     let P : Line → Type 0 = λ l. Says l (codes "off" ∷ words) in
     subst P a.1 (rw a.0 refl)
+
+tick_says : (words : List (List ℕ)) (line : Line) → judge_tick words ≡ Ok line → Says line (codes "tick" ∷ words)
+unfolding judge_tick
+tick_says words line h =
+    let a = passed_part (one_word words) (λ word. judge_number 65535 word >>= λ ticks. Ok (Happens (Tick ticks))) line h in
+    let b = passed_part (judge_number 65535 a.0) (λ ticks. Ok (Happens (Tick ticks))) line a.2 in
+    let n = number_is 65535 a.0 b.0 (omega arith) b.1 in
+    let words_are = (one_ok words a.0 a.1).0 ∙ ap (λ w. w ∷ []) n.0 in
+    let P : Line → Type 0 = λ l. Says l (codes "tick" ∷ words) in
+    subst P (ok_same (Happens (Tick b.0)) line b.2) (n.1, ap (λ ws. codes "tick" ∷ ws) words_are)
+
+boot_says : (words : List (List ℕ)) (line : Line) → judge_boot words ≡ Ok line → Says line (codes "boot" ∷ words)
+unfolding judge_boot
+boot_says words line h =
+    let a = passed_part (bank_and_word words) (λ parts. known causes.Word (pass_of parts.1) >>= λ pass. Ok (Happens (Boot parts.0 pass))) line h in
+    let b = passed_part (known causes.Word (pass_of a.0.1)) (λ pass. Ok (Happens (Boot a.0.0 pass))) line a.2 in
+    let words_are = bank_and_word_is words a.0 a.1 ∙ ap (λ w. bank_word a.0.0 ∷ w ∷ []) (pass_is a.0.1 b.0 b.1) in
+    let P : Line → Type 0 = λ l. Says l (codes "boot" ∷ words) in
+    subst P (ok_same (Happens (Boot a.0.0 b.0)) line b.2) (ap (λ ws. codes "boot" ∷ ws) words_are)
+
+update_says : (words : List (List ℕ)) (line : Line) → judge_update words ≡ Ok line → Says line (codes "update" ∷ words)
+unfolding judge_update
+update_says words line h =
+    let a = passed_part (bank_and_word words) (λ parts. known causes.Word (intent_of parts.1) >>= λ intent. Ok (Happens (Update parts.0 intent))) line h in
+    let b = passed_part (known causes.Word (intent_of a.0.1)) (λ intent. Ok (Happens (Update a.0.0 intent))) line a.2 in
+    let words_are = bank_and_word_is words a.0 a.1 ∙ ap (λ w. bank_word a.0.0 ∷ w ∷ []) (intent_is a.0.1 b.0 b.1) in
+    let P : Line → Type 0 = λ l. Says l (codes "update" ∷ words) in
+    subst P (ok_same (Happens (Update a.0.0 b.0)) line b.2) (ap (λ ws. codes "update" ∷ ws) words_are)
 
 frame_line_says : (first : List ℕ) (most : ℕ) (words : List (List ℕ)) (parts : Bank × List ℕ) (is : IsFrameLine most words parts) →
     SaysFrameLine first most is.bank is.frame (first ∷ words)
@@ -398,19 +486,25 @@ is_said [] line h = cc
 is_said (first ∷ words) line h =
     said_first first (codes "power") words line h (power_says words line) (λ h.
     said_first first (codes "off") words line h (off_says words line) (λ h.
+    said_first first (codes "tick") words line h (tick_says words line) (λ h.
+    said_first first (codes "boot") words line h (boot_says words line) (λ h.
     said_first first (codes "spi") words line h (spi_says words line) (λ h.
     said_first first (codes "smbus") words line h (smbus_says words line) (λ h.
+    said_first first (codes "update") words line h (update_says words line) (λ h.
     said_first first (codes "provision") words line h (provision_says words line) (λ h.
     said_first first (codes "cut") words line h (cut_says words line) (λ h.
     said_first first (codes "fault") words line h (fault_says words line) (λ h.
-    said_first first (codes "readfault") words line h (read_says words line) (λ h. cc))))))))
+    said_first first (codes "readfault") words line h (read_says words line) (λ h. cc)))))))))))
 
 is_read : (line : Line) (words : List (List ℕ)) → Says line words → judge_first words ≡ Ok line
 unfolding judge_words
 is_read (Happens Power) words h = rw h refl
 is_read (Happens Off) words h = rw h refl
+is_read (Happens (Tick ticks)) words h = rw h.1 (tick_said ticks h.0)
+is_read (Happens (Boot bank pass)) words h = rw h (boot_said bank pass)
 is_read (Happens (Spi bank frame)) words h = rw h.2 (spi_said bank h.0 frame h.1)
 is_read (Happens (Smbus bank frame)) words h = rw h.2 (smbus_said bank h.0 frame h.1)
+is_read (Happens (Update bank intent)) words h = rw h (update_said bank intent)
 is_read (Happens (Provision slot)) words h = rw (h.4, h.3) (provision_said h.0 h.1 h.2)
 is_read (Arms device Cut nth tear) words h = rw h.3 (torn_said Cut device nth tear h.1 h.0 h.2)
 is_read (Arms device Fault nth tear) words h = rw h.3 (torn_said Fault device nth tear h.1 h.0 h.2)

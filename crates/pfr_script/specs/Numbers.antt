@@ -1,4 +1,4 @@
--- Decimal numbers of 1 to 4,294,967,295.
+-- Decimal numbers from 1 on.
 use Rattle.std.specs.Prelude.{ℕ, ◌&&◌, Bool, false, nat_le, nat_lt, List, [], ◌∷◌, Result, Ok}
 use Rattle.std.specs.Char.{is_ascii_digit}
 use Rattle.std.specs.List.{list_all}
@@ -15,9 +15,9 @@ begins_above_zero (first ∷ others) = nat_lt 48 first
 abbrev pub is_numeral : List ℕ → Bool
 is_numeral word = list_all is_ascii_digit word && begins_above_zero word
 
--- the number that a word spells
-unfoldable pub judge_number : List ℕ → Result ℕ ScriptWhy
-judge_number word = do
+-- the number that a word spells, so many at most
+unfoldable pub judge_number : ℕ → List ℕ → Result ℕ ScriptWhy
+judge_number most word = do
   require causes.Number (is_numeral word)
-  require causes.Number (nat_le (digits_value 10 word) 4294967295)
+  require causes.Number (nat_le (digits_value 10 word) most)
   Ok (digits_value 10 word)

@@ -1,13 +1,15 @@
 -- The words of a line, and the lines of a text.
-use Rattle.std.specs.Prelude.{ℕ, ◌==◌, codes, if◌then◌else◌, List, [], ◌∷◌, Option, Some, None, Result, Ok, Err}
+use Rattle.std.specs.Prelude.{ℕ, ◌==◌, codes, if◌then◌else◌, Bool, true, false, List, [], ◌∷◌, Option, Some, None, Result, Ok, Err}
 use Rattle.std.specs.List.{slice_split}
 use Rattle.std.specs.Str.{bytes_eq}
-use Rattle.pfr_flash.specs.Judging.{◌>>=◌, ◌>>◌, require}
+use Rattle.pfr_flash.specs.Judging.{◌>>=◌, ◌>>◌, require, known}
 use Rattle.pfr_engine.specs.Words.{is_word, words_in}
 use Rattle.pfr_flash.specs.declared.names.Bank.{Bank}
 use Rattle.pfr_flash.specs.declared.names.Bank.TheVariants as banks
 use Rattle.pfr_flash.specs.declared.names.Device.{Device}
 use Rattle.pfr_flash.specs.declared.names.Device.TheVariants.{Bmc, Pch, Nv}
+use Rattle.pfr_script.specs.declared.event.Intent.{Intent}
+use Rattle.pfr_script.specs.declared.event.Intent.TheVariants.{Active, Full}
 use Rattle.pfr_script.specs.declared.script_why.ScriptWhy.{ScriptWhy}
 use Rattle.pfr_script.specs.declared.script_why.ScriptWhy.TheVariants as causes
 
@@ -56,6 +58,27 @@ abbrev pub bank_of : List ℕ → Option Bank
 bank_of word =
     if bytes_eq word (codes "bmc") then Some banks.Bmc
     else if bytes_eq word (codes "pch") then Some banks.Pch
+    else None
+
+-- just a bank and a word
+unfoldable pub bank_and_word : List (List ℕ) → Result (Bank × List ℕ) ScriptWhy
+bank_and_word words = do
+  parts ← two_words words
+  bank ← known causes.Word (bank_of parts.0)
+  Ok (bank, parts.1)
+
+-- whether a boot passed, by its word
+abbrev pub pass_of : List ℕ → Option Bool
+pass_of word =
+    if bytes_eq word (codes "pass") then Some true
+    else if bytes_eq word (codes "fail") then Some false
+    else None
+
+-- the intent of a name
+abbrev pub intent_of : List ℕ → Option Intent
+intent_of word =
+    if bytes_eq word (codes "active") then Some Active
+    else if bytes_eq word (codes "full") then Some Full
     else None
 
 -- the device of a name

@@ -4,6 +4,15 @@ use crate::frame::Frame;
 use pfr_flash::Bank;
 use pfr_fuses::RootSlot;
 
+/// What an update replaces.
+#[derive(Clone, Copy, Debug, PartialEq, Eq)]
+pub enum Intent {
+    /// The active image, without what changes while it runs.
+    Active,
+    /// The whole active image.
+    Full,
+}
+
 /// What happens to a platform.
 #[derive(Drop)]
 pub enum Event {
@@ -11,10 +20,16 @@ pub enum Event {
     Power,
     /// The power goes off.
     Off,
+    /// So many ticks pass.
+    Tick(u16),
+    /// The boot of a bank passes its stage, or fails.
+    Boot { bank: Bank, pass: bool },
     /// A frame on the SPI bus of a bank.
     Spi { bank: Bank, frame: Frame },
     /// A frame on the SMBus of a bank.
     Smbus { bank: Bank, frame: Frame },
+    /// A bank is updated from its staged capsule.
+    Update { bank: Bank, intent: Intent },
     /// The platform is provisioned.
     Provision(RootSlot),
 }

@@ -20,7 +20,7 @@ mod tests;
 mod words;
 
 pub use arm::{Arm, ArmWhat};
-pub use event::Event;
+pub use event::{Event, Intent};
 pub use frame::Frame;
 pub use item::Item;
 pub use items::Items;

@@ -4,16 +4,19 @@ ghost use Rattle.std.specs.Option.{option_copied};
 ghost use Rattle.pfr_engine.specs.Words.{words_in};
 ghost use Rattle.pfr_script.specs.Words.{words_behind};
 ghost use Rattle.pfr_script.specs.Grammar.{Says};
-ghost use Rattle.pfr_script.specs.Line.{IsNumbered, judge_alone, judge_frame_line, judge_provision, judge_smbus, judge_spi, judge_torn, judge_read_fault, judge_words, judge_first};
+ghost use Rattle.pfr_script.specs.Line.{IsNumbered, judge_alone, judge_boot, judge_frame_line, judge_provision, judge_smbus, judge_spi, judge_tick, judge_torn, judge_read_fault, judge_update, judge_words, judge_first};
 
 use crate::arm::ArmWhat;
 use crate::event::Event;
 use crate::frame::Frame;
 use crate::hex_word::{read_frame, read_slot, read_tear};
 use crate::line::Line;
-use crate::number::read_number;
+use crate::number::{read_number, read_ticks};
 use crate::script_why::ScriptWhy;
-use crate::words::{bank_of, device_of, first_word, no_word, one_word, three_words, two_words};
+use crate::words::{
+    bank_and_word, device_of, first_word, intent_of, no_word, one_word, pass_of, three_words,
+    two_words,
+};
 use pfr_flash::Bank;
 use pfr_fuses::RootSlot;
 
@@ -26,14 +29,35 @@ fn read_alone(event: Event, rest: Option<&[u8]>) -> Result<Line, ScriptWhy>
     Ok(Line::Happens(event))
 }
 
+// `tick <n>`
+#[tactic(auto, unfolding(crate::specs::Line::judge_tick))]
+fn read_tick(rest: Option<&[u8]>) -> Result<Line, ScriptWhy>
+    ensures exact { result ≡ judge_tick (words_behind (option_copied rest.entry)) }
+    ensures numbered { IfOk result IsNumbered }
+{
+    let word = one_word(rest)?;
+    let ticks = read_ticks(word)?;
+    Ok(Line::Happens(Event::Tick(ticks)))
+}
+
+// `boot <bank> pass` or `boot <bank> fail`
+#[tactic(auto, unfolding(crate::specs::Line::judge_boot))]
+fn read_boot(rest: Option<&[u8]>) -> Result<Line, ScriptWhy>
+    ensures exact { result ≡ judge_boot (words_behind (option_copied rest.entry)) }
+    ensures numbered { IfOk result IsNumbered }
+{
+    let (bank, pass) = bank_and_word(rest)?;
+    let pass = pass_of(pass).ok_or(ScriptWhy::Word)?;
+    Ok(Line::Happens(Event::Boot { bank, pass }))
+}
+
 // The bank and the frame behind `spi` or `smbus`.
 #[tactic(auto, unfolding(crate::specs::Line::judge_frame_line))]
 fn read_frame_line(rest: Option<&[u8]>, most: usize) -> Result<(Bank, Frame), ScriptWhy>
     requires { most ≤ 261 }
     ensures { result ≡ judge_frame_line most (words_behind (option_copied rest.entry)) }
 {
-    let (bank, frame) = two_words(rest)?;
-    let bank = bank_of(bank).ok_or(ScriptWhy::Word)?;
+    let (bank, frame) = bank_and_word(rest)?;
     let frame = read_frame(frame, most)?;
     Ok((bank, frame))
 }
@@ -56,6 +80,17 @@ fn read_smbus(rest: Option<&[u8]>) -> Result<Line, ScriptWhy>
 {
     let (bank, frame) = read_frame_line(rest, 35)?;
     Ok(Line::Happens(Event::Smbus { bank, frame }))
+}
+
+// `update <bank> <intent>`
+#[tactic(auto, unfolding(crate::specs::Line::judge_update))]
+fn read_update(rest: Option<&[u8]>) -> Result<Line, ScriptWhy>
+    ensures exact { result ≡ judge_update (words_behind (option_copied rest.entry)) }
+    ensures numbered { IfOk result IsNumbered }
+{
+    let (bank, intent) = bank_and_word(rest)?;
+    let intent = intent_of(intent).ok_or(ScriptWhy::Word)?;
+    Ok(Line::Happens(Event::Update { bank, intent }))
 }
 
 // `provision <hex>`
@@ -113,10 +148,16 @@ fn read_words(word: &[u8], rest: Option<&[u8]>) -> Result<Line, ScriptWhy>
         read_alone(Event::Power, rest)
     } else if word == b"off".as_slice() {
         read_alone(Event::Off, rest)
+    } else if word == b"tick".as_slice() {
+        read_tick(rest)
+    } else if word == b"boot".as_slice() {
+        read_boot(rest)
     } else if word == b"spi".as_slice() {
         read_spi(rest)
     } else if word == b"smbus".as_slice() {
         read_smbus(rest)
+    } else if word == b"update".as_slice() {
+        read_update(rest)
     } else if word == b"provision".as_slice() {
         read_provision(rest)
     } else if word == b"cut".as_slice() {

@@ -21,10 +21,10 @@ fn begins_above_zero(word: &[u8]) -> bool
     }
 }
 
-/// The number that a word spells, of 1 to 4,294,967,295 and without leading zeros.
+/// The number that a word spells, from 1 to 4,294,967,295 and without leading zeros.
 #[tactic(auto, unfolding(crate::specs::Numbers::judge_number))]
 pub fn read_number(word: &[u8]) -> Result<u32, ScriptWhy>
-    ensures exact { result ≡ judge_number word.now }
+    ensures exact { result ≡ judge_number 4294967295 word.now }
     ensures some { IfOk result (λ number. 1 ≤ number) }
 {
     if !are_digits(word) || !begins_above_zero(word) {
@@ -35,6 +35,17 @@ pub fn read_number(word: &[u8]) -> Result<u32, ScriptWhy>
     };
     match digits.parse() {
         Ok(number) => Ok(number),
+        Err(_) => Err(ScriptWhy::Number),
+    }
+}
+
+/// The ticks that a word spells, from 1 to 65,535 and without leading zeros.
+pub fn read_ticks(word: &[u8]) -> Result<u16, ScriptWhy>
+    ensures { result ≡ judge_number 65535 word.now }
+{
+    let number = read_number(word)?;
+    match u16::try_from(number) {
+        Ok(ticks) => Ok(ticks),
         Err(_) => Err(ScriptWhy::Number),
     }
 }

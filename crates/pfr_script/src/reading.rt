@@ -92,12 +92,13 @@ fn read_lines(alloc: Global, text: &[u8]) -> Result<Script, ScriptFail>
 /// Reads a script: one line is one item. An empty line and one that begins with `#` are none, and
 /// the last line may lack its newline.
 ///
-/// A line is `power`, `off`, `spi <bank> <hex>` with 1 to 261 bytes, `smbus <bank> <hex>` with 1 to
-/// 35, `provision <hex>` with a slot's 72 bytes before its gate, `cut <device> <n> <tear>`,
-/// `fault <device> <n> <tear>` or `readfault <device> <n>`, with single spaces between its words. A
-/// bank is `bmc` or `pch`, a device is a bank or `nv`, `n` is decimal from 1 to 4,294,967,295
-/// without leading zeros, and a tear is `-` or hex of at most 4,096 bytes. Hex has digits of either
-/// case.
+/// A line is `power`, `off`, `tick <n>`, `boot <bank> pass`, `boot <bank> fail`,
+/// `spi <bank> <hex>` with 1 to 261 bytes, `smbus <bank> <hex>` with 1 to 35,
+/// `update <bank> active`, `update <bank> full`, `provision <hex>` with a slot's 72 bytes before its
+/// gate, `cut <device> <n> <tear>`, `fault <device> <n> <tear>` or `readfault <device> <n>`, with
+/// single spaces between its words. A bank is `bmc` or `pch`, and a device is a bank or `nv`. `n` is
+/// decimal without leading zeros, from 1 to 65,535 for ticks and to 4,294,967,295 elsewhere. A tear
+/// is `-` or hex of at most 4,096 bytes. Hex has digits of either case.
 ///
 /// # Errors
 ///

@@ -31,6 +31,11 @@ fn items(rt: HostRuntime) -> Result<(), Fail> {
         Ok(3)
     );
     assert_eq!(rt; count(alloc, b"spi bmc 0aFF\nsmbus pch 01\n"), Ok(2));
+    assert_eq!(rt;
+        count(alloc, b"tick 1\ntick 65535\nboot bmc pass\nboot pch fail"),
+        Ok(4)
+    );
+    assert_eq!(rt; count(alloc, b"update bmc active\nupdate pch full"), Ok(2));
     Ok(())
 }
 
@@ -53,6 +58,27 @@ fn causes(rt: HostRuntime) -> Result<(), Fail> {
     assert_eq!(rt;
         count(alloc, b"off\nprovision 00\n"),
         refused(2, ScriptWhy::Length)
+    );
+    Ok(())
+}
+
+#[test]
+fn causes_of_ticks_boots_and_updates(rt: HostRuntime) -> Result<(), Fail> {
+    let alloc = rt.alloc();
+    assert_eq!(rt; count(alloc, b"tick 0"), refused(1, ScriptWhy::Number));
+    assert_eq!(rt; count(alloc, b"tick 01"), refused(1, ScriptWhy::Number));
+    assert_eq!(rt; count(alloc, b"tick 65536"), refused(1, ScriptWhy::Number));
+    assert_eq!(rt; count(alloc, b"tick"), refused(1, ScriptWhy::Word));
+    assert_eq!(rt; count(alloc, b"boot nv pass"), refused(1, ScriptWhy::Word));
+    assert_eq!(rt; count(alloc, b"boot bmc ok"), refused(1, ScriptWhy::Word));
+    assert_eq!(rt; count(alloc, b"boot bmc"), refused(1, ScriptWhy::Word));
+    assert_eq!(rt;
+        count(alloc, b"update bmc recovery"),
+        refused(1, ScriptWhy::Word)
+    );
+    assert_eq!(rt;
+        count(alloc, b"update bmc cert"),
+        refused(1, ScriptWhy::Word)
     );
     Ok(())
 }

@@ -2,8 +2,9 @@
 ghost use Rattle.std.specs.Prelude.{◌≡◌, ◌==◌, ◌<◌, [], ◌∷◌, length, position, MatchOption, MatchResult, IfSome};
 ghost use Rattle.std.specs.Option.{option_copied};
 ghost use Rattle.pfr_engine.specs.Words.{words_in};
-ghost use Rattle.pfr_script.specs.Words.{pieces, words_behind, next_word, no_word, one_word, two_words, three_words, bank_of, device_of};
+ghost use Rattle.pfr_script.specs.Words.{pieces, words_behind, next_word, no_word, one_word, two_words, three_words, bank_of, bank_and_word, pass_of, intent_of, device_of};
 
+use crate::event::Intent;
 use crate::script_why::ScriptWhy;
 use pfr_flash::{Bank, Device};
 
@@ -93,13 +94,51 @@ pub fn three_words(rest: Option<&[u8]>) -> Result<(&[u8], &[u8], &[u8]), ScriptW
 }
 
 /// The bank of a name.
-pub fn bank_of(word: &[u8]) -> Option<Bank>
+fn bank_of(word: &[u8]) -> Option<Bank>
     ensures { result ≡ bank_of word.now }
 {
     if word == b"bmc".as_slice() {
         Some(Bank::Bmc)
     } else if word == b"pch".as_slice() {
         Some(Bank::Pch)
+    } else {
+        None
+    }
+}
+
+/// The bank and the word behind it that are left.
+#[tactic(auto, unfolding(crate::specs::Words::bank_and_word))]
+pub fn bank_and_word(rest: Option<&[u8]>) -> Result<(Bank, &[u8]), ScriptWhy>
+    ensures { MatchResult result
+        (λ parts. bank_and_word (words_behind (option_copied rest.entry)) ≡ Ok (parts.0, parts.1.now))
+        (λ why. bank_and_word (words_behind (option_copied rest.entry)) ≡ Err why) }
+{
+    let (bank, word) = two_words(rest)?;
+    let bank = bank_of(bank).ok_or(ScriptWhy::Word)?;
+    Ok((bank, word))
+}
+
+/// Whether a boot passed, by its word.
+pub fn pass_of(word: &[u8]) -> Option<bool>
+    ensures { result ≡ pass_of word.now }
+{
+    if word == b"pass".as_slice() {
+        Some(true)
+    } else if word == b"fail".as_slice() {
+        Some(false)
+    } else {
+        None
+    }
+}
+
+/// The intent of a name.
+pub fn intent_of(word: &[u8]) -> Option<Intent>
+    ensures { result ≡ intent_of word.now }
+{
+    if word == b"active".as_slice() {
+        Some(Intent::Active)
+    } else if word == b"full".as_slice() {
+        Some(Intent::Full)
     } else {
         None
     }
