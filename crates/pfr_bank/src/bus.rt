@@ -32,9 +32,7 @@ pub fn carry_out<F: Flash>(flash: &mut F, op: &BusOp) -> Result<(), FlashFail>
     match op {
         BusOp::Program { at, page } => flash.program(*at, page),
         BusOp::Erase { sector, count } => erase_sectors(flash, *sector, *count),
-        BusOp::Read | BusOp::Status | BusOp::Id | BusOp::WriteEnable | BusOp::WriteDisable => {
-            Ok(())
-        }
+        _ => Ok(()),
     }
 }
 

@@ -96,7 +96,14 @@ impl<F: Flash> Running<F> {
         // At most 8 stretches are looked at for a frame that writes one page, and at most 23 for one that writes sixteen.
         ensures cost { steps.new ≤ steps.old + (7 + length (touched frame.now)) }
     {
-        judge_counted(frame, &self.table, &self.layout, self.flash.size(), self.latch, steps)
+        judge_counted(
+            frame,
+            &self.table,
+            &self.layout,
+            self.flash.size(),
+            self.latch,
+            steps,
+        )
     }
 
     /// Hands a frame that passed to the flash, which does what it asks for. What is read isn't told.
