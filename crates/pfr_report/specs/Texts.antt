@@ -1,5 +1,5 @@
 -- The lines of a report.
-use Rattle.std.specs.Prelude.{◌≡◌, ◌⊎◌, ℕ, List, [], ◌∷◌, ◌++◌, Option, Some, None, codes, decimal}
+use Rattle.std.specs.Prelude.{◌≡◌, ◌⊎◌, ℕ, List, [], ◌∷◌, ◌++◌, Bool, true, false, Option, Some, None, codes, decimal}
 use Rattle.std.specs.List.{flat_map}
 use Rattle.pfr_flash.specs.Answer.{IsFound}
 use Rattle.pfr_auth.specs.Answer.{active_failure}
@@ -9,13 +9,18 @@ use Rattle.pfr_flash.specs.declared.names.Device.{Device}
 use Rattle.pfr_flash.specs.declared.names.Device.TheVariants as device
 use Rattle.pfr_filter.specs.declared.verdict.BusOp.{BusOp}
 use Rattle.pfr_filter.specs.declared.verdict.BusOp.TheVariants as op
+use Rattle.pfr_capsule.specs.Answer.{capsule_failure}
+use Rattle.pfr_watch.specs.declared.stage.Stage.{Stage}
+use Rattle.pfr_watch.specs.declared.stage.Stage.TheVariants as stage
 use Rattle.pfr_report.specs.Words.{rule_word, active_text, capsule_text, block_text, smbus_word, AreFound}
 use Rattle.pfr_report.specs.declared.note.LockWhy.{LockWhy}
-use Rattle.pfr_report.specs.declared.note.LockWhy.TheVariants.{Unprovisioned, SlotsSpent, Layout, FlashFault, StoreFault, NoGoodImage}
+use Rattle.pfr_report.specs.declared.note.LockWhy.TheVariants.{Unprovisioned, SlotsSpent, Layout, FlashFault, StoreFault, NoGoodImage, WatchdogSpent, NoRecovery}
 use Rattle.pfr_report.specs.declared.note.ProvisionWhy.{ProvisionWhy}
 use Rattle.pfr_report.specs.declared.note.ProvisionWhy.TheVariants as provision
+use Rattle.pfr_report.specs.declared.note.Refusal.{Refusal}
+use Rattle.pfr_report.specs.declared.note.Refusal.TheVariants.{Capsule}
 use Rattle.pfr_report.specs.declared.note.What.{What}
-use Rattle.pfr_report.specs.declared.note.What.TheVariants.{Power, Held, Released, Locked, Lost, Untrusted, Restored, BusPassed, BusBlocked, SmbusPassed, SmbusBlocked, Provisioned, ProvisionRefused, Ignored}
+use Rattle.pfr_report.specs.declared.note.What.TheVariants.{Power, Held, Released, Locked, Lost, Untrusted, Restored, Updated, Refused, Expired, Passed, Booted, BusPassed, BusBlocked, SmbusPassed, SmbusBlocked, Provisioned, ProvisionRefused, Ignored}
 use Rattle.pfr_report.specs.declared.note.Note.{Note}
 
 abbrev pub bank_word : Bank → List ℕ
@@ -29,10 +34,13 @@ lock_word (Layout rule) = codes "layout " ++ rule_word rule
 lock_word FlashFault = codes "flash-fault"
 lock_word StoreFault = codes "store-fault"
 lock_word (NoGoodImage active recovery) = codes "no-good-image " ++ (active_text active ++ (codes " " ++ capsule_text recovery))
+lock_word WatchdogSpent = codes "watchdog-spent"
+lock_word (NoRecovery recovery) = codes "no-recovery " ++ capsule_text recovery
 
 -- a lock without causes in the bank's images
 abbrev pub HasWord : LockWhy → Type 0
 HasWord (NoGoodImage active recovery) = ⊥
+HasWord (NoRecovery recovery) = ⊥
 HasWord why = Unit {0}
 
 abbrev pub device_word : Device → List ℕ
@@ -60,6 +68,27 @@ op_word op.WriteDisable = codes "latch"
 op_word (op.Program at page) = codes "program"
 op_word (op.Erase sector count) = codes "erase"
 
+-- which regions an update writes: the static ones, or all
+abbrev pub update_word : Bool → List ℕ
+update_word false = codes "active"
+update_word true = codes "full"
+
+abbrev pub refusal_text : Refusal → List ℕ
+refusal_text (Capsule cause) = capsule_text cause
+
+-- a stage that is passed on the way of a boot; of no other is it noted that it was passed
+abbrev pub stage_word : Stage → List ℕ
+stage_word stage.Me = codes "me"
+stage_word stage.Acm = codes "acm"
+stage_word stage.Ibb = codes "ibb"
+stage_word stage = []
+
+abbrev pub HasStageWord : Stage → Type 0
+HasStageWord stage.Me = Unit {0}
+HasStageWord stage.Acm = Unit {0}
+HasStageWord stage.Ibb = Unit {0}
+HasStageWord stage = ⊥
+
 abbrev pub what_text : What → List ℕ
 what_text Power = codes "power"
 what_text (Held bank counts) = bank_word bank ++ codes " held"
@@ -68,6 +97,11 @@ what_text (Locked bank why counts) = bank_word bank ++ (codes " locked " ++ lock
 what_text (Lost device counts) = codes "lost" ++ lost_word device
 what_text (Untrusted bank why) = bank_word bank ++ (codes " untrusted " ++ active_text why)
 what_text (Restored bank level) = bank_word bank ++ (codes " restored level " ++ decimal level)
+what_text (Updated bank dynamic svn) = bank_word bank ++ (codes " updated " ++ (update_word dynamic ++ (codes " svn " ++ decimal svn)))
+what_text (Refused bank why) = bank_word bank ++ (codes " refused " ++ refusal_text why)
+what_text (Expired bank level) = bank_word bank ++ (codes " watchdog " ++ decimal level)
+what_text (Passed bank stage) = bank_word bank ++ (codes " passed " ++ stage_word stage)
+what_text (Booted bank) = bank_word bank ++ codes " booted"
 what_text (BusPassed bank op) = bank_word bank ++ (codes " pass " ++ op_word op)
 what_text (BusBlocked bank why) = bank_word bank ++ (codes " blocked " ++ block_text why)
 what_text (SmbusPassed bank) = bank_word bank ++ codes " smbus pass"
@@ -84,10 +118,18 @@ note_text note = decimal note.item ++ (codes " " ++ (what_text note.what ++ code
 abbrev pub report : List Note → List ℕ
 report notes = flat_map note_text notes
 
--- a note's cause is no failed device
+-- a lock's causes are no failed devices
+abbrev pub HasLockText : LockWhy → Type 0
+HasLockText (NoGoodImage active recovery) = AreFound active recovery
+HasLockText (NoRecovery recovery) = IsFound capsule_failure recovery
+HasLockText why = Unit {0}
+
+-- a note's cause is no failed device, and its stage has a word
 abbrev pub HasText : What → Type 0
 HasText (Untrusted bank why) = IsFound active_failure why
-HasText (Locked bank (NoGoodImage active recovery) counts) = AreFound active recovery
+HasText (Locked bank why counts) = HasLockText why
+HasText (Refused bank (Capsule cause)) = IsFound capsule_failure cause
+HasText (Passed bank stage) = HasStageWord stage
 HasText what = Unit {0}
 
 abbrev pub AllText : List Note → Type 0

@@ -2,7 +2,7 @@
 ghost use Rattle.std.specs.Prelude.{◌≡◌, None, Some};
 ghost use Rattle.pfr_report.specs.Words.{block_word, chain_word, manifest_number, manifest_word, rule_word, smbus_word};
 ghost use Rattle.pfr_chain.specs.Answer.{chain_failure};
-ghost use Rattle.pfr_report.specs.Texts.{bank_word, lock_word, lost_word, op_word, provision_word, HasWord};
+ghost use Rattle.pfr_report.specs.Texts.{bank_word, lock_word, lost_word, op_word, provision_word, stage_word, HasStageWord, HasWord};
 
 use crate::note::{LockWhy, ProvisionWhy};
 use pfr_chain::ChainFail;
@@ -10,6 +10,7 @@ use pfr_filter::{BlockCause, BusOp};
 use pfr_flash::{Bank, Device, LayoutRule};
 use pfr_manifest::ManifestFail;
 use pfr_smbus::SmbusCause;
+use pfr_watch::Stage;
 
 // A cause's word: one row for each variant of its enum.
 macro_rules! words {
@@ -54,7 +55,8 @@ pub fn lock_word(why: LockWhy) -> &'static [u8]
         LockWhy::Layout(LayoutRule::Overlap) => b"layout overlap",
         LockWhy::FlashFault => b"flash-fault",
         LockWhy::StoreFault => b"store-fault",
-        LockWhy::NoGoodImage(_, _) => unreachable!(),
+        LockWhy::WatchdogSpent => b"watchdog-spent",
+        LockWhy::NoGoodImage(_, _) | LockWhy::NoRecovery(_) => unreachable!(),
     }
 }
 
@@ -83,6 +85,19 @@ pub fn lost_word(device: Option<Device>) -> &'static [u8]
         Some(Device::Bmc) => b" bmc",
         Some(Device::Pch) => b" pch",
         Some(Device::Nv) => b" nv",
+    }
+}
+
+/// The word of a stage of a boot behind which another one comes.
+pub fn stage_word(stage: Stage) -> &'static [u8]
+    requires { HasStageWord stage }
+    ensures { result.now ≡ stage_word stage }
+{
+    match stage {
+        Stage::Me => b"me",
+        Stage::Acm => b"acm",
+        Stage::Ibb => b"ibb",
+        Stage::Bmc | Stage::Obb | Stage::Done => unreachable!(),
     }
 }
 

@@ -12,7 +12,7 @@ mod verdict_lines;
 pub use cause::{Cause, manifest_cause};
 pub use cause_words::{bank_word, rule_word};
 pub use lines::write_note;
-pub use note::{LockWhy, Note, ProvisionWhy, What};
+pub use note::{LockWhy, Note, ProvisionWhy, Refusal, What};
 pub use notes::Notes;
 pub use verdict::{BankVerdict, Standing};
 pub use verdict_lines::write_verdict;

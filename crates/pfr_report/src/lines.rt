@@ -3,13 +3,16 @@ ghost use Rattle.std.specs.Prelude.{None, ◌≡◌, ◌++◌, ℕ, codes, decim
 ghost use Rattle.pfr_flash.specs.Answer.{IsFound};
 ghost use Rattle.pfr_auth.specs.Answer.{active_failure};
 ghost use Rattle.pfr_shelf.specs.Pieces.{Writes};
-ghost use Rattle.pfr_report.specs.Words.{active_text, block_text, AreFound};
-ghost use Rattle.pfr_report.specs.Texts.{bank_word, lock_word, note_text, HasText};
+ghost use Rattle.pfr_capsule.specs.Answer.{capsule_failure};
+ghost use Rattle.pfr_report.specs.Words.{active_text, block_text, capsule_text, AreFound};
+ghost use Rattle.pfr_report.specs.Texts.{bank_word, lock_word, note_text, update_word, HasLockText, HasText};
 ghost use Rattle.pfr_report.specs.declared.note.LockWhy.TheVariants.{NoGoodImage};
 
 use crate::cause::{active_cause, block_cause, capsule_cause};
-use crate::cause_words::{bank_word, lock_word, lost_word, op_word, provision_word, smbus_word};
-use crate::note::{LockWhy, Note, What};
+use crate::cause_words::{
+    bank_word, lock_word, lost_word, op_word, provision_word, smbus_word, stage_word,
+};
+use crate::note::{LockWhy, Note, Refusal, What};
 use itoa::Buffer;
 use pfr_auth::ActiveFail;
 use pfr_capsule::CapsuleFail;
@@ -121,41 +124,90 @@ fn write_no_good_image<K: Sink>(
     )
 }
 
-// The line of a bank that is released.
-fn write_released<K: Sink>(item: u32, bank: Bank, svn: u8, out: &mut K) -> Result<(), SinkFail>
+// The line of a bank, with words and a number behind its name.
+fn write_number<K: Sink>(
+    item: u32,
+    bank: Bank,
+    text: &'static [u8],
+    number: u8,
+    out: &mut K,
+) -> Result<(), SinkFail>
     ensures { Writes K.tells K.written K.faults out.old out.new
-        (decimal item ++ (codes " " ++ ((bank_word bank ++ (codes " released svn " ++ decimal svn)) ++ codes "\n"))) result }
+        (decimal item ++ (codes " " ++ ((bank_word bank ++ (text.now ++ decimal number)) ++ codes "\n"))) result }
 {
     let mut item_buffer = Buffer::new();
     let item = item_buffer.format(item).as_bytes();
     let mut buffer = Buffer::new();
-    let svn = buffer.format(svn).as_bytes();
-    write_pieces(
-        out,
-        &[item, b" ", bank_word(bank), b" released svn ", svn, b"\n"],
-    )
+    let number = buffer.format(number).as_bytes();
+    write_pieces(out, &[item, b" ", bank_word(bank), text, number, b"\n"])
 }
 
-// The line of a bank whose active image was restored.
-fn write_restored<K: Sink>(item: u32, bank: Bank, level: u8, out: &mut K) -> Result<(), SinkFail>
+// The line of a bank, with words and the cause of a capsule behind its name.
+fn write_capsule_cause<K: Sink>(
+    item: u32,
+    bank: Bank,
+    text: &'static [u8],
+    why: CapsuleFail,
+    out: &mut K,
+) -> Result<(), SinkFail>
+    requires { IsFound capsule_failure why }
     ensures { Writes K.tells K.written K.faults out.old out.new
-        (decimal item ++ (codes " " ++ ((bank_word bank ++ (codes " restored level " ++ decimal level)) ++ codes "\n"))) result }
+        (decimal item ++ (codes " " ++ ((bank_word bank ++ (text.now ++ capsule_text why)) ++ codes "\n"))) result }
 {
     let mut item_buffer = Buffer::new();
     let item = item_buffer.format(item).as_bytes();
+    let cause = capsule_cause(why);
     let mut buffer = Buffer::new();
-    let level = buffer.format(level).as_bytes();
+    let digits = cause.digits(&mut buffer);
     write_pieces(
         out,
         &[
             item,
             b" ",
             bank_word(bank),
-            b" restored level ",
-            level,
+            text,
+            cause.kind,
+            cause.word,
+            cause.colon(),
+            digits,
             b"\n",
         ],
     )
+}
+
+// The line of a bank that is locked.
+fn write_locked<K: Sink>(item: u32, bank: Bank, why: LockWhy, out: &mut K) -> Result<(), SinkFail>
+    requires { HasLockText why }
+    ensures { Writes K.tells K.written K.faults out.old out.new
+        (decimal item ++ (codes " " ++ ((bank_word bank ++ (codes " locked " ++ lock_word why)) ++ codes "\n"))) result }
+{
+    match why {
+        LockWhy::NoGoodImage(active, recovery) => {
+            write_no_good_image(item, bank, active, recovery, out)
+        }
+        LockWhy::NoRecovery(cause) => {
+            write_capsule_cause(item, bank, b" locked no-recovery ", cause, out)
+        }
+        _ => write_bank(item, bank, b" locked ", lock_word(why), out),
+    }
+}
+
+// The line of a bank whose active image was updated.
+fn write_updated<K: Sink>(
+    item: u32,
+    bank: Bank,
+    dynamic: bool,
+    svn: u8,
+    out: &mut K,
+) -> Result<(), SinkFail>
+    ensures { Writes K.tells K.written K.faults out.old out.new
+        (decimal item ++ (codes " " ++ ((bank_word bank ++ (codes " updated " ++ (update_word dynamic ++ (codes " svn " ++ decimal svn)))) ++ codes "\n"))) result }
+{
+    if dynamic {
+        write_number(item, bank, b" updated full svn ", svn, out)
+    } else {
+        write_number(item, bank, b" updated active svn ", svn, out)
+    }
 }
 
 // The line of a frame on a bank's SPI bus that is blocked.
@@ -198,16 +250,25 @@ pub fn write_note<K: Sink>(note: &Note, out: &mut K) -> Result<(), SinkFail>
     match note.what {
         What::Power => write_words(item, b"power", b"", out),
         What::Held { bank, .. } => write_bank(item, bank, b" held", b"", out),
-        What::Released { bank, svn, .. } => write_released(item, bank, svn, out),
-        What::Locked {
-            bank,
-            why: LockWhy::NoGoodImage(active, recovery),
-            ..
-        } => write_no_good_image(item, bank, active, recovery, out),
-        What::Locked { bank, why, .. } => write_bank(item, bank, b" locked ", lock_word(why), out),
+        What::Released { bank, svn, .. } => {
+            write_number(item, bank, b" released svn ", svn, out)
+        }
+        What::Locked { bank, why, .. } => write_locked(item, bank, why, out),
         What::Lost { device, .. } => write_words(item, b"lost", lost_word(device), out),
         What::Untrusted { bank, why } => write_untrusted(item, bank, why, out),
-        What::Restored { bank, level } => write_restored(item, bank, level, out),
+        What::Restored { bank, level } => {
+            write_number(item, bank, b" restored level ", level, out)
+        }
+        What::Updated { bank, dynamic, svn } => write_updated(item, bank, dynamic, svn, out),
+        What::Refused {
+            bank,
+            why: Refusal::Capsule(why),
+        } => write_capsule_cause(item, bank, b" refused ", why, out),
+        What::Expired { bank, level } => write_number(item, bank, b" watchdog ", level, out),
+        What::Passed { bank, stage } => {
+            write_bank(item, bank, b" passed ", stage_word(stage), out)
+        }
+        What::Booted { bank } => write_bank(item, bank, b" booted", b"", out),
         What::BusPassed { bank, ref op } => write_bank(item, bank, b" pass ", op_word(op), out),
         What::BusBlocked { bank, why } => write_blocked(item, bank, why, out),
         What::SmbusPassed { bank } => write_bank(item, bank, b" smbus pass", b"", out),

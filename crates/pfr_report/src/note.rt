@@ -5,6 +5,7 @@ use pfr_capsule::CapsuleFail;
 use pfr_filter::{BlockCause, BusOp};
 use pfr_flash::{Bank, Counts, Device, LayoutRule};
 use pfr_smbus::SmbusCause;
+use pfr_watch::Stage;
 
 /// Why a bank is locked.
 #[derive(Clone, Copy, Debug, PartialEq, Eq)]
@@ -21,6 +22,10 @@ pub enum LockWhy {
     StoreFault,
     /// The active image isn't trusted, and what is in the recovery area is no good image.
     NoGoodImage(ActiveFail, CapsuleFail),
+    /// The watch over the bank's boot has expired as often as is counted.
+    WatchdogSpent,
+    /// The watch over the bank's boot has expired, and what is in the recovery area is no good image.
+    NoRecovery(CapsuleFail),
 }
 
 /// Why a provision is refused.
@@ -32,6 +37,13 @@ pub enum ProvisionWhy {
     LayoutBad(Bank, LayoutRule),
     /// No slot of the store is blank.
     SlotsSpent,
+}
+
+/// Why an update is refused.
+#[derive(Clone, Copy, Debug, PartialEq, Eq)]
+pub enum Refusal {
+    /// What is in the staging area is no good image.
+    Capsule(CapsuleFail),
 }
 
 /// What happened. Counts are those of the operations done on each device up to that moment.
@@ -71,6 +83,32 @@ pub enum What {
     Restored {
         bank: Bank,
         level: u8,
+    },
+    /// The bank's active image was updated from the capsule in the staging area, whose security version number this is:
+    /// with all of its regions where `dynamic`, else with the static ones.
+    Updated {
+        bank: Bank,
+        dynamic: bool,
+        svn: u8,
+    },
+    /// An update of the bank was refused, and its active image is as it was.
+    Refused {
+        bank: Bank,
+        why: Refusal,
+    },
+    /// The watch over the bank's boot expired; this is the level of recovery, 1 to 4.
+    Expired {
+        bank: Bank,
+        level: u8,
+    },
+    /// The bank's processor passed this stage of its boot, and another one follows.
+    Passed {
+        bank: Bank,
+        stage: Stage,
+    },
+    /// The bank's processor passed the last stage of its boot.
+    Booted {
+        bank: Bank,
     },
     /// A frame on the bank's SPI bus passed, and asked this of its flash.
     BusPassed {
