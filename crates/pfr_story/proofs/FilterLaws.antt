@@ -46,7 +46,7 @@ use Rattle.pfr_story.proofs.SafetyLaws.{AllSafe-append, with_all, past_did, past
 use Rattle.pfr_story.proofs.Courses.{Turn-cases}
 use Rattle.pfr_story.proofs.BringRules.{Any}
 use Rattle.pfr_story.proofs.BusRules.{ruled, calls_safe}
-use Rattle.pfr_story.proofs.RulingLaws.{trusted_ruling}
+use Rattle.pfr_story.proofs.Rulings.{trusted_ruling}
 use Rattle.pfr_story.proofs.Traces.{Traced, Traced-keeps, Traced-known, KnownBefore, Saying, Begins, Precedes}
 use Rattle.pfr_story.proofs.Made.{said, noted_next, added_said}
 use Rattle.pfr_story.proofs.StepTraces.{IsGoodStretch, single_along}

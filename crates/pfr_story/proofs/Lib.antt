@@ -6,7 +6,7 @@ pub mod RestoreLaws
 pub mod BringRules
 pub mod Courses
 pub mod BusRules
-pub mod RulingLaws
+pub mod Rulings
 pub mod Traces
 pub mod StepTraces
 pub mod Facts
