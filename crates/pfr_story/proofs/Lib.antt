@@ -30,6 +30,7 @@ pub mod FuseLaws
 pub mod StoreLaws
 pub mod EventLaws
 pub mod ProvisionLaws
+pub mod FilterLaws
 pub mod GrowthLaws
 pub mod ContentsLaws
 pub mod RunLaws
