@@ -1,9 +1,9 @@
 -- A frame is judged well exactly where it passes, and what it asks for is then formed.
-use Rattle.std.proofs.Common.{◌≡◌, ℕ, ◌+◌, ◌*◌, ◌^◌, ◌<◌, ◌≤◌, ◌==◌, ◌||◌, Bool, true, false, not, nat_le, nat_lt, List, [], ◌∷◌, length, get_or, All, Option, Some, None, Result, Ok, Err, refl, sym, ap, ◌∙◌, subst, arith, inl, inr, ◌/◌, ◌%◌, drop, length-append, length-take, length-drop}
+use Rattle.std.proofs.Common.{◌≡◌, ℕ, ◌^◌, ◌<◌, ◌≤◌, ◌==◌, ◌||◌, Bool, true, false, not, nat_le, nat_lt, List, [], ◌∷◌, length, get_or, All, Some, None, Result, Ok, Err, refl, sym, ap, ◌∙◌, subst, arith, inl, inr, ◌%◌, drop, length-append, length-take, length-drop}
 use Rattle.std.specs.Prelude.{◌↔◌}
 use Rattle.std.specs.Bool.{Decides}
 use Rattle.std.proofs.lemmas.Bool.{cases_Bool, eqb-true}
-use Rattle.std.proofs.lemmas.Bool.Decides.{Decides-ltb, Decides-like}
+use Rattle.std.proofs.lemmas.Bool.Decides.{Decides-ltb}
 use Rattle.std.proofs.lemmas.List.{length-replicate}
 use Rattle.std.proofs.lemmas.List.Elements.{All-nil, All-cons, All-head, All-tail}
 use Rattle.pfr_flash.specs.Judging.{◌>>=◌, ◌>>◌, require, known, require_none}
@@ -19,7 +19,7 @@ use Rattle.pfr_filter.specs.Frames.{Passes, IsFormedVerdict, first_without, judg
 use Rattle.pfr_filter.specs.declared.command.Command.{Command}
 use Rattle.pfr_filter.specs.declared.command.Command.TheVariants.{Read, FastRead, ReadStatus, ReadId, WriteEnable, WriteDisable, PageProgram, SectorErase, BlockErase}
 use Rattle.pfr_filter.specs.declared.verdict.BusOp.{BusOp}
-use Rattle.pfr_filter.specs.declared.verdict.Verdict.TheVariants.{Pass, Block}
+use Rattle.pfr_filter.specs.declared.verdict.Verdict.TheVariants.{Pass}
 use Rattle.pfr_filter.specs.declared.verdict.BlockCause.{BlockCause}
 use Rattle.pfr_filter.specs.declared.verdict.BlockCause.TheVariants.{Opcode, ChipErase, ShortFrame, Range, NotWritable, NoLatch}
 
