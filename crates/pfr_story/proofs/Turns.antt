@@ -77,8 +77,8 @@ module _ (s : Setting) where
     on = λ which story trace p cut e. behind_moves trace (Says (what.Locked b (fault_of which)) ∷ []) story p.1;
   }
 
-  store_rose : (which : Device) → IsStore which → Rose (state_at which s.first).faults (state_at which s.last).faults → Rose s.first.nv.faults s.last.nv.faults
-  store_rose which e rose = subst (λ (d : Device). Rose (state_at d s.first).faults (state_at d s.last).faults) e rose
+  rose_at : (other which : Device) → which ≡ other → Rose (state_at which s.first).faults (state_at which s.last).faults → Rose (state_at other s.first).faults (state_at other s.last).faults
+  rose_at other which e rose = subst (λ (d : Device). Rose (state_at d s.first).faults (state_at d s.last).faults) e rose
 
   fuse_true : IsTrueStretch fuse_stretch
   fuse_true = record {
@@ -87,7 +87,7 @@ module _ (s : Setting) where
       ends = λ story p. Precedes-after (story_of s.first) story (migrated story) p.1;
     };
     noted = λ which story trace p cut rose.
-        let nv = store_rose which (cut_makes IsStore IsNoLoss which _ trace story (migrated_makes story) cut).0 rose in
+        let nv = rose_at device.Nv which (cut_makes IsStore IsNoLoss which _ trace story (migrated_makes story) cut).0 rose in
         (refl, ((refl, nv), (refl, ((refl, nv), tt))));
     on = λ which story trace p cut e. behind_moves trace unreadable story p.1;
   }
@@ -104,17 +104,13 @@ module _ (s : Setting) where
       ends = λ story p. Precedes-after (story_of s.first) story (provisioned root story) p.1;
     };
     noted = λ which story trace p cut rose.
-        let nv = store_rose which (cut_makes IsStore IsNoLoss which _ trace story (provisioned_makes root story) cut).0 rose in
+        let nv = rose_at device.Nv which (cut_makes IsStore IsNoLoss which _ trace story (provisioned_makes root story) cut).0 rose in
         ((refl, nv), ((refl, nv), tt));
     on = λ which story trace p cut e. behind_moves trace ((provision_stretch root).on_fault which) story p.1;
   }
 
   bus_true : (b : Bank) → AllowsSpi (IsTrue s) b
   bus_true b = record { passed = λ op story. tt; blocked = λ cause story. tt; asks = λ story. tt; works = λ op story. tt }
-
-  mine_rose : (b : Bank) (which : Device) → IsMine b which → Rose (state_at which s.first).faults (state_at which s.last).faults
-      → Rose (state_at (device_of b) s.first).faults (state_at (device_of b) s.last).faults
-  mine_rose b which e rose = subst (λ (d : Device). Rose (state_at d s.first).faults (state_at d s.last).faults) e rose
 
   spi_true : (b : Bank) (frame : List ℕ) → IsTrueStretch (spi_stretch s.accepts b frame)
   spi_true b frame = record {
@@ -124,7 +120,7 @@ module _ (s : Setting) where
     };
     noted = λ which story trace p cut rose.
         let own = (cut_makes (IsMine b) IsNoLoss which _ trace story (filtered_makes s.accepts b frame story) cut).0 in
-        (refl, ((refl, mine_rose b which own rose), tt));
+        (refl, ((refl, rose_at (device_of b) which own rose), tt));
     on = λ which story trace p cut e. behind_moves trace ((spi_stretch s.accepts b frame).on_fault which) story p.1;
   }
 
