@@ -1,5 +1,5 @@
 -- What the bus may write lies in its bank, and leaves what the trust in the bank's image and its recovery stand on.
-use Rattle.std.proofs.Common.{◌≡◌, ℕ, ◌+◌, ◌-◌, ◌*◌, ◌/◌, ◌%◌, ◌<◌, ◌≤◌, List, [], ◌∷◌, length, get_or, map, All, inl, inr, ⊎_elim, subst, sym, arith}
+use Rattle.std.proofs.Common.{ℕ, ◌+◌, ◌-◌, ◌*◌, ◌/◌, ◌<◌, ◌≤◌, List, [], ◌∷◌, length, All, inl, inr, subst, sym, arith}
 use Rattle.std.proofs.lemmas.List.Elements.{All-nil, All-cons, All-head, All-tail, All-map, All-weaker, All-get_or}
 use Rattle.pfr_flash.specs.Flash.{IsInPage}
 use Rattle.pfr_flash.specs.Layout.{IsApart, IsInside}
@@ -9,12 +9,12 @@ use Rattle.pfr_flash.specs.Plan.{IsPart}
 use Rattle.pfr_flash.specs.Range.{IsWithin, place_of, len_of}
 use Rattle.pfr_flash.specs.declared.layout.Layout.{Layout}
 use Rattle.pfr_flash.proofs.LeavingLemmas.{leaves_torn}
-use Rattle.pfr_manifest.specs.Access.{IsPageWithin, IsWritable, static_regions}
+use Rattle.pfr_manifest.specs.Access.{IsWritable, static_regions}
 use Rattle.pfr_manifest.specs.Regions.{IsRegion, IsInOrder}
 use Rattle.pfr_manifest.specs.declared.manifest.Manifest.{Manifest}
 use Rattle.pfr_manifest.specs.declared.region.Region.{Region}
 use Rattle.pfr_manifest.proofs.ApartLaw.{LeavesTrusted, writable_apart, writes_apart}
-use Rattle.pfr_filter.specs.Asking.{numbers_from, pages_of, bus_ops, IsSafe, IsFormed}
+use Rattle.pfr_filter.specs.Asking.{numbers_from, bus_ops, IsSafe, IsFormed}
 use Rattle.pfr_filter.specs.declared.verdict.BusOp.{BusOp}
 use Rattle.pfr_filter.specs.declared.verdict.BusOp.TheVariants.{Read, Status, Id, WriteEnable, WriteDisable, Program, Erase}
 
