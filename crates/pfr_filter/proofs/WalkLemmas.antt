@@ -51,29 +51,30 @@ module _ {stretches : List Stretch} {page number : ℕ} (is : IsTable stretches)
     }
 
     -- that stretch and the staging area tell whether the bus may write the page
-    pub tells : (layout : Layout) → (lets_write page found || is_page_within page layout.staging_at (layout.staging_at + layout.area_len)) ≡ writable_by stretches layout page
-    tells layout =
+    pub tells : (layout : Layout) (may : Bool) → may ≡ (lets_write page found || is_page_within page layout.staging_at (layout.staging_at + layout.area_len)) → may ≡ writable_by stretches layout page
+    tells layout may e =
         let t = first_tells stretches page number found is first.below first.behind in
-        rw (t, lt-ltb number (length stretches) some, at_number found) refl
+        rw (t, lt-ltb number (length stretches) some, at_number found) e
 
   -- where none is left, the staging area alone does
-  pub tells_past : length stretches ≤ number → (layout : Layout) → is_page_within page layout.staging_at (layout.staging_at + layout.area_len) ≡ writable_by stretches layout page
-  tells_past none layout =
+  pub tells_past : length stretches ≤ number → (layout : Layout) (may : Bool) → may ≡ is_page_within page layout.staging_at (layout.staging_at + layout.area_len) → may ≡ writable_by stretches layout page
+  tells_past none layout may e =
       let t = first_tells stretches page number blank is first.below first.behind in
-      rw (t, le-ltb number (length stretches) none) refl
+      rw (t, le-ltb number (length stretches) none) e
 
 -- ---- the first page that a test doesn't hold of
-pub goes_on : (test : ℕ → Bool) (page left rest : ℕ) → left ≡ suc rest → test page ≡ true → first_without test (numbers_from page left) ≡ first_without test (numbers_from (page + 1) rest)
-unfolding first_without numbers_from
-goes_on test page left rest e holds = rw (e, holds) refl
+module _ (test : ℕ → Bool) (whole : Option ℕ) (page left rest : ℕ) (so_far : whole ≡ first_without test (numbers_from page left)) where
+  pub goes_on : left ≡ suc rest → test page ≡ true → whole ≡ first_without test (numbers_from (page + 1) rest)
+  unfolding first_without numbers_from
+  goes_on e holds = so_far ∙ rw (e, holds) refl
 
-pub stops : (test : ℕ → Bool) (page left rest : ℕ) → left ≡ suc rest → test page ≡ false → first_without test (numbers_from page left) ≡ Some page
-unfolding first_without numbers_from
-stops test page left rest e fails = rw (e, fails) refl
+  pub stops : left ≡ suc rest → test page ≡ false → Some page ≡ whole
+  unfolding first_without numbers_from
+  stops e fails = sym (so_far ∙ rw (e, fails) refl)
 
-pub none_left : (test : ℕ → Bool) (page left : ℕ) → left ≡ 0 → first_without test (numbers_from page left) ≡ None
-unfolding first_without numbers_from
-none_left test page left e = rw e refl
+  pub none_left : left ≡ 0 → None ≡ whole
+  unfolding first_without numbers_from
+  none_left e = sym (so_far ∙ rw e refl)
 
 -- ---- the pages that a frame would write
 pub length-numbers_from : (first count : ℕ) → length (numbers_from first count) ≡ count

@@ -52,6 +52,16 @@ fn judged<L: Ledger>(
     Ok(op)
 }
 
+// The verdict of a judgement.
+fn verdict_of(judged: Result<BusOp, BlockCause>) -> Verdict
+    ensures { result ≡ verdict_of judged }
+{
+    match judged {
+        Ok(op) => Verdict::Pass(op),
+        Err(cause) => Verdict::Block(cause),
+    }
+}
+
 /// Judges a frame on an SPI bus: an opcode, then an address of four bytes where it has one, its highest byte first, then data.
 /// Bytes behind those that are needed aren't looked at. `size` is the flash's, in bytes; `latch` tells whether writes are enabled.
 ///
@@ -73,9 +83,7 @@ pub fn judge_counted<L: Ledger>(
     // At most 8 stretches are looked at for a frame that writes one page, and at most 23 for one that writes sixteen.
     ensures cost { steps.new ≤ steps.old + (7 + length (touched frame.now)) }
 {
-    let verdict = match judged(frame, table, layout, size, latch, steps) {
-        Ok(op) => Verdict::Pass(op),
-        Err(cause) => Verdict::Block(cause),
-    };
-    Judged::new(verdict)
+    Judged::new(verdict_of(judged(
+        frame, table, layout, size, latch, steps,
+    )))
 }

@@ -7,8 +7,8 @@ use Rattle.pfr_filter.proofs.asking.page_with.Goals as goal
 rotated : (place : ℕ) (bytes front old : List ℕ) → length bytes ≤ 256 → front ≡ bytes → old ≡ front ++ drop (length bytes) (replicate 256 255)
     → drop (length old - place) old ++ take (length old - place) old ≡ page_with place bytes
 rotated place bytes front old few e f =
-    let blank : drop (length bytes) (replicate 256 255) ≡ replicate (256 - length bytes) 255 = drop-replicate (length bytes) 256 255 in
-    let is : old ≡ bytes ++ replicate (256 - length bytes) 255 = cc in
+    let is : old ≡ bytes ++ replicate (256 - length bytes) 255 =
+    f ∙ ap (λ (xs : List ℕ). xs ++ drop (length bytes) (replicate 256 255)) e ∙ ap (λ (xs : List ℕ). bytes ++ xs) (drop-replicate (length bytes) 256 255) in
     let long : length old ≡ 256 = ap length is ∙ length-append bytes (replicate (256 - length bytes) 255) ∙ omega (arith, length-replicate {A = ℕ} (256 - length bytes) 255) in
     rw (long, is) refl
 
