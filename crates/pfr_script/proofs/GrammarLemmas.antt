@@ -191,9 +191,12 @@ alone_is event (word ∷ words) line h = cc
 
 -- what a line says behind `spi` or `smbus`
 pub record IsFrameLine (most : ℕ) (words : List (List ℕ)) (parts : Bank × List ℕ) : Type 0 where
+  bank : Bank
+  frame : List ℕ
   word : List ℕ
-  says : SaysFrame word parts.1 most
-  words_are : words ≡ bank_word parts.0 ∷ word ∷ []
+  says : SaysFrame word frame most
+  words_are : words ≡ bank_word bank ∷ word ∷ []
+  parts_are : (bank, frame) ≡ parts
 
 frame_line_is : (most : ℕ) (words : List (List ℕ)) (parts : Bank × List ℕ) → judge_frame_line most words ≡ Ok parts → IsFrameLine most words parts
 unfolding judge_frame_line
@@ -201,12 +204,14 @@ frame_line_is most words parts h =
     let a = passed_part (two_words words) (λ parts. known causes.Word (bank_of parts.0) >>= λ bank. judge_frame most parts.1 >>= λ frame. Ok (bank, frame)) parts h in
     let b = passed_part (known causes.Word (bank_of a.0.0)) (λ bank. judge_frame most a.0.1 >>= λ frame. Ok (bank, frame)) parts a.2 in
     let c = passed_part (judge_frame most a.0.1) (λ frame. Ok (b.0, frame)) parts b.2 in
-    let is : IsFrameLine most words (b.0, c.0) = record {
+    record {
+      bank = b.0;
+      frame = c.0;
       word = a.0.1;
       says = frame_is most a.0.1 c.0 c.1;
       words_are = (two_ok words a.0 a.1).0 ∙ ap (λ w. w ∷ a.0.1 ∷ []) (bank_is a.0.0 b.0 b.1);
-    } in
-    subst (IsFrameLine most words) (ok_same (b.0, c.0) parts c.2) is
+      parts_are = ok_same (b.0, c.0) parts c.2;
+    }
 
 frame_line_said : (most : ℕ) (bank : Bank) (word frame : List ℕ) → SaysFrame word frame most → judge_frame_line most (bank_word bank ∷ word ∷ []) ≡ Ok (bank, frame)
 unfolding judge_frame_line
@@ -331,23 +336,27 @@ off_says words line h =
     let P : Line → Type 0 = λ l. Says l (codes "off" ∷ words) in
     subst P a.1 (rw a.0 refl)
 
-frame_line_says : (first : List ℕ) (most : ℕ) (words : List (List ℕ)) (parts : Bank × List ℕ) → IsFrameLine most words parts →
-    SaysFrameLine first most parts.0 parts.1 (first ∷ words)
+frame_line_says : (first : List ℕ) (most : ℕ) (words : List (List ℕ)) (parts : Bank × List ℕ) (is : IsFrameLine most words parts) →
+    SaysFrameLine first most is.bank is.frame (first ∷ words)
 frame_line_says first most words parts is = (is.word, is.says, ap (λ ws. first ∷ ws) is.words_are)
 
 spi_says : (words : List (List ℕ)) (line : Line) → judge_spi words ≡ Ok line → Says line (codes "spi" ∷ words)
 unfolding judge_spi
 spi_says words line h =
     let a = passed_part (judge_frame_line 261 words) (λ parts. Ok (Happens (Spi parts.0 parts.1))) line h in
+    let is = frame_line_is 261 words a.0 a.1 in
+    let line_is : Happens (Spi is.bank is.frame) ≡ line = ap (λ (p : Bank × List ℕ). Happens (Spi p.0 p.1)) is.parts_are ∙ ok_same (Happens (Spi a.0.0 a.0.1)) line a.2 in
     let P : Line → Type 0 = λ l. Says l (codes "spi" ∷ words) in
-    subst P (ok_same (Happens (Spi a.0.0 a.0.1)) line a.2) (frame_line_says (codes "spi") 261 words a.0 (frame_line_is 261 words a.0 a.1))
+    subst P line_is (frame_line_says (codes "spi") 261 words a.0 is)
 
 smbus_says : (words : List (List ℕ)) (line : Line) → judge_smbus words ≡ Ok line → Says line (codes "smbus" ∷ words)
 unfolding judge_smbus
 smbus_says words line h =
     let a = passed_part (judge_frame_line 35 words) (λ parts. Ok (Happens (Smbus parts.0 parts.1))) line h in
+    let is = frame_line_is 35 words a.0 a.1 in
+    let line_is : Happens (Smbus is.bank is.frame) ≡ line = ap (λ (p : Bank × List ℕ). Happens (Smbus p.0 p.1)) is.parts_are ∙ ok_same (Happens (Smbus a.0.0 a.0.1)) line a.2 in
     let P : Line → Type 0 = λ l. Says l (codes "smbus" ∷ words) in
-    subst P (ok_same (Happens (Smbus a.0.0 a.0.1)) line a.2) (frame_line_says (codes "smbus") 35 words a.0 (frame_line_is 35 words a.0 a.1))
+    subst P line_is (frame_line_says (codes "smbus") 35 words a.0 is)
 
 provision_says : (words : List (List ℕ)) (line : Line) → judge_provision words ≡ Ok line → Says line (codes "provision" ∷ words)
 provision_says words line h =

@@ -30,6 +30,7 @@ fn items(rt: HostRuntime) -> Result<(), Fail> {
         ),
         Ok(3)
     );
+    assert_eq!(rt; count(alloc, b"spi bmc 0aFF\nsmbus pch 01\n"), Ok(2));
     Ok(())
 }
 
@@ -53,6 +54,22 @@ fn causes(rt: HostRuntime) -> Result<(), Fail> {
         count(alloc, b"off\nprovision 00\n"),
         refused(2, ScriptWhy::Length)
     );
+    Ok(())
+}
+
+#[test]
+fn frames(rt: HostRuntime) -> Result<(), Fail> {
+    let alloc = rt.alloc();
+    let mut line = [b'0'; 532];
+    line[..8].copy_from_slice(b"spi bmc ");
+    assert_eq!(rt; count(alloc, &line[..530]), Ok(1));
+    assert_eq!(rt; count(alloc, &line), refused(1, ScriptWhy::Length));
+    line[..10].copy_from_slice(b"smbus pch ");
+    assert_eq!(rt; count(alloc, &line[..80]), Ok(1));
+    assert_eq!(rt; count(alloc, &line[..82]), refused(1, ScriptWhy::Length));
+    assert_eq!(rt; count(alloc, &line[..81]), refused(1, ScriptWhy::Hex));
+    assert_eq!(rt; count(alloc, b"spi nv 0"), refused(1, ScriptWhy::Word));
+    assert_eq!(rt; count(alloc, b"spi bmc "), refused(1, ScriptWhy::Word));
     Ok(())
 }
 
