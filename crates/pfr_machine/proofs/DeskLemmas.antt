@@ -33,7 +33,8 @@ use Rattle.pfr_machine.specs.Inside.{AreBeside, AreSeated, IsDesk, IsSeat}
 use Rattle.pfr_machine.specs.Worlds.{AddsNotes, IsAwake, Latches, Sitting, Stays, StaysAwake, desk_world, latches_after, pushed, with_note, world_with}
 use Rattle.pfr_machine.specs.Ready.{LeavesSeated}
 use Rattle.pfr_machine.specs.declared.board.Board.{Board}
-use Rattle.pfr_machine.proofs.WorldLemmas.{AddsNotes-same, KeepsLaid-same, standing_noted, seat_noted, seat_stays, board_noted, board_stays}
+use Rattle.pfr_machine.proofs.LaidLemmas.{KeepsLaid-same}
+use Rattle.pfr_machine.proofs.WorldLemmas.{AddsNotes-same, standing_noted, seat_noted, seat_stays, board_noted, board_stays}
 
 -- ---- the devices of a desk
 module _ {F : Type 0} where

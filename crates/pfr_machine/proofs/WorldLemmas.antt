@@ -71,9 +71,6 @@ off_seat whose = record { whose = whose; line = line.Off; latch = false; ruling 
 abbrev pub locked_seat : Bank → Sitting
 locked_seat whose = record { whose = whose; line = line.Locked; latch = false; ruling = None }
 
-pub none_laid : (which : Bank) (nv : List ℕ) (r : Ruling) → None ≡ Some r → IsLaid which r.layout nv
-none_laid which nv r e = absurd (let never : None ≡ Some r = e in cc)
-
 -- the seat of a bank, once something was noted
 pub seat_noted : (which : Bank) (later : Sitting) (note : Note) (old new : World)
     → size_of (state_at (device_of which) new) ≡ size_of (state_at (device_of which) old)
@@ -103,10 +100,6 @@ seat_stays which seat old new size list on keeps h = record {
   on = on;
   laid = λ r e. keeps which r.layout (h.laid r e);
 }
-
--- a store that stays as it is does
-pub KeepsLaid-same : (old new : List ℕ) → new ≡ old → KeepsLaid old new
-KeepsLaid-same old new e which layout h = subst (λ (nv : List ℕ). IsLaid which layout nv) (sym e) h
 
 pub board_noted : (note : Note) (old new : World) → size_of new.nv ≡ size_of old.nv → new.notes.list ≡ old.notes.list ++ note ∷ [] → HasText note.what → IsBoard old → IsBoard new
 board_noted note old new size list text board = record {
