@@ -1,4 +1,4 @@
-// The text of a cause that is found in a bank's bytes.
+// The text of a cause, and the number in it.
 ghost use Rattle.std.specs.Prelude.{◌≡◌, [], codes, None, Some};
 ghost use Rattle.pfr_flash.specs.Answer.{IsFound};
 ghost use Rattle.pfr_auth.specs.Answer.{active_failure};

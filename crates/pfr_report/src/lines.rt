@@ -17,8 +17,23 @@ use pfr_filter::BlockCause;
 use pfr_flash::Bank;
 use pfr_shelf::{Sink, SinkFail, write_pieces};
 
-// The line of a bank that words alone tell.
+// The line of words alone.
 fn write_words<K: Sink>(
+    item: u32,
+    text: &'static [u8],
+    word: &'static [u8],
+    out: &mut K,
+) -> Result<(), SinkFail>
+    ensures { Writes K.tells K.written K.faults out.old out.new
+        (decimal item ++ (codes " " ++ ((text.now ++ word.now) ++ codes "\n"))) result }
+{
+    let mut buffer = Buffer::new();
+    let item = buffer.format(item).as_bytes();
+    write_pieces(out, &[item, b" ", text, word, b"\n"])
+}
+
+// The line of a bank, with words alone behind its name.
+fn write_bank<K: Sink>(
     item: u32,
     bank: Bank,
     text: &'static [u8],
@@ -179,38 +194,30 @@ pub fn write_note<K: Sink>(note: &Note, out: &mut K) -> Result<(), SinkFail>
     requires { HasText note.now.what }
     ensures { Writes K.tells K.written K.faults out.old out.new (note_text note.now) result }
 {
-    let mut buffer = Buffer::new();
-    let item = buffer.format(note.item).as_bytes();
+    let item = note.item;
     match note.what {
-        What::Power => write_pieces(out, &[item, b" power\n"]),
-        What::Held { bank, .. } => write_words(note.item, bank, b" held", b"", out),
-        What::Released { bank, svn, .. } => write_released(note.item, bank, svn, out),
+        What::Power => write_words(item, b"power", b"", out),
+        What::Held { bank, .. } => write_bank(item, bank, b" held", b"", out),
+        What::Released { bank, svn, .. } => write_released(item, bank, svn, out),
         What::Locked {
             bank,
             why: LockWhy::NoGoodImage(active, recovery),
             ..
-        } => write_no_good_image(note.item, bank, active, recovery, out),
-        What::Locked { bank, why, .. } => {
-            write_words(note.item, bank, b" locked ", lock_word(why), out)
-        }
-        What::Lost { device, .. } => {
-            write_pieces(out, &[item, b" lost", lost_word(device), b"\n"])
-        }
-        What::Untrusted { bank, why } => write_untrusted(note.item, bank, why, out),
-        What::Restored { bank, level } => write_restored(note.item, bank, level, out),
-        What::BusPassed { bank, ref op } => {
-            write_words(note.item, bank, b" pass ", op_word(op), out)
-        }
-        What::BusBlocked { bank, why } => write_blocked(note.item, bank, why, out),
-        What::SmbusPassed { bank } => write_words(note.item, bank, b" smbus pass", b"", out),
+        } => write_no_good_image(item, bank, active, recovery, out),
+        What::Locked { bank, why, .. } => write_bank(item, bank, b" locked ", lock_word(why), out),
+        What::Lost { device, .. } => write_words(item, b"lost", lost_word(device), out),
+        What::Untrusted { bank, why } => write_untrusted(item, bank, why, out),
+        What::Restored { bank, level } => write_restored(item, bank, level, out),
+        What::BusPassed { bank, ref op } => write_bank(item, bank, b" pass ", op_word(op), out),
+        What::BusBlocked { bank, why } => write_blocked(item, bank, why, out),
+        What::SmbusPassed { bank } => write_bank(item, bank, b" smbus pass", b"", out),
         What::SmbusBlocked { bank, why } => {
-            write_words(note.item, bank, b" smbus blocked ", smbus_word(why), out)
+            write_bank(item, bank, b" smbus blocked ", smbus_word(why), out)
         }
-        What::Provisioned => write_pieces(out, &[item, b" provisioned\n"]),
-        What::ProvisionRefused { why } => write_pieces(
-            out,
-            &[item, b" provision refused ", provision_word(why), b"\n"],
-        ),
-        What::Ignored => write_pieces(out, &[item, b" ignored\n"]),
+        What::Provisioned => write_words(item, b"provisioned", b"", out),
+        What::ProvisionRefused { why } => {
+            write_words(item, b"provision refused ", provision_word(why), out)
+        }
+        What::Ignored => write_words(item, b"ignored", b"", out),
     }
 }
