@@ -162,17 +162,22 @@ pub with_mine_on : (b : Bank) (what : What) (w : World) → (state_at (device_of
 with_mine_on b what w on = ap (λ (x : World). with_note what x) (mine_powered b w on)
 
 -- ---- the power goes
-pub lost_ran : (device : Option Device) (at : Counts) (w new : World) → at ≡ counts_in w → new ≡ with_note (Lost device at) (darkened w) → Ran (Says (Lost device) ∷ []) w new
-lost_ran device at w new counts e =
-    let same : new ≡ with_note (Lost device (counts_in w)) (darkened w) = e ∙ ap (λ (c : Counts). with_note (Lost device c) (darkened w)) counts in
-    subst (λ (x : World). Ran (Says (Lost device) ∷ []) w x) (sym same)
+abbrev pub IsLost : Option Device → World → World → Type 0
+IsLost device old new = new ≡ with_note (Lost device (counts_in old)) (darkened old)
+
+pub lost_from : (device : Option Device) (old self new : World) → old ≡ self → IsLost device old new → IsLost device self new
+lost_from device old self new same e = subst (λ (w : World). IsLost device w new) same e
+
+pub lost_ran : (device : Option Device) (w new : World) → IsLost device w new → Ran (Says (Lost device) ∷ []) w new
+lost_ran device w new e =
+    subst (λ (x : World). Ran (Says (Lost device) ∷ []) w x) (sym e)
     (Ran-uncalled (Says (Lost device) ∷ []) w (with_note (Lost device (counts_in w)) (darkened w)) (record { bmc = refl; pch = refl; nv = refl }) refl)
 
-pub lost_notes : (what : What) (w new : World) → new ≡ with_note what (darkened w) → 1 ≤ w.notes.spare → AddsNotes 1 w.notes new.notes
-lost_notes what w new e room = subst (λ (x : World). AddsNotes 1 w.notes x.notes) (sym e) (AddsNotes-noted what (darkened w) room)
+pub lost_notes : (device : Option Device) (w new : World) → IsLost device w new → 1 ≤ w.notes.spare → AddsNotes 1 w.notes new.notes
+lost_notes device w new e room = subst (λ (x : World). AddsNotes 1 w.notes x.notes) (sym e) (AddsNotes-noted (Lost device (counts_in w)) (darkened w) room)
 
-pub lost_dark : (what : What) (w new : World) → new ≡ with_note what (darkened w) → IsDark new
-lost_dark what w new e = subst (λ (x : World). IsDark x) (sym e) (record { bmc = refl; pch = refl; nv = refl })
+pub lost_dark : (device : Option Device) (w new : World) → IsLost device w new → IsDark new
+lost_dark device w new e = subst (λ (x : World). IsDark x) (sym e) (record { bmc = refl; pch = refl; nv = refl })
 
 lost_seat : (which whose : Bank) (device : Option Device) (at : Counts) (w new : World)
     → size_of (state_at (device_of which) new) ≡ size_of (state_at (device_of which) w) → new.notes.list ≡ (with_note (Lost device at) w).notes.list
@@ -225,17 +230,46 @@ module _ {F : Type 0} (dev : F → FlashState) where
 module _ {F : Type 0} (dev : F → FlashState) (s : Sides F) (dark dark_other : FlashState) (next : Board F) (store : F) (device : Option Device) (at : Counts)
     (m : dark ≡ record (dev (flash_in s.mine)) { powered = false }) (o : dark_other ≡ record (dev (flash_in s.other)) { powered = false }) (n : dev store ≡ record (dev next.nv) { powered = false })
     (e : next ≡ pushed (Lost device at) s.board) where
-  pub dark_sides : desk_world s.bank dark dark_other (dev store) (latches_by s.bank false false) (record next { nv = store }) ≡ with_note (Lost device at) (darkened (sides_world dev s))
+  dark_sides : desk_world s.bank dark dark_other (dev store) (latches_by s.bank false false) (record next { nv = store }) ≡ with_note (Lost device at) (darkened (sides_world dev s))
   dark_sides =
       let latches : Latches = latches_by s.bank (latch_in s.mine) (latch_in s.other) in
       dark_world dev s.bank (Lost device at) (dev (flash_in s.mine)) dark (dev (flash_in s.other)) dark_other (dev s.board.nv) latches (latches_by s.bank false false) s.board next store
       m o (n ∙ ap (λ (x : Board F). record (dev x.nv) { powered = false }) e) (dark_latches s.bank device at latches) e
+
+  pub dark_is : at ≡ counts_in (sides_world dev s) → IsLost device (sides_world dev s) (desk_world s.bank dark dark_other (dev store) (latches_by s.bank false false) (record next { nv = store }))
+  dark_is counts = dark_sides ∙ ap (λ (c : Counts). with_note (Lost device c) (darkened (sides_world dev s))) counts
 
   pub dark_beside : (whose other_whose : Bank) → whose ≡ bank_in s.mine → other_whose ≡ bank_in s.other → AreOwned s.bank (sits_in s.mine) (sits_in s.other) (sides_world dev s)
       → AreBeside s.bank (off_seat whose) (off_seat other_whose) (desk_world s.bank dark dark_other (dev store) (latches_by s.bank false false) (record next { nv = store }))
   dark_beside whose other_whose owned others h =
       subst (λ (w : World). AreBeside s.bank (off_seat whose) (off_seat other_whose) w) (sym dark_sides)
       (lost_beside s.bank whose other_whose device at (sides_world dev s) (owned ∙ h.mine) h.size (others ∙ h.other) h.other_size h.board)
+
+pub beside_owned : (b : Bank) (mine other : Sitting) (w : World) → AreBeside b mine other w → AreOwned b mine other w
+beside_owned b mine other w h = record { mine = h.mine.owner; size = h.mine.size; other = h.other.owner; other_size = h.other.size; board = h.board }
+
+-- a desk whose bank's device has lost its power already
+module _ {F : Type 0} (b whose : Bank) (seat : Sitting) (mine off other nv : FlashState) (latches : Latches) (board : Board F) (down : off ≡ record mine { powered = false }) where
+  abbrev pub desk_off : World
+  desk_off = desk_world b off other nv latches board
+
+  pub desk_owned : (later : Bank) → later ≡ whose → IsDesk b whose seat (desk_world b mine other nv latches board) → AreOwned b (off_seat later) seat desk_off
+  desk_owned later same h =
+      subst (λ (d : FlashState). AreOwned b (off_seat later) seat (desk_world b d other nv latches board)) (sym down)
+      (by_bank b (same ∙ h.owner) h.size h.other.owner h.other.size h.board)
+    where
+      by_bank : (b : Bank) → later ≡ b → IsBankSize (size_of (state_at (device_of b) (desk_world b mine other nv latches board))) → seat.whose ≡ other_bank b
+          → IsBankSize (size_of (state_at (device_of (other_bank b)) (desk_world b mine other nv latches board))) → IsBoard (desk_world b mine other nv latches board)
+          → AreOwned b (off_seat later) seat (desk_world b (record mine { powered = false }) other nv latches board)
+      by_bank bank.Bmc owned size others other_size h = record { mine = owned; size = size; other = others; other_size = other_size; board = record { size = h.size; texts = h.texts } }
+      by_bank bank.Pch owned size others other_size h = record { mine = owned; size = size; other = others; other_size = other_size; board = record { size = h.size; texts = h.texts } }
+
+  pub desk_lost : (device : Option Device) (new : World) → IsLost device desk_off new → IsLost device (desk_world b mine other nv latches board) new
+  desk_lost device new e = by_bank b (subst (λ (d : FlashState). IsLost device (desk_world b d other nv latches board) new) down e)
+    where
+      by_bank : (b : Bank) → IsLost device (desk_world b (record mine { powered = false }) other nv latches board) new → IsLost device (desk_world b mine other nv latches board) new
+      by_bank bank.Bmc e = e
+      by_bank bank.Pch e = e
 
 -- ---- the seats of both banks, of which this one is held or locked
 module _ {F : Type 0} (dev : F → FlashState) (s : Sides F) (seated : AreSides dev s) (flash : FlashState)

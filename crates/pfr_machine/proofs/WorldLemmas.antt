@@ -1,7 +1,7 @@
 -- What notes and devices do to the platform.
 use Rattle.std.proofs.Common.{◌≡◌, ◌≢◌, ◌∙◌, refl, sym, ap, subst, ℕ, ◌≤◌, ◌+◌, Bool, true, false, List, [], ◌∷◌, ◌++◌, Some, None, arith}
 use Rattle.std.proofs.lemmas.List.{length-append}
-use Rattle.pfr_flash.specs.FlashState.{now, size_of}
+use Rattle.pfr_flash.specs.FlashState.{FlashState, now, op_count_of, size_of}
 use Rattle.pfr_flash.specs.Layout.{IsBankSize}
 use Rattle.pfr_flash.specs.declared.names.Bank.{Bank}
 use Rattle.pfr_flash.specs.declared.names.Bank.TheVariants as bank
@@ -23,7 +23,8 @@ use Rattle.pfr_story.specs.Goes.{Ran}
 use Rattle.pfr_story.specs.declared.line.Line.TheVariants as line
 use Rattle.pfr_story.proofs.Lift.{Ran-says}
 use Rattle.pfr_machine.specs.Inside.{IsBoard, IsLaid, IsSeat, KeepsLaid}
-use Rattle.pfr_machine.specs.Worlds.{AddsNotes, Latches, Sitting, latches_after, latches_by, with_note}
+use Rattle.pfr_machine.specs.Worlds.{AddsNotes, Latches, Sitting, counts_by, desk_world, latches_after, latches_by, with_note}
+use Rattle.pfr_machine.specs.declared.board.Board.{Board}
 
 -- ---- how banks stand once something more is noted
 standing_from-noted : (which : Bank) (how : Standing) (list : List Note) (note : Note) → standing_from which how (list ++ note ∷ []) ≡ standing_after which note.what (standing_from which how list)
@@ -58,6 +59,11 @@ pub noted_ran : (says : Counts → What) (what : What) (old new : World) → wha
 noted_ran says what old new w e =
     let same : new ≡ with_note (says (counts_in old)) old = subst (λ (x : What). new ≡ with_note x old) w e in
     subst (λ (x : World). Ran (Says says ∷ []) old x) (sym same) (Ran-says says old (with_note (says (counts_in old)) old) refl refl refl refl refl refl)
+
+-- ---- counts
+pub counts_desk : {F : Type 0} (b : Bank) (mine other nv : FlashState) (latches : Latches) (board : Board F) → counts_by b (op_count_of mine) (op_count_of other) (op_count_of nv) ≡ counts_in (desk_world b mine other nv latches board)
+counts_desk bank.Bmc mine other nv latches board = refl
+counts_desk bank.Pch mine other nv latches board = refl
 
 -- ---- seats
 -- a bank that runs was judged by the layout that the store provisions it with

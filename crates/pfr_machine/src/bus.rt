@@ -10,7 +10,7 @@ ghost use Rattle.pfr_flash.specs.FlashState.{now, size_of};
 ghost use Rattle.pfr_flash.specs.declared.names.Bank.{Bank};
 ghost use Rattle.pfr_flash.specs.declared.names.Bank.TheVariants.{Bmc};
 ghost use Rattle.pfr_report.specs.Texts.{HasText};
-ghost use Rattle.pfr_story.specs.Course.{Follows, Steps};
+ghost use Rattle.pfr_story.specs.Course.{Follows, Steps as StepsAlong};
 ghost use Rattle.pfr_story.specs.Plans.{smbus_judged, smbus_note};
 ghost use Rattle.pfr_story.specs.Promises.{Runs};
 ghost use Rattle.pfr_story.specs.Standing.{Off, Standing, standing_after, standing_of};
@@ -106,7 +106,7 @@ impl<F: Flash> Bus<F> {
         requires whole { IsWhole (bus_world (λ f. F.device f) self) }
         requires passed { judged.now ≡ Pass op.now }
         requires safe { IsSafe self.running.manifest self.running.layout op.now }
-        ensures steps { Steps (verdict_stretch self.bank judged.now ∷ []) (bus_world (λ f. F.device f) self) result }
+        ensures steps { StepsAlong (verdict_stretch self.bank judged.now ∷ []) (bus_world (λ f. F.device f) self) result }
         ensures leaves { LeavesWhole 3 (bus_world (λ f. F.device f) self) result }
         ensures dark { standing_of Bmc result.notes.list ≡ Off → IsDark result }
     {
@@ -125,7 +125,7 @@ impl<F: Flash> Bus<F> {
         requires whole { IsWhole (bus_world (λ f. F.device f) self) }
         ensures steps { let verdict = verdict_on frame.now self.running.manifest self.running.layout
             (size_of (F.device self.running.flash)) self.running.latch in
-            Steps (verdict_stretch self.bank verdict ∷ []) (bus_world (λ f. F.device f) self) result }
+            StepsAlong (verdict_stretch self.bank verdict ∷ []) (bus_world (λ f. F.device f) self) result }
         ensures leaves { LeavesWhole 3 (bus_world (λ f. F.device f) self) result }
         ensures dark { standing_of Bmc result.notes.list ≡ Off → IsDark result }
     {

@@ -112,6 +112,7 @@ impl<F: Flash> Inner<F> {
         requires whole { IsWhole self.old }
         ensures follows { Follows ignored self.old self.new }
         ensures leaves { LeavesWhole 64 self.old self.new }
+        ensures stands { (which : Bank) → standing_of which self.new.notes.list ≡ standing_of which self.old.notes.list }
         ensures untouched { SameDevices self.old self.new }
     {
         self.note(What::Ignored);

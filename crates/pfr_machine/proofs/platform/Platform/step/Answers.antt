@@ -6,6 +6,7 @@ use Rattle.pfr_story.proofs.Bytes.{have_bytes}
 use Rattle.pfr_story.proofs.BringLaws.{Turn-brings, Turn-powers}
 use Rattle.pfr_story.proofs.EventLaws.{Turn-belongs, Turn-dark, Turn-quiet}
 use Rattle.pfr_story.proofs.FaultLaws.{Turn-told}
+use Rattle.pfr_story.proofs.FilterLaws.{Turn-filters}
 use Rattle.pfr_story.proofs.GrowthLaws.{Turn-grows, Turn-keeps}
 use Rattle.pfr_story.proofs.LossLaws.{Turn-losses, Turn-lost, Turn-off}
 use Rattle.pfr_story.proofs.NoteLaws.{Turn-distrusts, Turn-faults, Turn-locks, Turn-releases, Turn-restores}
@@ -72,6 +73,9 @@ returns-clause-moved g c = by_turn c.work-done.result c.work-done.ensures.turn (
 
 pub returns-clause-provisions : goal.returns-clause-provisions
 returns-clause-provisions g c = by_both c.work-done.result c.work-done.ensures.turn c.work-done.ensures.spelled (λ t slot. let s = sizes_before _ c.args.event.now _ _ t c.known-2.ensures.sizes in Turn-provisions _ c.args.event.now _ _ s.nv slot t)
+
+pub returns-clause-filters : goal.returns-clause-filters
+returns-clause-filters g c = by_turn c.work-done.result c.work-done.ensures.turn (λ t. Turn-filters _ c.args.event.now _ _ t c.known.ensures.trusted)
 
 pub returns-clause-grows : goal.returns-clause-grows
 returns-clause-grows g c = by_both c.work-done.result c.work-done.ensures.turn c.work-done.ensures.spelled (λ t slot. let s = sizes_before _ c.args.event.now _ _ t c.known-2.ensures.sizes in Turn-grows _ c.args.event.now _ _ s.nv c.known-2.ensures.bytes slot t)
