@@ -83,7 +83,5 @@ pub fn judge_counted<L: Ledger>(
     // At most 8 stretches are looked at for a frame that writes one page, and at most 23 for one that writes sixteen.
     ensures cost { steps.new ≤ steps.old + (7 + length (touched frame.now)) }
 {
-    Judged::new(verdict_of(judged(
-        frame, table, layout, size, latch, steps,
-    )))
+    Judged::new(verdict_of(judged(frame, table, layout, size, latch, steps)))
 }

@@ -14,15 +14,9 @@ pub enum BusOp {
     /// Writes are disabled.
     WriteDisable,
     /// The 256 bytes of the page of 256 bytes that begins here are programmed, with 0xFF where nothing goes.
-    Program {
-        at: u32,
-        page: [u8; 256],
-    },
+    Program { at: u32, page: [u8; 256] },
     /// So many sectors of 4,096 bytes are erased, from this one on.
-    Erase {
-        sector: u32,
-        count: u32,
-    },
+    Erase { sector: u32, count: u32 },
 }
 
 /// Why a frame is blocked: the first of these that is so.

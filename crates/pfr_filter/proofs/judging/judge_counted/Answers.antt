@@ -1,9 +1,7 @@
-use Rattle.std.proofs.Common.{◌≡◌, ◌∙◌, ◌^◌, ◌≤◌, true, arith, ap, Result}
+use Rattle.std.proofs.Common.{◌≡◌, ◌^◌, ◌≤◌, true, arith}
 use Rattle.pfr_flash.proofs.JudgingLemmas.{Decides-true}
 use Rattle.pfr_manifest.specs.Stretches.{writable_by}
-use Rattle.pfr_filter.specs.Frames.{judge_spi, verdict_of}
-use Rattle.pfr_filter.specs.declared.verdict.BusOp.{BusOp}
-use Rattle.pfr_filter.specs.declared.verdict.BlockCause.{BlockCause}
+use Rattle.pfr_filter.specs.Frames.{judge_spi}
 use Rattle.pfr_filter.proofs.JudgeLaws.{judged_formed, verdict_formed, verdict_passes}
 use Rattle.pfr_filter.proofs.judging.judge_counted.Goals as goal
 
