@@ -34,7 +34,7 @@ use Rattle.pfr_auth.specs.declared.fail.ActiveFail.{ActiveFail}
 use Rattle.pfr_auth.proofs.RegionLemmas.{of_filtered, same_hash}
 
 -- ---- bytes that lie in a part that is the same
-part_same : (from len : ℕ) (old new : List ℕ) (at count : ℕ) → length new ≡ length old → SameAt from len old new → from ≤ at → at + count ≤ from + len → bytes_at new at count ≡ bytes_at old at count
+pub part_same : (from len : ℕ) (old new : List ℕ) (at count : ℕ) → length new ≡ length old → SameAt from len old new → from ≤ at → at + count ≤ from + len → bytes_at new at count ≡ bytes_at old at count
 part_same from len old new at count size same low high =
     let lens : length (bytes_at new at count) ≡ length (bytes_at old at count) =
     length-take count (drop at new) ∙ ap (λ (n : ℕ). min count n) (length-drop at new ∙ ap (λ (n : ℕ). n - at) size ∙ sym (length-drop at old)) ∙ sym (length-take count (drop at old)) in
@@ -80,7 +80,7 @@ store_lasts bank old new fuses h was =
     }
 
 -- ---- the bank
-region_lasts : (region : Region) (old new : List ℕ) → length new ≡ length old → (is_static region ≡ true → SameAt region.start (region.end - region.start) old new) → IsHashed old region → IsHashed new region
+pub region_lasts : (region : Region) (old new : List ℕ) → length new ≡ length old → (is_static region ≡ true → SameAt region.start (region.end - region.start) old new) → IsHashed old region → IsHashed new region
 region_lasts region old new size same h =
     same_hash (bytes_between old region.start region.end) (bytes_between new region.start region.end) region.hash
     (λ static. part_same region.start (region.end - region.start) old new region.start (region.end - region.start) size (same static) (omega arith) (omega arith)) h

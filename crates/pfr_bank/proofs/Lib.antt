@@ -1,1 +1,2 @@
 pub mod SpellingLaw
+pub mod BusLemmas

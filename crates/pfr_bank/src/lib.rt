@@ -1,6 +1,7 @@
 //! The states of a bank, each of which owns the bank's flash. Only a bank that is held lends it.
 #![tactic(auto)]
 
+mod bus;
 mod checked;
 mod held;
 mod locked;

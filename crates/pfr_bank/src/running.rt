@@ -12,9 +12,10 @@ ghost use Rattle.pfr_filter.specs.declared.verdict.Verdict.TheVariants.{Pass};
 ghost use Rattle.pfr_bank.specs.Seats.{latch_left};
 ghost use Rattle.pfr_bank.specs.Spelling.{StillSpells};
 
+use crate::bus::{carry_out, latched};
 use crate::held::Held;
 use crate::off::Off;
-use pfr_filter::{BusOp, Judged, Verdict, judge_counted};
+use pfr_filter::{Judged, Verdict, judge_counted};
 use pfr_flash::{Bank, Flash, FlashFail, Layout, Rigged, Tear};
 use pfr_manifest::{Manifest, RegionTable, Steps};
 use std::marker::Model;
@@ -95,7 +96,14 @@ impl<F: Flash> Running<F> {
         // At most 8 stretches are looked at for a frame that writes one page, and at most 23 for one that writes sixteen.
         ensures cost { steps.new ≤ steps.old + (7 + length (touched frame.now)) }
     {
-        judge_counted(frame, &self.table, &self.layout, self.flash.size(), self.latch, steps)
+        judge_counted(
+            frame,
+            &self.table,
+            &self.layout,
+            self.flash.size(),
+            self.latch,
+            steps,
+        )
     }
 
     /// Hands a frame that passed to the flash, which does what it asks for. What is read isn't told.
@@ -113,7 +121,12 @@ impl<F: Flash> Running<F> {
         ensures recovery { All (Leaves self.old.layout.recovery_at self.old.layout.area_len)
             (drop (op_count_of (F.device self.old.flash)) (F.device self.new.flash).ops) }
     {
-        todo!()
+        let Verdict::Pass(op) = judged.verdict() else {
+            return Ok(());
+        };
+        carry_out(&mut self.flash, op)?;
+        self.latch = latched(op, self.latch);
+        Ok(())
     }
 
     /// How many bytes the flash has.

@@ -19,7 +19,7 @@ moved from to chain = record chain { content_at = to + (chain.content_at - from)
 abbrev pub span_of : ℕ → Chain → ℕ
 span_of place chain = chain.content_at + chain.length - place
 
-BlockAt-moved : (a b : List ℕ) (p q len len' : ℕ) (type : ContentType) (blen : ℕ) (h : BlockAt a p len type blen)
+pub BlockAt-moved : (a b : List ℕ) (p q len len' : ℕ) (type : ContentType) (blen : ℕ) (h : BlockAt a p len type blen)
     → head_at a p ≡ head_at b q → bytes_at a p blen ≡ bytes_at b q blen
     → bytes_at a (p + blen) (content_length (head_at a p)) ≡ bytes_at b (q + blen) (content_length (head_at a p))
     → blen + content_length (head_at a p) ≤ len' → BlockAt b q len' type blen
