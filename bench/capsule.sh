@@ -8,34 +8,11 @@
 # The program is capsule_speed.txt. A copy of the crates gets it as one more crate, and `rt run` there proves and builds
 # it, which takes minutes. BENCH_TURNS is how often each is timed (5 where it isn't set).
 set -u
-top="$(cd "$(dirname "$0")/.." && pwd)" || exit 1
+# shellcheck source=bench/scratch.sh
+. "$(dirname "$0")/scratch.sh"
 
-for tool in python3 rt tar; do
-    if ! command -v "$tool" >/dev/null; then
-        echo "bench: skipped, since there is no $tool"
-        exit 0
-    fi
-done
-
-room="$(mktemp -d)" || exit 1
-trap 'rm -rf "$room"' EXIT
-tar -C "$top" --exclude=out -cf - crates crates.txt | tar -C "$room" -xf - || exit 1
-if [ -f "$top/HANDLES" ]; then
-    cp "$top/HANDLES" "$room"
-fi
-crate="$room/crates/capsule_speed"
-mkdir -p "$crate/src" "$crate/specs" "$crate/proofs" || exit 1
-cp "$top/bench/capsule_speed.txt" "$crate/src/main.rt" || exit 1
-touch "$crate/specs/Lib.antt" "$crate/proofs/Lib.antt" "$crate/stdin" "$crate/stdout"
-echo "capsule_speed: pfr_flash pfr_shelf pfr_engine pfr_chain pfr_manifest pfr_fuses pfr_capsule sha2" >>"$room/crates.txt"
-
-# Without its files the program ends with 1, once it is built.
-(cd "$crate" && rt run) >/dev/null 2>&1
-program="$crate/out/capsule_speed"
-if [ ! -x "$program" ]; then
-    echo "bench: the program did not build"
-    exit 1
-fi
+new_crate capsule_speed capsule_speed.txt "pfr_flash pfr_shelf pfr_engine pfr_chain pfr_manifest pfr_fuses pfr_capsule sha2"
+build_crate
 python3 "$top/bench/make_platform.py" capsule "$room/platform" || exit 1
 turns="$(seq "${BENCH_TURNS:-5}" | tr '\n' ' ')"
 # shellcheck disable=SC2086

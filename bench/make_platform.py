@@ -5,8 +5,9 @@
 
 writes <folder>/bmc, pch, nv, blank.nv, engine, power and hashed. The platform is `ordinary` (a 64 MiB BMC bank with
 18 MiB of hashed regions, a 32 MiB PCH bank with 8 MiB), `capsule` (a 64 MiB BMC bank whose capsule has 16 MiB, and a
-PCH bank of 1 MiB), `restore` (a 64 MiB BMC bank with 24 MiB of hashed regions, and that PCH bank), `small` (two banks of
-1 MiB) or `tiny` (two of 128 KiB). The formats are those of docs/FORMATS.md.
+PCH bank of 1 MiB), `restore` (a 64 MiB BMC bank with 24 MiB of hashed regions, and that PCH bank), `filter` (a 4 MiB BMC bank
+with 64 writable regions of a page each, and that PCH bank), `small` (two banks of 1 MiB) or `tiny` (two of 128 KiB). The
+formats are those of docs/FORMATS.md.
 Beside the active image each bank's recovery area holds an update capsule. The signatures are marks that protect nothing:
 they are digests of the public key and the message.
 """
@@ -238,6 +239,21 @@ def restore():
     return bmc, small()[1]
 
 
+def filtered():
+    """A BMC with as many regions as a manifest can have, each of one page that may be written, one behind another."""
+    bmc = Bank(
+        size=4 * MIB,
+        svn=12,
+        manifest_len=0x2000,
+        recovery_at=2 * MIB,
+        staging_at=3 * MIB,
+        area_len=MIB,
+        regions=[Region(MIB + PAGE * k, MIB + PAGE * (k + 1), 3, "none", "keep") for k in range(64)],
+        filled=(0, 0),
+    )
+    return bmc, small()[1]
+
+
 def small():
     bank = Bank(
         size=MIB,
@@ -276,7 +292,14 @@ def tiny():
     return bank, bank
 
 
-PLATFORMS = {"ordinary": ordinary, "capsule": capsule, "restore": restore, "small": small, "tiny": tiny}
+PLATFORMS = {
+    "ordinary": ordinary,
+    "capsule": capsule,
+    "restore": restore,
+    "filter": filtered,
+    "small": small,
+    "tiny": tiny,
+}
 
 
 def main():

@@ -6,6 +6,8 @@ import hashlib
 import os
 import re
 
+import frame_scripts
+import framer
 import maker
 import restorer
 from case_reader import CaseFault
@@ -155,6 +157,29 @@ class Files:
         tear = b"" if tear == "-" else bytes.fromhex(tear)
         self.held[target] = restorer.cut_restore(self.get(bank), self.get("nv"), bank, int(nth), tear)
 
+    def frames(self, name, bank, source, at):
+        """frames NAME BANK FROM AT: at a text's end the frames that program a file's bytes into the bank, from a place on."""
+        at, data = int(at, 0), self.get(source)
+        for begin in range(0, len(data), 256):
+            piece = data[begin : begin + 256]
+            lines = f"spi {bank} 06\nspi {bank} 02{at + begin:08x}{piece.hex()}\n"
+            self.held[name] += data_of(lines) if piece.strip(b"\xff") else b""
+
+    def drawn(self, number):
+        """drawn N: the files of a platform and a script of frames, drawn from the number."""
+        self.held.update(frame_scripts.drawn_files(int(number)))
+
+    def sweep(self, name):
+        """sweep NAME: a script that gives the BMC all frames of a kind."""
+        self.held["script"] = frame_scripts.sweep_script(name)
+
+    def foresee(self, name, *words):
+        """foresee NAME [BMC PCH NV SCRIPT [WEAR]]: what a script makes of a platform: its report, and what it leaves."""
+        bmc, pch, nv, script, *wear = words or ("bmc", "pch", "nv", "script")
+        found = framer.foreseen(*map(self.get, (bmc, pch, nv)), self.get(script).decode(), *map(int, wear))
+        for part, content in zip(found._fields, found):
+            self.held[f"{name}.{part}"] = content
+
     # ---- their use
 
     def take(self, line):
@@ -165,7 +190,7 @@ class Files:
             raise CaseFault(f"{line.place}: no line {word}")
         try:
             return method(*rest, block=line.block) if word in ("text", "script") else method(*rest)
-        except (TypeError, ValueError, CaseFault) as error:
+        except (TypeError, ValueError, KeyError, CaseFault, framer.Unforeseen) as error:
             raise CaseFault(f"{line.place}: {error}") from None
 
     def written(self):
@@ -175,7 +200,7 @@ class Files:
 
 LINES = (
     "platform source copy text script fill zeros folder seal turn put number into append keep change repeat"
-    " restored cut_restore".split()
+    " restored cut_restore frames drawn sweep foresee".split()
 )
 
 

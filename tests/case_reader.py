@@ -101,10 +101,20 @@ def row_case(head, lines, row):
     return Case(filled(head.words[1], row, head.place), head.place, made)
 
 
+def timed_cases(head, lines):
+    """As many cases as the last line says, which differ in their number alone."""
+    count = lines[-1].words[1:]
+    if len(count) != 1 or not count[0].isdigit():
+        raise CaseFault(f"{lines[-1].place}: a number and nothing else stands behind `times`")
+    return [row_case(head, lines[:-1], {"row": f"{time:03}"}) for time in range(1, int(count[0]) + 1)]
+
+
 def table_cases(head, lines):
-    """A case for each row of the table, which is the last line of these."""
-    if not lines or lines[-1].words[0] != "rows":
+    """A case for each row of the table, which is the last line of these; behind `times` so many without columns."""
+    if not lines or lines[-1].words[0] not in ("rows", "times"):
         raise CaseFault(f"{head.place}: a table without rows")
+    if lines[-1].words[0] == "times":
+        return timed_cases(head, lines)
     columns = lines[-1].words[1:]
     cases = []
     for number, text in enumerate(lines[-1].block, 1):

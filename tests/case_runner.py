@@ -39,7 +39,16 @@ def new_step(line):
     return Step(line.place, SHORT[first] + rest, lines=block_text(line.block))
 
 
-def add_to(step, line):
+def expect(step, place, files, name):
+    """Takes what was foreseen as what is wanted. Where a text is told already it has to be this one."""
+    report = files.get(name + ".report")
+    if step.lines not in (b"", report):
+        raise CaseFault(f"{place}: foreseen is otherwise:\n{report.decode()}")
+    step.lines = report
+    step.gives += [[image, f"{name}.{image}"] for image in ("bmc", "pch", "nv")]
+
+
+def add_to(step, line, files):
     """Takes a line that says what is wanted of a step."""
     first, *rest = line.words
     if first == "code" and len(rest) == 1:
@@ -50,6 +59,8 @@ def add_to(step, line):
         step.output = rest[0]
     elif first == "gives" and len(rest) in (2, 3):
         step.gives.append(rest)
+    elif first == "foreseen" and len(rest) == 1:
+        expect(step, line.place, files, rest[0])
     else:
         raise CaseFault(f"{line.place}: nobody knows what `{' '.join(line.words)}` wants")
 
@@ -61,7 +72,7 @@ def read_case(case):
         if line.words[0] in ("words", "run", "check"):
             steps.append(new_step(line))
         elif steps:
-            add_to(steps[-1], line)
+            add_to(steps[-1], line, files)
         else:
             files.take(line)
     if not steps:

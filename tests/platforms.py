@@ -1,4 +1,4 @@
-"""The platforms that cases begin with, tiny and small, and what differs in them: made by maker.py."""
+"""The platforms that cases begin with, tiny, small and wide, and what differs in them: made by maker.py."""
 
 from __future__ import annotations
 
@@ -20,7 +20,15 @@ TINY = {
     "filled": (0x2000, 0x5000),
     "regions": "0x2000-0x4000:1:sha256:copy,0x4000-0x5000:1:sha384:copy,0x5000-0x6000:11:none:erase",
 }
-PLATFORMS = {"small": SMALL, "tiny": TINY}
+# As many regions as a manifest may have, of a page each and every second page.
+WIDE = {
+    "size": 0x400000,
+    "layout": (0, 0x2000, 0x40000, 0x80000, 0x40000),
+    "filled": (0x100000, 0x180000),
+    "regions": "0x100000-0x180000/0x1000/0x2000",
+}
+# What the BMC's bank is like, and the PCH's.
+PLATFORMS = {"small": (SMALL, SMALL), "tiny": (TINY, TINY), "wide": (WIDE, TINY)}
 # What a part of a bank is made with in place of what is right; the bank's name stands before it, or the BMC is meant.
 PARTS = ("active", "active_block", "inner", "inner_block", "capsule", "capsule_block")
 
@@ -58,8 +66,9 @@ def bank_of(shape):
 def description_of(name):
     if name not in PLATFORMS:
         raise CaseFault(f"no platform {name}")
+    bmc, pch = PLATFORMS[name]
     root = {"x": "11" * 48, "y": "22" * 48}
-    return {"curve": 256, "form": 1, "root": root, "bmc": bank_of(PLATFORMS[name]), "pch": bank_of(PLATFORMS[name])}
+    return {"curve": 256, "form": 1, "root": root, "bmc": bank_of(bmc), "pch": bank_of(pch)}
 
 
 def value_of(text):
@@ -86,7 +95,9 @@ def set_option(description, parts, path, text):
     if names[-1] == "regions":
         table["regions"] = regions_of(text)
     elif names[-1] == "smbus":
-        table["smbus"] = table["smbus"] * int(text)
+        table["smbus"] = [dict(rule) for rule in table["smbus"] * int(text)]
+    elif names[-1] == "commands":
+        table["commands"] = text.ljust(64, "0")
     elif names[-1] in ("x", "y", "revision", "oem"):
         table[names[-1]] = text
     else:

@@ -6,6 +6,7 @@ use Rattle.std.proofs.lemmas.Bool.{cases_Bool, eqb-true}
 use Rattle.std.proofs.lemmas.Bool.Decides.{Decides-ltb}
 use Rattle.std.proofs.lemmas.List.{length-replicate}
 use Rattle.std.proofs.lemmas.List.Elements.{All-nil, All-cons, All-head, All-tail}
+use Rattle.pfr_flash.specs.Bytes.{bytes_at}
 use Rattle.pfr_flash.specs.Judging.{◌>>=◌, ◌>>◌, require, known, require_none}
 use Rattle.pfr_flash.proofs.JudgingLemmas.{passed, passed_known, passed_test, passed_none, goes_on, Decides-le, Decides-true}
 use Rattle.pfr_flash.specs.declared.layout.Layout.{Layout}
@@ -19,6 +20,7 @@ use Rattle.pfr_filter.specs.Frames.{Passes, IsFormedVerdict, first_without, judg
 use Rattle.pfr_filter.specs.declared.command.Command.{Command}
 use Rattle.pfr_filter.specs.declared.command.Command.TheVariants.{Read, FastRead, ReadStatus, ReadId, WriteEnable, WriteDisable, PageProgram, SectorErase, BlockErase}
 use Rattle.pfr_filter.specs.declared.verdict.BusOp.{BusOp}
+use Rattle.pfr_filter.specs.declared.verdict.BusOp.TheVariants.{Program}
 use Rattle.pfr_filter.specs.declared.verdict.Verdict.TheVariants.{Pass}
 use Rattle.pfr_filter.specs.declared.verdict.BlockCause.{BlockCause}
 use Rattle.pfr_filter.specs.declared.verdict.BlockCause.TheVariants.{Opcode, ChipErase, ShortFrame, Range, NotWritable, NoLatch}
@@ -133,23 +135,35 @@ length-page_with : (place : ℕ) (bytes : List ℕ) → place ≤ 256 → length
 length-page_with place bytes h few =
     simp (length-append, length-take, length-drop, length-replicate) (omega arith)
 
-formed : (command : Command) (frame : List ℕ) (size : ℕ) → length frame ≤ 261 → size ≤ 2 ^ 32 → (is_addressed command ≡ true → address_of frame < size) → IsFormed (op_of command frame)
-formed Read frame size few small inside = tt
-formed FastRead frame size few small inside = tt
-formed ReadStatus frame size few small inside = tt
-formed ReadId frame size few small inside = tt
-formed WriteEnable frame size few small inside = tt
-formed WriteDisable frame size few small inside = tt
-formed PageProgram frame size few small inside =
-    (omega arith, length-page_with (address_of frame % 256) (drop 5 frame) (omega arith) (omega (arith, length-drop 5 frame)))
-formed SectorErase frame size few small inside = let less = inside refl in omega (arith, less)
-formed BlockErase frame size few small inside = let less = inside refl in omega (arith, less)
+-- a program's page is, of whatever frame
+abbrev pub IsPaged : BusOp → Type 0
+IsPaged (Program at page) = IsFormed (Program at page)
+IsPaged op = Unit {0}
+
+paged : (command : Command) (frame : List ℕ) → IsPaged (op_of command frame)
+paged PageProgram frame =
+    (omega arith, length-page_with (address_of frame % 256) (bytes_at frame 5 256) (omega arith) (omega (arith, length-take 256 (drop 5 frame))))
+paged _ frame = tt
+
+formed : (command : Command) (frame : List ℕ) (size : ℕ) → size ≤ 2 ^ 32 → (is_addressed command ≡ true → address_of frame < size) → IsFormed (op_of command frame)
+formed Read frame size small inside = tt
+formed FastRead frame size small inside = tt
+formed ReadStatus frame size small inside = tt
+formed ReadId frame size small inside = tt
+formed WriteEnable frame size small inside = tt
+formed WriteDisable frame size small inside = tt
+formed PageProgram frame size small inside = paged PageProgram frame
+formed SectorErase frame size small inside = let less = inside refl in omega (arith, less)
+formed BlockErase frame size small inside = let less = inside refl in omega (arith, less)
 
 -- A frame that is judged well asks for what is formed.
-pub judged_formed : (frame : List ℕ) (test : ℕ → Bool) (size : ℕ) (latch : Bool) (op : BusOp) → length frame ≤ 261 → size ≤ 2 ^ 32 → judge_spi frame test size latch ≡ Ok op → IsFormed op
-judged_formed frame test size latch op few small h =
+pub judged_formed : (frame : List ℕ) (test : ℕ → Bool) (size : ℕ) (latch : Bool) (op : BusOp) → size ≤ 2 ^ 32 → judge_spi frame test size latch ≡ Ok op → IsFormed op
+judged_formed frame test size latch op small h =
     let passes = (judged_passes frame test (λ page. test page ≡ true) (λ page. Decides-true (test page)) size latch op).0 h in
-    subst IsFormed (sym passes.asks) (formed passes.command frame size few small passes.inside)
+    subst IsFormed (sym passes.asks) (formed passes.command frame size small passes.inside)
+
+pub passes_paged : (frame : List ℕ) (IsOpen : ℕ → Type 0) (size : ℕ) (latch : Bool) (op : BusOp) → Passes frame IsOpen size latch op → IsPaged op
+passes_paged frame IsOpen size latch op passes = subst IsPaged (sym passes.asks) (paged passes.command frame)
 
 -- ---- verdicts
 pub verdict_formed : (judged : Result BusOp BlockCause) → ((op : BusOp) → judged ≡ Ok op → IsFormed op) → IsFormedVerdict (verdict_of judged)

@@ -1,5 +1,6 @@
 -- What frames on an SPI bus ask of a flash, and what that does.
 use Rattle.std.specs.Prelude.{◌≡◌, ℕ, zero, suc, ◌+◌, ◌-◌, ◌*◌, ◌/◌, ◌%◌, ◌≤◌, Bool, true, false, List, [], ◌∷◌, ◌++◌, length, map, take, drop, replicate, All}
+use Rattle.pfr_flash.specs.Bytes.{bytes_at}
 use Rattle.pfr_flash.specs.Numbers.{big_at}
 use Rattle.pfr_flash.specs.Operation.{Operation}
 use Rattle.pfr_flash.specs.Operation as operation
@@ -22,7 +23,7 @@ page_with place bytes =
     let padded : List ℕ = bytes ++ replicate (256 - length bytes) 255 in
     drop (256 - place) padded ++ take (256 - place) padded
 
--- what a frame asks for, by its opcode
+-- What a frame asks for, by its opcode. A page is programmed with 256 bytes behind the address at most.
 abbrev pub op_of : Command → List ℕ → BusOp
 op_of command.Read frame = Read
 op_of command.FastRead frame = Read
@@ -30,7 +31,7 @@ op_of command.ReadStatus frame = Status
 op_of command.ReadId frame = Id
 op_of command.WriteEnable frame = WriteEnable
 op_of command.WriteDisable frame = WriteDisable
-op_of command.PageProgram frame = Program (256 * (address_of frame / 256)) (page_with (address_of frame % 256) (drop 5 frame))
+op_of command.PageProgram frame = Program (256 * (address_of frame / 256)) (page_with (address_of frame % 256) (bytes_at frame 5 256))
 op_of command.SectorErase frame = Erase (address_of frame / 4096) 1
 op_of command.BlockErase frame = Erase (16 * (address_of frame / 65536)) 16
 

@@ -308,6 +308,8 @@ Turn-brings accepts event.Power old new t have = λ which calm.
     (counts_in c.at, brings accepts (begun old) new have which c calm (Turn-releases accepts event.Power old new t have) (Turn-locks accepts event.Power old new t have))
 Turn-brings accepts event.Off old new t have = tt
 Turn-brings accepts (event.Provision root) old new t have = tt
+Turn-brings accepts (event.Spi b frame) old new t have = tt
+Turn-brings accepts (event.Smbus b frame) old new t have = tt
 
 -- A bank with a good recovery area ends a power-on released.
 pub Turn-powers : (accepts : Acceptance) (e : Event) (old new : World) → Turn accepts e old new → HaveBytes new → IsBankSize (size_of old.bmc) → IsBankSize (size_of old.pch)
@@ -321,3 +323,5 @@ Turn-powers accepts event.Power old new t have bmc pch = λ which at calm held g
     by_bank bank.Pch = pch
 Turn-powers accepts event.Off old new t have bmc pch = tt
 Turn-powers accepts (event.Provision root) old new t have bmc pch = tt
+Turn-powers accepts (event.Spi b frame) old new t have bmc pch = tt
+Turn-powers accepts (event.Smbus b frame) old new t have bmc pch = tt

@@ -8,7 +8,7 @@ use Rattle.pfr_flash.specs.declared.names.Bank.{Bank}
 use Rattle.pfr_flash.specs.declared.names.Counts.{Counts}
 use Rattle.pfr_flash.specs.declared.names.Device.{Device}
 use Rattle.pfr_flash.specs.declared.names.Device.TheVariants as device
-use Rattle.pfr_flash.proofs.LayoutLemmas.{judged_valid}
+use Rattle.pfr_flash.proofs.LayoutLemmas.{judged_valid, valid_judged}
 use Rattle.pfr_engine.specs.Acceptance.{Acceptance}
 use Rattle.pfr_fuses.specs.FusesState.{FusesState}
 use Rattle.pfr_fuses.specs.FusesOf.{fuses_of}
@@ -53,6 +53,9 @@ ready_by_read b fuses story (Err cause) f e = absurd cc
 
 pub ready_found : (b : Bank) (fuses : FusesState) (story : Story) → ready_of b story ≡ Ok fuses → IsReady b fuses story
 ready_found b fuses story e = ready_by_read b fuses story (fuses_of (store story)) refl e
+
+pub ready_is : (b : Bank) (fuses : FusesState) (story : Story) → fuses_of (store story) ≡ Ok fuses → IsValidLayout (layout_of fuses.provision b) (length (mine b story)) → ready_of b story ≡ Ok fuses
+ready_is b fuses story f l = rw (f, valid_judged _ _ l) refl
 
 -- ---- step by step
 -- the devices that a bank's work calls

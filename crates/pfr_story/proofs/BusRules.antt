@@ -1,5 +1,5 @@
 -- When each move of a frame on a bank's bus is safe: what has to be shown of its cases.
-use Rattle.std.proofs.Common.{◌≡◌, refl, ℕ, Bool, List, [], ◌∷◌, length, Option, Some, None, Result, Ok, Err}
+use Rattle.std.proofs.Common.{◌≡◌, refl, ℕ, List, [], ◌∷◌, length, Option, Some, None, Result, Ok, Err}
 use Rattle.pfr_flash.specs.Operation.{Operation}
 use Rattle.pfr_flash.specs.declared.names.Bank.{Bank}
 use Rattle.pfr_engine.specs.Acceptance.{Acceptance}
@@ -10,12 +10,13 @@ use Rattle.pfr_filter.specs.declared.verdict.BusOp.{BusOp}
 use Rattle.pfr_filter.specs.declared.verdict.BusOp.TheVariants as busop
 use Rattle.pfr_filter.specs.declared.verdict.Verdict.{Verdict}
 use Rattle.pfr_filter.specs.declared.verdict.Verdict.TheVariants.{Pass, Block}
+use Rattle.pfr_smbus.specs.declared.cause.SmbusCause.{SmbusCause}
 use Rattle.pfr_report.specs.declared.note.What.TheVariants as what
 use Rattle.pfr_story.specs.Guards.{guard_at}
-use Rattle.pfr_story.specs.Story.{Story, Says, after, called, device_of}
+use Rattle.pfr_story.specs.Story.{Story, Says, Does, Asks, after, called, device_of}
 use Rattle.pfr_story.specs.Safety.{Rule, AllSafe}
-use Rattle.pfr_story.specs.Plans.{mine, Ruling, ruling, by_verdict, by_ruling, filtered, bus_calls}
-use Rattle.pfr_story.proofs.SafetyLaws.{AllSafe-append}
+use Rattle.pfr_story.specs.Plans.{mine, Ruling, ruling, by_verdict, by_ruling, filtered, bus_calls, judge_smbus, smbus_note, smbus_by, smbus_judged}
+use Rattle.pfr_story.proofs.SafetyLaws.{AllSafe-append, called_any}
 
 -- the verdict on a frame by a ruling
 abbrev pub ruled : Bank → List ℕ → Ruling → Story → Verdict
@@ -48,3 +49,36 @@ calls_safe G b busop.Status story safe = tt
 calls_safe G b busop.Id story safe = tt
 calls_safe G b busop.WriteEnable story safe = tt
 calls_safe G b busop.WriteDisable story safe = tt
+
+-- ---- where the contents don't matter
+-- all that is noted of frames on a bank's SPI bus, and all that its device does, is good
+pub record AllowsSpi (G : Rule) (b : Bank) : Type 0 where
+  pub passed : (op : BusOp) (story : Story) → G (Says (λ _. what.BusPassed b op)) story
+  pub blocked : (why : BlockCause) (story : Story) → G (Says (λ _. what.BusBlocked b why)) story
+  pub asks : (story : Story) → G (Asks (device_of b)) story
+  pub works : (op : Operation) (story : Story) → G (Does (device_of b) op) story
+
+pub spi_safe : (G : Rule) (accepts : Acceptance) (b : Bank) (frame : List ℕ) → AllowsSpi G b → (story : Story) → AllSafe G (filtered accepts b frame story) story
+spi_safe G accepts b frame h story = filtered_safe G accepts b frame story (record {
+  blocked = λ why. h.blocked why story;
+  calls = λ r op found passes. calls_safe G b op story (called_any G (device_of b) h.works h.asks (bus_ops op) story);
+  passed = λ r op found passes. h.passed op (after (bus_calls b op) story);
+})
+
+-- all that is noted of frames on its SMBus is good
+pub record AllowsSmbus (G : Rule) (b : Bank) : Type 0 where
+  pub passed : (story : Story) → G (Says (λ _. what.SmbusPassed b)) story
+  pub blocked : (why : SmbusCause) (story : Story) → G (Says (λ _. what.SmbusBlocked b why)) story
+
+module _ (G : Rule) (accepts : Acceptance) (b : Bank) (frame : List ℕ) (h : AllowsSmbus G b) where
+  smbus_noted : (judged : Result (Unit {0}) SmbusCause) (story : Story) → G (Says (λ _. smbus_note b judged)) story
+  smbus_noted (Ok passed) story = h.passed story
+  smbus_noted (Err why) story = h.blocked why story
+
+  smbus_ruled : (found : Option Ruling) (story there : Story) → AllSafe G (smbus_by b frame found story) there
+  smbus_ruled (Some r) story there = (smbus_noted (judge_smbus r.manifest.rules frame) there, tt)
+  smbus_ruled None story there = tt
+
+  -- judged by the contents of one story, and noted in another
+  pub smbus_safe : (story there : Story) → AllSafe G (smbus_judged accepts b frame story) there
+  smbus_safe story there = smbus_ruled (ruling accepts b story) story there

@@ -1,11 +1,13 @@
 -- One stretch after another.
 use Rattle.std.proofs.Common.{◌≡◌, ◌∙◌, ◌≤◌, refl, sym, subst, arith, ℕ, Bool, true, false, List, [], ◌∷◌, ◌⊎◌, inl, inr}
+use Rattle.std.specs.Prelude.{not}
 use Rattle.pfr_flash.specs.FlashState.{Rose}
 use Rattle.pfr_story.specs.Story.{Story, after}
 use Rattle.pfr_story.specs.World.{World, story_of, state_at, AllMoved, NoneLost, NoneRose}
 use Rattle.pfr_story.specs.Goes.{Ran}
 use Rattle.pfr_engine.specs.Acceptance.{Acceptance}
 use Rattle.pfr_script.specs.declared.event.Event.{Event}
+use Rattle.pfr_story.specs.Standing.{Standing, Off, Held, Running, Locked, is_running}
 use Rattle.pfr_story.specs.Turn.{ignored, ignored_if, is_idle, taken, begun, Turn}
 use Rattle.pfr_story.specs.Course.{Stretch, Faults, CrossesOrFaults, Ends, goes_on_if, Steps, lost, calm_of, Course, Follows, Calm}
 use Rattle.pfr_story.proofs.WorldLaws.{AllMoved-trans, faults_moved, losses_moved, NoneLost-at, NoneFailed-at}
@@ -84,3 +86,10 @@ by_idle accepts e old new false is t = inr (is, t)
 pub Turn-cases : (accepts : Acceptance) (e : Event) (old new : World) → Turn accepts e old new
     → ((is_idle e (story_of old) ≡ true) × Follows ignored (begun old) new) ⊎ IsTakenBy accepts e old new
 Turn-cases accepts e old new t = by_idle accepts e old new (is_idle e (story_of old)) refl t
+
+-- a bank whose frames are taken runs
+pub taken_runs : (s : Standing) → not (is_running s) ≡ false → s ≡ Running
+taken_runs Running e = refl
+taken_runs Off e = absurd (let never : true ≡ false = e in cc)
+taken_runs Held e = absurd (let never : true ≡ false = e in cc)
+taken_runs Locked e = absurd (let never : true ≡ false = e in cc)

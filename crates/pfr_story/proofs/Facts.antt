@@ -32,12 +32,13 @@ use Rattle.pfr_report.specs.declared.note.What.TheVariants as what
 use Rattle.pfr_story.specs.Story.{Story, Says, after, noted, counts_of, device_of, says, called}
 use Rattle.pfr_story.specs.World.{World, story_of, state_at}
 use Rattle.pfr_story.specs.Safety.{Rule, AllSafe, AllMake, Leads}
-use Rattle.pfr_story.specs.Plans.{mine, store, lock_of, ready_in, judged_active, judged_recovery, restore_ops, copied, restored, brought_up}
+use Rattle.pfr_story.specs.Plans.{mine, store, lock_of, ready_in, judged_active, judged_recovery, restore_ops, copied, restored, brought_up, filtered, smbus_judged}
 use Rattle.pfr_story.specs.Causes.{IsTrustedWith, IsNotTrusted, IsAgainst, IsRestorable, IsDue}
 use Rattle.pfr_story.specs.Turn.{fault_of}
 use Rattle.pfr_story.proofs.SafetyLaws.{Leads-then, image_noted, image_called, store_called}
 use Rattle.pfr_story.proofs.RestoreLaws.{found_good}
 use Rattle.pfr_story.proofs.BringRules.{IsReady, ready_noted, ready_found, IsOwn, Walks, walk_safe, AllowsBank, allowed_safe, Making, safe_made}
+use Rattle.pfr_story.proofs.BusRules.{AllowsSpi, spi_safe, AllowsSmbus, smbus_safe}
 use Rattle.pfr_story.proofs.Traces.{Precedes, Precedes-refl, Precedes-move, Precedes-after, Saying, call_says}
 
 -- What is looked at: the worlds at the two ends, the engine, and where the power is switched off.
@@ -207,6 +208,28 @@ quiet_bank b = record {
 pub brought_makes : (accepts : Acceptance) (b : Bank) (story : Story) → AllMake (IsOwn b) IsNoLoss (brought_up accepts b story)
 brought_makes accepts b story =
     safe_made (IsOwn b) IsNoLoss (brought_up accepts b story) story (allowed_safe (Making (IsOwn b) IsNoLoss) accepts b (quiet_bank b) story (λ at loss. loss))
+
+-- a frame on its SPI bus calls its device alone
+abbrev pub IsMine : Bank → Device → Type 0
+IsMine b which = which ≡ device_of b
+
+quiet_spi : (b : Bank) → AllowsSpi (Making (IsMine b) IsNoLoss) b
+quiet_spi b = record { passed = λ op story at loss. loss; blocked = λ cause story at loss. loss; asks = λ story. refl; works = λ op story. refl }
+
+pub filtered_makes : (accepts : Acceptance) (b : Bank) (frame : List ℕ) (story : Story) → AllMake (IsMine b) IsNoLoss (filtered accepts b frame story)
+filtered_makes accepts b frame story =
+    safe_made (IsMine b) IsNoLoss (filtered accepts b frame story) story (spi_safe (Making (IsMine b) IsNoLoss) accepts b frame (quiet_spi b) story)
+
+-- and one on its SMBus calls none
+abbrev pub NoDevice : Device → Type 0
+NoDevice which = ⊥
+
+quiet_smbus : (b : Bank) → AllowsSmbus (Making NoDevice IsNoLoss) b
+quiet_smbus b = record { passed = λ story at loss. loss; blocked = λ cause story at loss. loss }
+
+pub smbus_makes : (accepts : Acceptance) (b : Bank) (frame : List ℕ) (story : Story) → AllMake NoDevice IsNoLoss (smbus_judged accepts b frame story)
+smbus_makes accepts b frame story =
+    safe_made NoDevice IsNoLoss (smbus_judged accepts b frame story) story (smbus_safe (Making NoDevice IsNoLoss) accepts b frame (quiet_smbus b) story story)
 
 -- so a lock for a fault of one of them is true
 pub lock_true : (s : Setting) (b : Bank) (which : Device) (story : Story) → IsOwn b which → Rose (state_at which s.first).faults (state_at which s.last).faults → LockFact s (fault_of which) b story

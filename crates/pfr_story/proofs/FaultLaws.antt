@@ -6,7 +6,6 @@ use Rattle.pfr_flash.specs.declared.names.Counts.{Counts}
 use Rattle.pfr_flash.specs.declared.names.Device.{Device}
 use Rattle.pfr_flash.specs.declared.names.Device.TheVariants as device
 use Rattle.pfr_engine.specs.Acceptance.{Acceptance}
-use Rattle.pfr_fuses.specs.declared.root_slot.RootSlot.{RootSlot}
 use Rattle.pfr_script.specs.declared.event.Event.{Event}
 use Rattle.pfr_script.specs.declared.event.Event.TheVariants as event
 use Rattle.pfr_report.specs.Texts.{IsNoted}
@@ -18,8 +17,7 @@ use Rattle.pfr_report.specs.declared.note.What.TheVariants as what
 use Rattle.pfr_story.specs.Story.{Story, Move, Says, Does, Asks, noted, operated, counts_of}
 use Rattle.pfr_story.specs.World.{World, story_of, NoneFailed, added}
 use Rattle.pfr_story.specs.Course.{Stretch, Faults, Steps, goes_on_if, Course}
-use Rattle.pfr_story.specs.Standing.{standing_of, is_off}
-use Rattle.pfr_story.specs.Turn.{bank_stretch, where_off, ignored, off_course, provision_course, course, begun, Turn}
+use Rattle.pfr_story.specs.Turn.{bank_stretch, ignored_if, is_idle, taken, course, begun, Turn}
 use Rattle.pfr_story.specs.Promises.{IsFaultLock, IsUndisturbed, FaultsAreNoted}
 use Rattle.pfr_story.proofs.WorldLaws.{NoneFailed-trans}
 use Rattle.pfr_story.proofs.Made.{said, Made, made_then, Steps-made, added_said}
@@ -107,19 +105,20 @@ bank_tells accepts b device.Bmc = inl (b, why.FlashFault, tt, refl)
 bank_tells accepts b device.Pch = inl (b, why.FlashFault, tt, refl)
 bank_tells accepts b device.Nv = inl (b, why.StoreFault, tt, refl)
 
-off_tells : (off : Bool) → AllTell (where_off off ignored off_course).stretches
-off_tells true = tt
-off_tells false = tt
+taken_tells : (accepts : Acceptance) (e : Event) (story : Story) → AllTell (taken accepts e story).stretches
+taken_tells accepts event.Power story =
+    ((λ which. inr (inl (bank.Bmc, why.StoreFault, tt, refl))), ((λ which. bank_tells accepts bank.Bmc which), ((λ which. bank_tells accepts bank.Pch which), tt)))
+taken_tells accepts event.Off story = tt
+taken_tells accepts (event.Provision root) story = ((λ which. inl (bank.Bmc, why.StoreFault, tt, refl)), tt)
+taken_tells accepts (event.Spi b frame) story = ((λ which. inr (inl (b, why.FlashFault, tt, refl))), tt)
+taken_tells accepts (event.Smbus b frame) story = tt
 
-try_tells : (root : RootSlot) (off : Bool) → AllTell (where_off off ignored (provision_course root)).stretches
-try_tells root true = tt
-try_tells root false = ((λ which. inl (bank.Bmc, why.StoreFault, tt, refl)), tt)
+unless_ignored : (idle : Bool) (c : Course) → AllTell c.stretches → AllTell (ignored_if idle c).stretches
+unless_ignored true c tells = tt
+unless_ignored false c tells = tells
 
 course_tells : (accepts : Acceptance) (e : Event) (story : Story) → AllTell (course accepts e story).stretches
-course_tells accepts event.Power story =
-    ((λ which. inr (inl (bank.Bmc, why.StoreFault, tt, refl))), ((λ which. bank_tells accepts bank.Bmc which), ((λ which. bank_tells accepts bank.Pch which), tt)))
-course_tells accepts event.Off story = off_tells (is_off (standing_of bank.Bmc story.notes))
-course_tells accepts (event.Provision root) story = try_tells root (is_off (standing_of bank.Bmc story.notes))
+course_tells accepts e story = unless_ignored (is_idle e story) (taken accepts e story) (taken_tells accepts e story)
 
 -- In a step no fault of a device is passed over; a loss of power doesn't silence one.
 pub Turn-told : (accepts : Acceptance) (e : Event) (old new : World) → Turn accepts e old new → FaultsAreNoted old new

@@ -6,6 +6,8 @@ pub mod RestoreLaws
 pub mod BringRules
 pub mod Courses
 pub mod BusRules
+pub mod Rulings
+pub mod RulingLaws
 pub mod Traces
 pub mod StepTraces
 pub mod Facts

@@ -1,5 +1,5 @@
 -- A loss of power ends a step, and is noted exactly where it was counted.
-use Rattle.std.proofs.Common.{◌≡◌, ◌↔◌, ◌∙◌, ◌<◌, refl, sym, ap, subst, arith, ℕ, Bool, true, false, List, [], ◌∷◌, ◌++◌, Option, Some, None, ◌⊎◌, inl, inr}
+use Rattle.std.proofs.Common.{◌≡◌, ◌↔◌, ◌∙◌, ◌<◌, refl, sym, ap, subst, arith, ℕ, List, [], ◌∷◌, ◌++◌, Option, Some, None, ◌⊎◌, inl, inr}
 use Rattle.pfr_flash.specs.FlashState.{FlashState}
 use Rattle.pfr_flash.specs.declared.names.Bank.{Bank}
 use Rattle.pfr_flash.specs.declared.names.Bank.TheVariants as bank
@@ -19,18 +19,18 @@ use Rattle.pfr_story.specs.World.{World, story_of, state_at, NoneLost, LostAt, a
 use Rattle.pfr_story.specs.Goes.{Ran}
 use Rattle.pfr_story.specs.Safety.{AllMake}
 use Rattle.pfr_story.specs.Course.{Stretch, Steps, Course, Follows}
-use Rattle.pfr_story.specs.Standing.{standing_of, standing_from, standing_after, is_off, Standing, Off}
-use Rattle.pfr_story.specs.Plans.{brought_up, migrated, provisioned}
-use Rattle.pfr_story.specs.Turn.{bank_stretch, fuse_stretch, provision_stretch, where_off, ignored, off_course, power_course, provision_course, begun, Turn}
+use Rattle.pfr_story.specs.Standing.{standing_of, standing_from, standing_after, Standing, Off}
+use Rattle.pfr_story.specs.Plans.{brought_up, migrated, provisioned, filtered, smbus_judged}
+use Rattle.pfr_story.specs.Turn.{bank_stretch, fuse_stretch, provision_stretch, spi_stretch, ignored, off_course, power_course, provision_course, spi_course, smbus_course, taken, begun, Turn}
 use Rattle.pfr_story.specs.Promises.{HasLost, LossesAreNoted, IsLast, LostEnds, IsSwitchedOff, NotesOff}
 use Rattle.pfr_story.proofs.WorldLaws.{NoneLost-trans, NoneLost-at, LostAt-later, LostAt-on, each_at}
 use Rattle.pfr_story.proofs.Sequence.{after-append}
 use Rattle.pfr_story.proofs.SafetyLaws.{AllMake-append, AllMake-more, cut_makes}
-use Rattle.pfr_story.proofs.Courses.{went_on}
+use Rattle.pfr_story.proofs.Courses.{went_on, Turn-cases}
 use Rattle.pfr_story.proofs.Traces.{noted_append, noted_right}
 use Rattle.pfr_story.proofs.Made.{said, said_append, Made, made_then, added_said, Whichever, said_all}
 use Rattle.pfr_story.proofs.BringRules.{IsOwn}
-use Rattle.pfr_story.proofs.Facts.{IsLoss, IsNoLoss, brought_makes}
+use Rattle.pfr_story.proofs.Facts.{IsLoss, IsNoLoss, IsMine, NoDevice, brought_makes, filtered_makes, smbus_makes}
 use Rattle.pfr_story.proofs.Turns.{step_of, Turn-known, IsStore, migrated_makes, provisioned_makes}
 
 -- ---- moves that note no loss
@@ -130,22 +130,35 @@ provision_quiet root = record {
   noted = λ which. ((λ at loss. loss), ((λ at loss. loss), tt));
 }
 
+spi_quiet : (accepts : Acceptance) (b : Bank) (frame : List ℕ) → IsQuietStretch (spi_stretch accepts b frame)
+spi_quiet accepts b frame = record {
+  plan = λ story. AllMake-more (IsMine b) Whichever IsNoLoss (λ which own. tt) (filtered accepts b frame story) (filtered_makes accepts b frame story);
+  noted = λ which. ((λ at loss. loss), ((λ at loss. loss), tt));
+}
+
 along : (c : Course) (old new : World) → AllQuiet c.first → AreQuiet c.stretches → Follows c old new → EndsSo old new
 along c old new first quiet (mid, says, rest) = ends_then old mid new (quiet_ran c.first old mid says first) (Steps-losses c.stretches mid new quiet rest)
 
-off_ends : (off : Bool) (old new : World) → Follows (where_off off ignored off_course) old new → EndsSo old new
-off_ends true old new t = along ignored old new ((λ at loss. loss), tt) tt t
-off_ends false old new (mid, says, rest) = inr (record { device = None; counted = NoneLost-trans old mid new says.none_lost rest.none_lost; front = []; quiet = tt; is = rest.is ∙ says.is })
+-- the power is taken
+off_lost : (old new : World) → Follows off_course old new → EndsLost old new
+off_lost old new (mid, says, rest) = record { device = None; counted = NoneLost-trans old mid new says.none_lost rest.none_lost; front = []; quiet = tt; is = rest.is ∙ says.is }
 
-try_ends : (root : RootSlot) (off : Bool) (old new : World) → Follows (where_off off ignored (provision_course root)) old new → EndsSo old new
-try_ends root true old new t = along ignored old new ((λ at loss. loss), tt) tt t
-try_ends root false old new t = along (provision_course root) old new tt (provision_quiet root, tt) t
+taken_ends : (accepts : Acceptance) (e : Event) (story : Story) (old new : World) → Follows (taken accepts e story) old new → EndsSo old new
+taken_ends accepts event.Power story old new t =
+    along (power_course accepts) old new ((λ at loss. loss), tt) (fuses_quiet, (bank_quiet accepts bank.Bmc, (bank_quiet accepts bank.Pch, tt))) t
+taken_ends accepts event.Off story old new t = inr (off_lost old new t)
+taken_ends accepts (event.Provision root) story old new t = along (provision_course root) old new tt (provision_quiet root, tt) t
+taken_ends accepts (event.Spi b frame) story old new t = along (spi_course accepts b frame) old new tt (spi_quiet accepts b frame, tt) t
+taken_ends accepts (event.Smbus b frame) story old new t =
+    let moves : List Move = smbus_judged accepts b frame story in
+    along (smbus_course accepts b frame story) old new (AllMake-more NoDevice Whichever IsNoLoss (λ which none. tt) moves (smbus_makes accepts b frame story)) tt t
 
 -- Whichever step is without a loss, or ends with one.
 pub Turn-ends : (accepts : Acceptance) (e : Event) (old new : World) → Turn accepts e old new → EndsSo (begun old) new
-Turn-ends accepts event.Power old new t = along (power_course accepts) (begun old) new ((λ at loss. loss), tt) (fuses_quiet, (bank_quiet accepts bank.Bmc, (bank_quiet accepts bank.Pch, tt))) t
-Turn-ends accepts event.Off old new t = off_ends (is_off (standing_of bank.Bmc old.notes.list)) (begun old) new t
-Turn-ends accepts (event.Provision root) old new t = try_ends root (is_off (standing_of bank.Bmc old.notes.list)) (begun old) new t
+Turn-ends accepts e old new t = elim (Turn-cases accepts e old new t) [
+  | inl idle ↦ along ignored (begun old) new ((λ at loss. loss), tt) tt idle.1
+  | inr on ↦ taken_ends accepts e (story_of old) (begun old) new on.1
+]
 
 -- ---- what is noted of it
 same_loss : (one other : Option Device) (counts at : Counts) → what.Lost one counts ≡ what.Lost other at → (other ≡ one) × (at ≡ counts)
@@ -251,16 +264,18 @@ Turn-losses accepts e old new t which = by_end (Turn-ends accepts e old new t)
     )
 
 -- one without a device is noted exactly where the power is taken
+off_noted : (old new : World) → Follows off_course old new → IsNoted (added old new) (what.Lost None (counts_of (story_of new)))
+unfolding off_lost
+off_noted old new t =
+    let l : EndsLost old new = off_lost old new t in
+    subst (λ (at : Counts). IsNoted (added old new) (what.Lost None at)) (sym (ap (λ (s : Story). counts_of s) l.is)) (is_noted old new l)
+
 switched_off : (accepts : Acceptance) (e : Event) (old new : World) → Turn accepts e old new → IsSwitchedOff e old → IsNoted (added old new) (what.Lost None (counts_of (story_of new)))
-switched_off accepts event.Off old new t on = by_off (is_off (standing_of bank.Bmc old.notes.list)) refl t
-  where
-    by_off : (off : Bool) → is_off (standing_of bank.Bmc old.notes.list) ≡ off → Follows (where_off off ignored off_course) (begun old) new → IsNoted (added old new) (what.Lost None (counts_of (story_of new)))
-    by_off true e t = absurd (on e)
-    by_off false e (mid, says, rest) =
-        let l : EndsLost (begun old) new = record { device = None; counted = NoneLost-trans (begun old) mid new says.none_lost rest.none_lost; front = []; quiet = tt; is = rest.is ∙ says.is } in
-        subst (λ (at : Counts). IsNoted (added old new) (what.Lost None at)) (sym (ap (λ (s : Story). counts_of s) l.is)) (is_noted (begun old) new l)
+switched_off accepts event.Off old new t on = elim (Turn-cases accepts event.Off old new t) [ inl idle ↦ absurd (on idle.0) | inr k ↦ off_noted (begun old) new k.1 ]
 switched_off accepts event.Power old new t off = absurd off
 switched_off accepts (event.Provision root) old new t off = absurd off
+switched_off accepts (event.Spi b frame) old new t off = absurd off
+switched_off accepts (event.Smbus b frame) old new t off = absurd off
 
 pub Turn-off : (accepts : Acceptance) (e : Event) (old new : World) → Turn accepts e old new → NotesOff e old new
 unfolding step_of

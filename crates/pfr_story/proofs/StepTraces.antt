@@ -1,5 +1,5 @@
 -- Of a step along stretches each move is good.
-use Rattle.std.proofs.Common.{◌≡◌, ◌<◌, sym, subst, arith, true, List, [], ◌∷◌, inl, inr, Some}
+use Rattle.std.proofs.Common.{◌≡◌, ◌<◌, sym, subst, arith, ℕ, true, List, [], ◌∷◌, inl, inr, Some}
 use Rattle.pfr_flash.specs.FlashState.{Rose}
 use Rattle.pfr_flash.specs.declared.flash.FlashFail.TheVariants.{Fault, Lost as Loses}
 use Rattle.pfr_flash.specs.declared.names.Device.{Device}
@@ -10,14 +10,15 @@ use Rattle.pfr_fuses.specs.declared.root_slot.RootSlot.{RootSlot}
 use Rattle.pfr_report.specs.declared.note.LockWhy.TheVariants as why
 use Rattle.pfr_report.specs.declared.note.What.TheVariants as what
 use Rattle.pfr_story.specs.Story.{Story, Move, Says, after, noted, IsCut}
-use Rattle.pfr_story.specs.Turn.{fault_of, fuse_stretch, bank_stretch, provision_stretch, power_course, provision_course}
+use Rattle.pfr_story.specs.Turn.{fault_of, fuse_stretch, bank_stretch, provision_stretch, spi_stretch, power_course, provision_course, spi_course, smbus_course}
 use Rattle.pfr_story.specs.World.{World, story_of, state_at, AllMoved}
 use Rattle.pfr_story.specs.Safety.{Rule, AllGood, AllSafe, Leads}
-use Rattle.pfr_story.specs.Plans.{migrated, provisioned}
+use Rattle.pfr_story.specs.Plans.{migrated, provisioned, filtered, smbus_judged}
 use Rattle.pfr_story.specs.Course.{Stretch, Steps, lost, Course, Follows}
 use Rattle.pfr_story.proofs.WorldLaws.{AllMoved-refl, AllMoved-trans, faults_moved, losses_moved}
 use Rattle.pfr_story.proofs.Courses.{went_on, Steps-moved, moved_behind, fault_rose}
 use Rattle.pfr_story.proofs.BringRules.{Any, AllowsBank, allowed_safe}
+use Rattle.pfr_story.proofs.SafetyLaws.{safe_whole}
 use Rattle.pfr_story.proofs.Traces.{Traced, Traced-then, Traced-ran, Traced-whole, Traced-cut}
 
 -- The worlds of a part of a step lie between the two ends that are looked at.
@@ -122,6 +123,14 @@ module _ (G : Rule) (h : AllowsBanks G) where
       on = λ which story trace p cut e. tt;
     }
 
+    spi_good : (P : Story → Type 0) (accepts : Acceptance) (b : Bank) (frame : List ℕ) → ((story : Story) → P story → AllSafe G (filtered accepts b frame story) story)
+        → IsGoodStretch G first last Any P (spi_stretch accepts b frame) Any
+    spi_good P accepts b frame safe = record {
+      plan = record { safe = λ story p. safe story p.1; ends = λ story p. tt };
+      noted = λ which story trace p cut rose. (h.held b _, ((h.bank b).locked why.FlashFault _, tt));
+      on = λ which story trace p cut e. tt;
+    }
+
   module _ (old new : World) where
     within : Between old new old new
     within = record { before = AllMoved-refl old; behind = AllMoved-refl new }
@@ -143,3 +152,14 @@ module _ (G : Rule) (h : AllowsBanks G) where
   pub provision_traced : (P : Story → Type 0) (root : RootSlot) (old new : World) → ((story : Story) → P story → AllSafe G (provisioned root story) story)
       → P (story_of old) → Follows (provision_course root) old new → Traced G old new
   provision_traced P root old new safe p t = single_along G old new Any (λ w moved. tt) (allows old new) old new (within old new) (provision_stretch root) P Any (provision_good old new P root safe) p t
+
+  -- of a frame on the SPI bus of a bank
+  pub spi_traced : (P : Story → Type 0) (accepts : Acceptance) (b : Bank) (frame : List ℕ) (old new : World) → ((story : Story) → P story → AllSafe G (filtered accepts b frame story) story)
+      → P (story_of old) → Follows (spi_course accepts b frame) old new → Traced G old new
+  spi_traced P accepts b frame old new safe p t = single_along G old new Any (λ w moved. tt) (allows old new) old new (within old new) (spi_stretch accepts b frame) P Any (spi_good old new P accepts b frame safe) p t
+
+  -- of one on its SMBus, judged by the contents of this story
+  pub smbus_traced : (accepts : Acceptance) (b : Bank) (frame : List ℕ) (story : Story) (old new : World) → AllSafe G (smbus_judged accepts b frame story) (story_of old)
+      → Follows (smbus_course accepts b frame story) old new → Traced G old new
+  smbus_traced accepts b frame story old new safe t =
+      noted_good old new (smbus_judged accepts b frame story) t (safe_whole G (smbus_judged accepts b frame story) (story_of old) safe)

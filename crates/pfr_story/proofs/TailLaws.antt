@@ -7,7 +7,6 @@ use Rattle.pfr_flash.specs.declared.layout.Layout.{Layout}
 use Rattle.pfr_flash.specs.declared.names.Bank.{Bank}
 use Rattle.pfr_flash.specs.declared.names.Bank.TheVariants as bank
 use Rattle.pfr_flash.specs.declared.names.Counts.{Counts}
-use Rattle.pfr_flash.proofs.LayoutLemmas.{valid_judged}
 use Rattle.pfr_engine.specs.Acceptance.{Acceptance}
 use Rattle.pfr_fuses.specs.FusesState.{FusesState}
 use Rattle.pfr_fuses.specs.FusesOf.{fuses_of}
@@ -42,7 +41,7 @@ use Rattle.pfr_story.proofs.Sequence.{after-append}
 use Rattle.pfr_story.proofs.SafetyLaws.{image_noted, past_called}
 use Rattle.pfr_story.proofs.Made.{said, noted_first, noted_next, Whichever, AllSay}
 use Rattle.pfr_story.specs.Safety.{Rule}
-use Rattle.pfr_story.proofs.BringRules.{AllowsBank, allowed_safe, Making, safe_made}
+use Rattle.pfr_story.proofs.BringRules.{ready_is, AllowsBank, allowed_safe, Making, safe_made}
 use Rattle.pfr_story.proofs.RestoreLaws.{stand_for, RestoresFrom, restored_judged}
 
 -- ---- what is noted behind Held
@@ -64,13 +63,10 @@ module _ (accepts : Acceptance) (b : Bank) where
   behind story = said (by_ready accepts b (ready_of b story) story) story
 
   -- ---- the bank's fuses
-  ready_is : (fuses : FusesState) (story : Story) → fuses_of (store story) ≡ Ok fuses → IsValidLayout (layout_of fuses.provision b) (length (mine b story)) → ready_of b story ≡ Ok fuses
-  ready_is fuses story f l = rw (f, valid_judged _ _ l) refl
-
   by_check : (fuses : FusesState) (story : Story) (checked : Result Manifest ActiveFail) → fuses_of (store story) ≡ Ok fuses → IsValidLayout (layout_of fuses.provision b) (length (mine b story))
       → judged_active accepts b fuses story ≡ checked → behind story ≡ said (by_active accepts b fuses checked story) story
   by_check fuses story checked f l j =
-      ap (λ (r : Result FusesState LockWhy). said (by_ready accepts b r story) story) (ready_is fuses story f l)
+      ap (λ (r : Result FusesState LockWhy). said (by_ready accepts b r story) story) (ready_is b fuses story f l)
       ∙ ap (λ (r : Result Manifest ActiveFail). said (by_active accepts b fuses r story) story) j
 
   unready : (cause : LockWhy) (story : Story) → ready_of b story ≡ Err cause → IsNoted (behind story) (what.Locked b cause (counts_of story))

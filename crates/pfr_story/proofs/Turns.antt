@@ -1,5 +1,6 @@
 -- Each note of a step is true where it is made, by event.
-use Rattle.std.proofs.Common.{◌≡◌, refl, subst, ℕ, length, List, [], ◌∷◌, Bool, true, false, Result, Ok, Err}
+use Rattle.std.proofs.Common.{◌≡◌, ◌∙◌, refl, sym, subst, ℕ, length, List, [], ◌∷◌, false, Result, Ok, Err, inl, inr}
+use Rattle.std.proofs.lemmas.Bool.{false≢true}
 use Rattle.pfr_flash.specs.FlashState.{Rose}
 use Rattle.pfr_flash.specs.declared.names.Bank.{Bank}
 use Rattle.pfr_flash.specs.declared.names.Bank.TheVariants as bank
@@ -15,21 +16,21 @@ use Rattle.pfr_script.specs.declared.event.Event.TheVariants as event
 use Rattle.pfr_report.specs.Texts.{IsNoted}
 use Rattle.pfr_report.specs.declared.note.What.{What}
 use Rattle.pfr_report.specs.declared.note.What.TheVariants as what
-use Rattle.pfr_story.specs.Story.{Story, Move, Says, called, after}
+use Rattle.pfr_story.specs.Story.{Story, Move, Says, called, after, device_of}
 use Rattle.pfr_story.specs.World.{World, story_of, state_at, AllMoved, NoneLost, NoneRose, added}
 use Rattle.pfr_story.specs.Safety.{AllGood, AllSafe, AllMake}
 use Rattle.pfr_story.specs.Course.{Stretch, Follows, Calm}
-use Rattle.pfr_story.specs.Standing.{standing_of, is_off}
-use Rattle.pfr_story.specs.Plans.{store, brought_up, migrated, provisioned, provisioned_in, migration_in}
-use Rattle.pfr_story.specs.Turn.{fault_of, unreadable, bank_stretch, fuse_stretch, provision_stretch, where_off, ignored, power_course, off_course, provision_course, course, begun, Turn}
+use Rattle.pfr_story.specs.Plans.{store, brought_up, migrated, provisioned, provisioned_in, migration_in, filtered, smbus_judged}
+use Rattle.pfr_story.specs.Turn.{fault_of, unreadable, bank_stretch, fuse_stretch, provision_stretch, spi_stretch, ignored, power_course, off_course, is_idle, taken, course, begun, Turn}
 use Rattle.pfr_story.specs.Promises.{IsSwitchedOff}
 use Rattle.pfr_story.proofs.WorldLaws.{AllMoved-refl, AllMoved-trans}
-use Rattle.pfr_story.proofs.SafetyLaws.{AllSafe-append, AllMake-append, AllMake-called, cut_makes}
-use Rattle.pfr_story.proofs.Courses.{Steps-moved, Follows-calm}
+use Rattle.pfr_story.proofs.SafetyLaws.{AllSafe-append, AllMake-append, AllMake-called, safe_whole, cut_makes}
+use Rattle.pfr_story.proofs.Courses.{Steps-moved, Follows-calm, Turn-cases}
+use Rattle.pfr_story.proofs.BusRules.{AllowsSpi, spi_safe, AllowsSmbus, smbus_safe}
 use Rattle.pfr_story.proofs.Traces.{Traced, Traced-known, Traced-since, KnownBefore, Precedes, Precedes-after, precedes_moved, call_says}
-use Rattle.pfr_story.proofs.StepTraces.{Between, AllowsLosses, IsGoodStretch, noted_along, power_along, provision_along}
+use Rattle.pfr_story.proofs.StepTraces.{Between, AllowsLosses, IsGoodStretch, noted_along, power_along, single_along}
 use Rattle.pfr_story.proofs.BringRules.{Any, IsOwn}
-use Rattle.pfr_story.proofs.Facts.{Setting, IsBehind, Fact, IsTrue, brought_true, IsNoLoss, brought_makes, lock_true}
+use Rattle.pfr_story.proofs.Facts.{Setting, IsBehind, Fact, IsTrue, brought_true, IsNoLoss, IsMine, brought_makes, filtered_makes, lock_true}
 
 -- A step in which no count of losses or faults rose is calm.
 pub Turn-calm : (accepts : Acceptance) (e : Event) (old new : World) → Turn accepts e old new → NoneLost old new → NoneRose old new → Calm (course accepts e (story_of old)) (begun old) new
@@ -76,8 +77,8 @@ module _ (s : Setting) where
     on = λ which story trace p cut e. behind_moves trace (Says (what.Locked b (fault_of which)) ∷ []) story p.1;
   }
 
-  store_rose : (which : Device) → IsStore which → Rose (state_at which s.first).faults (state_at which s.last).faults → Rose s.first.nv.faults s.last.nv.faults
-  store_rose which e rose = subst (λ (d : Device). Rose (state_at d s.first).faults (state_at d s.last).faults) e rose
+  rose_at : (other which : Device) → which ≡ other → Rose (state_at which s.first).faults (state_at which s.last).faults → Rose (state_at other s.first).faults (state_at other s.last).faults
+  rose_at other which e rose = subst (λ (d : Device). Rose (state_at d s.first).faults (state_at d s.last).faults) e rose
 
   fuse_true : IsTrueStretch fuse_stretch
   fuse_true = record {
@@ -86,7 +87,7 @@ module _ (s : Setting) where
       ends = λ story p. Precedes-after (story_of s.first) story (migrated story) p.1;
     };
     noted = λ which story trace p cut rose.
-        let nv = store_rose which (cut_makes IsStore IsNoLoss which _ trace story (migrated_makes story) cut).0 rose in
+        let nv = rose_at device.Nv which (cut_makes IsStore IsNoLoss which _ trace story (migrated_makes story) cut).0 rose in
         (refl, ((refl, nv), (refl, ((refl, nv), tt))));
     on = λ which story trace p cut e. behind_moves trace unreadable story p.1;
   }
@@ -103,17 +104,35 @@ module _ (s : Setting) where
       ends = λ story p. Precedes-after (story_of s.first) story (provisioned root story) p.1;
     };
     noted = λ which story trace p cut rose.
-        let nv = store_rose which (cut_makes IsStore IsNoLoss which _ trace story (provisioned_makes root story) cut).0 rose in
+        let nv = rose_at device.Nv which (cut_makes IsStore IsNoLoss which _ trace story (provisioned_makes root story) cut).0 rose in
         ((refl, nv), ((refl, nv), tt));
     on = λ which story trace p cut e. behind_moves trace ((provision_stretch root).on_fault which) story p.1;
   }
+
+  bus_true : (b : Bank) → AllowsSpi (IsTrue s) b
+  bus_true b = record { passed = λ op story. tt; blocked = λ cause story. tt; asks = λ story. tt; works = λ op story. tt }
+
+  spi_true : (b : Bank) (frame : List ℕ) → IsTrueStretch (spi_stretch s.accepts b frame)
+  spi_true b frame = record {
+    plan = record {
+      safe = λ story p. spi_safe (IsTrue s) s.accepts b frame (bus_true b) story;
+      ends = λ story p. Precedes-after (story_of s.first) story (filtered s.accepts b frame story) p.1;
+    };
+    noted = λ which story trace p cut rose.
+        let own = (cut_makes (IsMine b) IsNoLoss which _ trace story (filtered_makes s.accepts b frame story) cut).0 in
+        (refl, ((refl, rose_at (device_of b) which own rose), tt));
+    on = λ which story trace p cut e. behind_moves trace ((spi_stretch s.accepts b frame).on_fault which) story p.1;
+  }
+
+  smbus_true : (b : Bank) → AllowsSmbus (IsTrue s) b
+  smbus_true b = record { passed = λ story. tt; blocked = λ cause story. tt }
 
   -- ---- a whole step
   -- the power is switched off at `off` alone, where the banks aren't off
   abbrev pub MaySwitch : Event → World → Type 0
   MaySwitch e old = IsSwitchedOff e old → s.IsSwitched
 
-  module _ (e : Event) (old new : World) (within : Between s.first s.last (begun old) new) where
+  module _ (old new : World) (within : Between s.first s.last (begun old) new) where
     allows : AllowsLosses (IsTrue s) s.first s.last
     allows which story fell = ((refl, fell), tt)
 
@@ -123,20 +142,24 @@ module _ (s : Setting) where
     noted_true : (moves : List Move) → Follows (record { first = moves; stretches = [] }) (begun old) new → AllGood (IsTrue s) moves (story_of (begun old)) → Traced (IsTrue s) (begun old) new
     noted_true moves t good = noted_along (IsTrue s) s.first s.last Any (λ w moved. tt) allows (begun old) new within moves t good
 
-    off_true : (off : Bool) → (off ≡ false → s.IsSwitched) → Follows (where_off off ignored off_course) (begun old) new → Traced (IsTrue s) (begun old) new
-    off_true true may t = noted_true ignored.first t (tt, tt)
-    off_true false may t = noted_true off_course.first t ((refl, may refl), tt)
+    single_true : (stretch : Stretch) → IsTrueStretch stretch → Follows (record { first = []; stretches = stretch ∷ [] }) (begun old) new → Traced (IsTrue s) (begun old) new
+    single_true stretch good t = single_along (IsTrue s) s.first s.last Any (λ w moved. tt) allows (begun old) new within stretch (IsBehind s) (IsBehind s) good behind t
 
-    try_true : (root : RootSlot) (off : Bool) → Follows (where_off off ignored (provision_course root)) (begun old) new → Traced (IsTrue s) (begun old) new
-    try_true root true t = noted_true ignored.first t (tt, tt)
-    try_true root false t = provision_along (IsTrue s) s.first s.last Any (λ w moved. tt) allows (begun old) new within root (IsBehind s) (IsBehind s) (provision_true root) behind t
+    taken_true : (e : Event) → MaySwitch e old → is_idle e (story_of old) ≡ false → Follows (taken s.accepts e (story_of old)) (begun old) new → Traced (IsTrue s) (begun old) new
+    taken_true event.Power may on t =
+        power_along (IsTrue s) s.first s.last Any (λ w moved. tt) allows (begun old) new within s.accepts (IsBehind s) (IsBehind s) (IsBehind s) (IsBehind s) fuse_true (bank_true bank.Bmc) (bank_true bank.Pch) tt (Precedes-after (story_of s.first) (story_of (begun old)) (power_course s.accepts).first behind) t
+    taken_true event.Off may on t = noted_true off_course.first t ((refl, may (λ off. false≢true (sym on ∙ off))), tt)
+    taken_true (event.Provision root) may on t = single_true (provision_stretch root) (provision_true root) t
+    taken_true (event.Spi b frame) may on t = single_true (spi_stretch s.accepts b frame) (spi_true b frame) t
+    taken_true (event.Smbus b frame) may on t =
+        let moves : List Move = smbus_judged s.accepts b frame (story_of old) in
+        noted_true moves t (safe_whole (IsTrue s) moves (story_of (begun old)) (smbus_safe (IsTrue s) s.accepts b frame (smbus_true b) (story_of old) (story_of (begun old))))
 
   pub Turn-true : (e : Event) (old new : World) → Between s.first s.last (begun old) new → MaySwitch e old → Turn s.accepts e old new → Traced (IsTrue s) (begun old) new
-  Turn-true event.Power old new within may t =
-      power_along (IsTrue s) s.first s.last Any (λ w moved. tt) (allows event.Power old new within) (begun old) new within s.accepts (IsBehind s) (IsBehind s) (IsBehind s) (IsBehind s) fuse_true (bank_true bank.Bmc) (bank_true bank.Pch) tt (Precedes-after (story_of s.first) (story_of (begun old)) (power_course s.accepts).first (behind event.Power old new within)) t
-  Turn-true event.Off old new within may t =
-      off_true event.Off old new within (is_off (standing_of bank.Bmc old.notes.list)) (λ off. may (λ on. absurd (let k = off in cc))) t
-  Turn-true (event.Provision root) old new within may t = try_true (event.Provision root) old new within root (is_off (standing_of bank.Bmc old.notes.list)) t
+  Turn-true e old new within may t = elim (Turn-cases s.accepts e old new t) [
+    | inl idle ↦ noted_true old new within ignored.first idle.1 (tt, tt)
+    | inr on ↦ taken_true old new within e may on.0 on.1
+  ]
 
 -- a step between its own two ends
 unfoldable pub step_of : Acceptance → Event → World → World → Setting

@@ -9,7 +9,7 @@ pub new-requires : goal.new-requires
 new-requires g c =
     let small : c.args.size ≤ 2 ^ 32 = omega arith in
     rw (c.verdict_of.ensures, c.judged.ensures.exact) (verdict_formed (judge_spi c.args.frame.now (writable_by c.args.table.now c.args.layout.now) c.args.size c.args.latch)
-    (λ op h. judged_formed c.args.frame.now (writable_by c.args.table.now c.args.layout.now) c.args.size c.args.latch op c.requires.most small h))
+    (λ op h. judged_formed c.args.frame.now (writable_by c.args.table.now c.args.layout.now) c.args.size c.args.latch op small h))
 
 pub returns-clause-passes : goal.returns-clause-passes
 returns-clause-passes g c =
