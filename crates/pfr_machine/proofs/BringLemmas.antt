@@ -33,7 +33,7 @@ use Rattle.pfr_story.specs.declared.line.Line.{Line}
 use Rattle.pfr_story.specs.declared.stop.Stop.{Stop}
 use Rattle.pfr_story.proofs.Sequence.{Ran-append, Stopped-first, Stopped-next}
 use Rattle.pfr_story.proofs.RestoreLaws.{restored_judged}
-use Rattle.pfr_machine.specs.Worlds.{AddsNotes, DeskState, IsAwake, Stays, desk_world, with_note}
+use Rattle.pfr_machine.specs.Worlds.{AddsNotes, DeskState, IsAwake, Latches, Stays, desk_world, with_note}
 use Rattle.pfr_machine.specs.Ready.{LeavesSeated, HaltsIn, EndsSeated, DistrustedBy, BroughtUp, Brings, Ended}
 use Rattle.pfr_machine.specs.declared.board.Board.{Board}
 use Rattle.pfr_machine.specs.declared.bringing.Dark.{Dark}
@@ -101,11 +101,11 @@ leaves_most : (m n : ℕ) (old : DeskState) (new : World) → m ≤ n → Leaves
 leaves_most m n old new le l = record { mine = l.mine; other = l.other; notes = AddsNotes-most m n old.world.notes new.notes l.notes le; nv = l.nv }
 
 -- ---- what calls leave of the devices
-image_now : (b : Bank) (w : World) → mine b (story_of w) ≡ now (state_at (device_of b) w)
+pub image_now : (b : Bank) (w : World) → mine b (story_of w) ≡ now (state_at (device_of b) w)
 image_now bank.Bmc w = refl
 image_now bank.Pch w = refl
 
-size_now : (b : Bank) (w : World) → length (mine b (story_of w)) ≡ size_of (state_at (device_of b) w)
+pub size_now : (b : Bank) (w : World) → length (mine b (story_of w)) ≡ size_of (state_at (device_of b) w)
 size_now b w = ap (λ (bytes : List ℕ). length bytes) (image_now b w) ∙ length-now (state_at (device_of b) w)
 
 -- ---- the first check of the active image
@@ -214,10 +214,10 @@ ready_at b w size found r s f is =
     ap (λ (n : ℕ). ready_in b n (fuses_of (now w.nv))) (size_now b w ∙ sym s) ∙ (ap (λ (x : Result FusesState FuseFail). ready_in b size x) (sym f) ∙ sym is)
 
 -- the same at the desk
-pub ready_found : {F : Type 0} (b : Bank) (device other nv : FlashState) (board : Board F) (desk : DeskState) (size : ℕ) (found : Result FusesState FuseFail) (r : Result FusesState LockWhy) {how : Line}
-    → record { bank = b; other = how; world = desk_world b device other nv board } ≡ desk → size ≡ size_of device → found ≡ fuses_of (now desk.world.nv) → r ≡ ready_in b size found → ready_of desk.bank (story_of desk.world) ≡ r
-ready_found b device other nv board desk size found r {how} view s f is =
-    let here : size ≡ size_of (state_at (device_of desk.bank) desk.world) = s ∙ (ap (λ (d : FlashState). size_of d) (sym (state_mine b device other nv board)) ∙ ap (λ (d : DeskState). size_of (state_at (device_of d.bank) d.world)) view) in
+pub ready_found : {F : Type 0} (b : Bank) (device other nv : FlashState) (latches : Latches) (board : Board F) (desk : DeskState) (size : ℕ) (found : Result FusesState FuseFail) (r : Result FusesState LockWhy) {how : Line}
+    → record { bank = b; other = how; world = desk_world b device other nv latches board } ≡ desk → size ≡ size_of device → found ≡ fuses_of (now desk.world.nv) → r ≡ ready_in b size found → ready_of desk.bank (story_of desk.world) ≡ r
+ready_found b device other nv latches board desk size found r {how} view s f is =
+    let here : size ≡ size_of (state_at (device_of desk.bank) desk.world) = s ∙ (ap (λ (d : FlashState). size_of d) (sym (state_mine b device other nv latches board)) ∙ ap (λ (d : DeskState). size_of (state_at (device_of d.bank) d.world)) view) in
     ready_at desk.bank desk.world size found r here f (is ∙ ap (λ (x : Bank). ready_in x size found) (ap (λ (d : DeskState). d.bank) view))
 
 module _ (accepts : Acceptance) (old : DeskState) where

@@ -19,23 +19,22 @@ use Rattle.pfr_copy.specs.Applying.{CanApply}
 use Rattle.pfr_copy.proofs.JudgedLaw.{judged_applies}
 use Rattle.pfr_story.specs.Story.{device_of}
 use Rattle.pfr_story.specs.World.{state_at}
-use Rattle.pfr_story.specs.declared.line.Line.{Line}
 use Rattle.pfr_machine.specs.Inside.{IsDesk}
-use Rattle.pfr_machine.specs.Worlds.{desk_world}
+use Rattle.pfr_machine.specs.Worlds.{Latches, Sitting, desk_world}
 use Rattle.pfr_machine.specs.declared.board.Board.{Board}
 use Rattle.pfr_machine.proofs.DeskLemmas.{state_mine}
 
 -- it can be applied to a desk's bank, which was read through a loan of its flash
-pub capsule_left : {F : Type 0} (b whose other_whose : Bank) (how : Line) (mine read later other nv : FlashState) (board : Board F) (layout : Layout) (fuses : FusesState) (accepts : Acceptance) (capsule : CapsuleState)
-    → IsDesk b whose other_whose how (desk_world b mine other nv board) → IsValidLayout (layout_of fuses.provision b) (size_of (state_at (device_of b) (desk_world b mine other nv board)))
+pub capsule_left : {F : Type 0} (b whose : Bank) (seat : Sitting) (mine read later other nv : FlashState) (latches : Latches) (board : Board F) (layout : Layout) (fuses : FusesState) (accepts : Acceptance) (capsule : CapsuleState)
+    → IsDesk b whose seat (desk_world b mine other nv latches board) → IsValidLayout (layout_of fuses.provision b) (size_of (state_at (device_of b) (desk_world b mine other nv latches board)))
     → read ≡ mine → layout ≡ layout_of fuses.provision b → EndsAt None read later → judge_area Recovery b (now read) fuses accepts ≡ Ok capsule → HasIndex (now read) capsule.pages
     → All (IsRegion layout (size_of read)) capsule.manifest.regions → LiesAt (now read) layout.recovery_at layout.area_len capsule
-    → CanApply (now (state_at (device_of b) (desk_world b later other nv board))) (layout_of fuses.provision b) capsule
-capsule_left b whose other_whose how mine read later other nv board layout fuses accepts capsule desk valid same laid ends judged index regions lies =
+    → CanApply (now (state_at (device_of b) (desk_world b later other nv latches board))) (layout_of fuses.provision b) capsule
+capsule_left b whose seat mine read later other nv latches board layout fuses accepts capsule desk valid same laid ends judged index regions lies =
     let here : Layout = layout_of fuses.provision b in
-    let at : state_at (device_of b) (desk_world b mine other nv board) ≡ read = state_mine b mine other nv board ∙ sym same in
+    let at : state_at (device_of b) (desk_world b mine other nv latches board) ≡ read = state_mine b mine other nv latches board ∙ sym same in
     let can : CanApply (now read) here capsule =
     judged_applies read here.recovery_at b here fuses accepts capsule (subst (λ (d : FlashState). IsBankSize (size_of d)) at desk.size) (subst (λ (d : FlashState). IsValidLayout here (size_of d)) at valid) judged index
     (subst (λ (l : Layout). All (IsRegion l (size_of read)) capsule.manifest.regions) laid regions) (inl (subst (λ (l : Layout). LiesAt (now read) l.recovery_at l.area_len capsule) laid lies)) in
-    let left : now read ≡ now (state_at (device_of b) (desk_world b later other nv board)) = sym (ends_content ends) ∙ ap now (sym (state_mine b later other nv board)) in
+    let left : now read ≡ now (state_at (device_of b) (desk_world b later other nv latches board)) = sym (ends_content ends) ∙ ap now (sym (state_mine b later other nv latches board)) in
     subst (λ (image : List ℕ). CanApply image here capsule) left can

@@ -1,3 +1,4 @@
+pub mod LaidLemmas
 pub mod WorldLemmas
 pub mod DeskLemmas
 pub mod SeatLemmas
@@ -10,4 +11,5 @@ pub mod SoundLemmas
 pub mod JudgeLemmas
 pub mod CheckLemmas
 pub mod BringLemmas
+pub mod BusLemmas
 mod VerdictLaw

@@ -1,14 +1,17 @@
 -- A platform carries that each bank was trusted while it stood released.
-use Rattle.std.proofs.Common.{◌≡◌, ◌∙◌, sym, ap, subst, Option, Some, None}
+use Rattle.std.proofs.Common.{◌≡◌, ◌∙◌, sym, ap, subst, List, Option, Some, None}
 use Rattle.pfr_flash.specs.FlashState.{now}
 use Rattle.pfr_flash.specs.declared.names.Bank.{Bank}
+use Rattle.pfr_flash.specs.declared.names.Bank.TheVariants as bank
 use Rattle.pfr_engine.specs.Acceptance.{Acceptance}
 use Rattle.pfr_auth.specs.Trusted.{IsTrusted}
 use Rattle.pfr_script.specs.declared.event.Event.{Event}
+use Rattle.pfr_report.specs.declared.note.Note.{Note}
 use Rattle.pfr_story.specs.Course.{Follows}
+use Rattle.pfr_story.specs.Promises.{Runs}
 use Rattle.pfr_story.specs.Standing.{standing_of, standing_by, Running}
 use Rattle.pfr_story.specs.Story.{device_of}
-use Rattle.pfr_story.specs.Turn.{course, Turn}
+use Rattle.pfr_story.specs.Turn.{begun, course, Turn}
 use Rattle.pfr_story.specs.World.{World, AreDevices, state_at, story_of}
 use Rattle.pfr_story.specs.declared.line.Line.{Line}
 use Rattle.pfr_story.specs.declared.line.Line.TheVariants as line
@@ -29,6 +32,17 @@ still_sound old next b accepts e new h f l devices sizes =
       trusted = λ which. Turn-trusted_spans accepts which e old new t (have_bytes new devices) (sizes_before accepts e old new t sizes).nv (h.trusted which);
     }
 
+-- a bank that runs is trusted where an item was begun
+pub begun_trusted : (old next : World) → Begun old next → (accepts : Acceptance) → IsSound accepts old → (which : Bank) → Runs which next → IsTrusted (now (state_at (device_of which) next)) (now next.nv) which accepts
+begun_trusted old next b accepts h which runs =
+    let t = trusted_now accepts which old (h.trusted which) (ap (λ (list : List Note). standing_of which list) (sym b.list) ∙ runs) in
+    subst (λ (w : World). IsTrusted (now (state_at (device_of which) w)) (now w.nv) which accepts) (sym b.is) (of_begun which t)
+  where
+    of_begun : (which : Bank) → IsTrusted (now (state_at (device_of which) old)) (now old.nv) which accepts
+        → IsTrusted (now (state_at (device_of which) (record (begun old) { notes = next.notes }))) (now old.nv) which accepts
+    of_begun bank.Bmc t = t
+    of_begun bank.Pch t = t
+
 -- a bank that runs is trusted now
 module _ {E : Type 0} (accepts : E → Acceptance) (which : Bank) where
   runs_trusted : (o : Option World) (engine : E) (inner : World) → IsThere (accepts engine) o → o ≡ Some inner → standing_of which inner.notes.list ≡ Running
@@ -43,3 +57,10 @@ module _ {E : Type 0} (accepts : E → Acceptance) (which : Bank) where
   line_trusted p o engine inner how view h e stands runs =
       subst (λ (q : PlatformState E). IsTrusted (now (state_at (device_of which) q.world)) (now q.world.nv) which (accepts q.engine)) view
       (runs_trusted o engine inner h e (sym stands ∙ ap standing_by runs))
+
+  pub known_trusted : (p : PlatformState E) (o : Option World) (engine : E) → record { world = world_in o; engine = engine } ≡ p → IsThere (accepts engine) o
+      → Runs which p.world → IsTrusted (now (state_at (device_of which) p.world)) (now p.world.nv) which (accepts p.engine)
+  known_trusted p (Some w) engine view h =
+      subst (λ (q : PlatformState E). Runs which q.world → IsTrusted (now (state_at (device_of which) q.world)) (now q.world.nv) which (accepts q.engine)) view
+      (λ runs. trusted_now (accepts engine) which w (h.trusted which) runs)
+  known_trusted p None engine view h = absurd h

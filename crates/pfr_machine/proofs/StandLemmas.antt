@@ -1,12 +1,13 @@
 -- How banks stand once something more is noted.
-use Rattle.std.proofs.Common.{◌≡◌, ◌∙◌, sym, ap, subst, ℕ, ◌≤◌, [], ◌∷◌, true, if◌then◌else◌, arith}
+use Rattle.std.proofs.Common.{◌≡◌, ◌∙◌, sym, ap, subst, ℕ, ◌≤◌, [], ◌∷◌, true, if◌then◌else◌, Option, arith}
 use Rattle.std.specs.Prelude.{◌≢◌}
 use Rattle.pfr_flash.specs.declared.names.Bank.{Bank}
 use Rattle.pfr_flash.specs.declared.names.Bank.TheVariants.{Bmc, Pch}
 use Rattle.pfr_flash.specs.declared.names.Counts.{Counts}
+use Rattle.pfr_flash.specs.declared.names.Device.{Device}
 use Rattle.pfr_report.specs.declared.note.LockWhy.{LockWhy}
 use Rattle.pfr_report.specs.declared.note.What.{What}
-use Rattle.pfr_report.specs.declared.note.What.TheVariants.{Locked}
+use Rattle.pfr_report.specs.declared.note.What.TheVariants.{Locked, Lost}
 use Rattle.pfr_story.specs.Goes.{Ran}
 use Rattle.pfr_story.specs.Guards.{same_bank}
 use Rattle.pfr_story.specs.Standing as standing
@@ -65,14 +66,41 @@ leaves_on most old new bmc pch on notes = record {
   notes = notes;
 }
 
+-- the banks stand as before
+pub leaves_standing : (most : ℕ) (old new : World) → ((which : Bank) → standing_of which new.notes.list ≡ standing_of which old.notes.list) → new.nv.powered ≡ old.nv.powered
+    → AddsNotes most old.notes new.notes → IsWhole old → LeavesWhole most old new
+leaves_standing most old new stands fed notes h = record {
+  together = λ off. stands Pch ∙ h.together (sym (stands Bmc) ∙ off);
+  apart = λ off. stands Bmc ∙ h.apart (sym (stands Pch) ∙ off);
+  on = λ n. fed ∙ h.on (λ off. n (stands Bmc ∙ off));
+  notes = notes;
+}
+
 -- something was noted by which no bank stands otherwise
 pub noted_leaves : (what : What) (old new : World) → ((which : Bank) (s : Standing) → standing_after which what s ≡ s) → new ≡ with_note what old → 1 ≤ old.notes.spare → IsWhole old
     → LeavesWhole 64 old new
 noted_leaves what old new still e room h =
-    let stands : (which : Bank) → standing_of which new.notes.list ≡ standing_of which old.notes.list = still_stands what old new still e in
-    record {
-      together = λ off. stands Pch ∙ h.together (sym (stands Bmc) ∙ off);
-      apart = λ off. stands Bmc ∙ h.apart (sym (stands Pch) ∙ off);
-      on = λ n. ap (λ (w : World). w.nv.powered) e ∙ h.on (λ off. n (stands Bmc ∙ off));
-      notes = AddsNotes-most 1 64 old.notes new.notes (noted_adds what old new e room) (omega arith);
-    }
+    leaves_standing 64 old new (still_stands what old new still e) (ap (λ (w : World). w.nv.powered) e) (AddsNotes-most 1 64 old.notes new.notes (noted_adds what old new e room) (omega arith)) h
+
+-- the power went
+pub lost_leaves : (most : ℕ) (device : Option Device) (old new : World) → Ran (Says (Lost device) ∷ []) old new → AddsNotes most old.notes new.notes → LeavesWhole most old new
+lost_leaves most device old new r notes = record {
+  together = λ off. said_stands (λ at. Lost device at) old new r Pch;
+  apart = λ off. said_stands (λ at. Lost device at) old new r Bmc;
+  on = λ n. absurd (n (said_stands (λ at. Lost device at) old new r Bmc));
+  notes = notes;
+}
+
+pub leaves_most : (m n : ℕ) (old new : World) → m ≤ n → LeavesWhole m old new → LeavesWhole n old new
+leaves_most m n old new le l = record { together = l.together; apart = l.apart; on = l.on; notes = AddsNotes-most m n old.notes new.notes l.notes le }
+
+-- where a bank runs, neither is off
+runs_on : (s : Standing) → s ≡ standing.Running → s ≢ standing.Off
+runs_on s e f = absurd (let g : standing.Running ≡ standing.Off = rw e at f in cc)
+
+pub neither_off : (b : Bank) (w : World) → IsWhole w → standing_of b w.notes.list ≡ standing.Running → (which : Bank) → standing_of which w.notes.list ≢ standing.Off
+neither_off Bmc w h e Bmc = runs_on _ e
+neither_off Bmc w h e Pch = λ off. runs_on _ e (h.apart off)
+neither_off Pch w h e Bmc = λ off. runs_on _ e (h.together off)
+neither_off Pch w h e Pch = runs_on _ e
+

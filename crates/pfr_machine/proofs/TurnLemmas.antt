@@ -1,23 +1,29 @@
 -- A whole step, from what was done at its event.
-use Rattle.std.proofs.Common.{◌≡◌, ◌∙◌, refl, sym, ap, subst, ℕ, Bool, true, false, List, [], ◌∷◌, length, inr, arith, Result, Ok, Err, OnOk}
+use Rattle.std.proofs.Common.{◌≡◌, ◌≢◌, ◌∙◌, refl, sym, ap, subst, ℕ, ◌+◌, Bool, true, false, not, List, [], ◌∷◌, length, inr, arith, Option, Some, None, Result, Ok, Err, OnOk}
 use Rattle.pfr_flash.specs.FlashState.{FlashState, size_of}
 use Rattle.pfr_flash.specs.Layout.{IsBankSize}
 use Rattle.pfr_flash.specs.declared.flash.FlashFail.{FlashFail}
 use Rattle.pfr_flash.specs.declared.flash.FlashFail.TheVariants as fail
+use Rattle.pfr_flash.specs.declared.names.Bank.{Bank}
 use Rattle.pfr_flash.specs.declared.names.Bank.TheVariants as bank
 use Rattle.pfr_flash.specs.declared.names.Device.{Device}
 use Rattle.pfr_flash.specs.declared.names.Device.TheVariants as device
 use Rattle.pfr_engine.specs.Acceptance.{Acceptance}
+use Rattle.pfr_fuses.specs.FusesState.{FusesState}
+use Rattle.pfr_fuses.specs.FusesOf.{fuses_of}
+use Rattle.pfr_fuses.specs.declared.fuse_fail.FuseFail.{FuseFail}
+use Rattle.pfr_auth.specs.Judge.{judge_active}
 use Rattle.pfr_report.specs.declared.note.Note.{Note}
 use Rattle.pfr_report.specs.declared.note.What.TheVariants.{Power}
 use Rattle.pfr_script.specs.declared.event.Event.{Event}
 use Rattle.pfr_script.specs.declared.event.Event.TheVariants as event
 use Rattle.pfr_story.specs.Course.{Stretch, Course, CrossesOrFaults, LosesPower, Steps, Follows}
 use Rattle.pfr_story.specs.Goes.{Ran, Stopped}
-use Rattle.pfr_story.specs.Plans.{migrated}
-use Rattle.pfr_story.specs.Standing.{Standing, is_off}
+use Rattle.pfr_story.specs.Plans.{Ruling, migrated, mine, ruling, ruling_by, ruling_with, smbus_by, smbus_judged, store}
+use Rattle.pfr_story.specs.Promises.{IsKnownSlot}
+use Rattle.pfr_story.specs.Standing.{Standing, standing_of, is_off, is_running, Off, Held, Locked, Running}
 use Rattle.pfr_story.specs.Story.{Story, Move, Says, after}
-use Rattle.pfr_story.specs.Turn.{bank_stretch, fuse_stretch, unreadable, power_course, course, where_off, begun, Turn}
+use Rattle.pfr_story.specs.Turn.{bank_stretch, fuse_stretch, unreadable, power_course, course, ignored, ignored_if, is_idle, taken, begun, Turn}
 use Rattle.pfr_story.specs.World.{World, story_of}
 use Rattle.pfr_story.proofs.Courses.{Steps-next, Steps-ended}
 use Rattle.pfr_story.proofs.RunLaws.{Turn-item}
@@ -26,7 +32,7 @@ use Rattle.pfr_story.proofs.Lift.{Ran-uncalled}
 use Rattle.pfr_story.proofs.Sequence.{Ran-refl}
 use Rattle.pfr_machine.specs.Worlds.{with_note, with_state}
 use Rattle.pfr_machine.specs.Inside.{HasSizes, IsWhole}
-use Rattle.pfr_machine.specs.Ready.{Brings, BringsBoth, BroughtUp, LeavesWhole}
+use Rattle.pfr_machine.specs.Ready.{Brings, BringsBoth, BroughtUp, IsTaken, LeavesWhole}
 use Rattle.pfr_machine.specs.declared.bringing.Dark.{Dark}
 use Rattle.pfr_machine.proofs.WorldLemmas.{AddsNotes-then}
 
@@ -81,9 +87,69 @@ module _ (accepts : Acceptance) where
       → Follows (power_course accepts) old new
   powered old lit noted new a b p = (noted, power_noted old lit noted a b, p)
 
--- where the banks aren't off
-pub at_on : (off : Bool) (s : Standing) (a b : Course) (old new : World) → off ≡ is_off s → off ≡ false → Follows b old new → Follows (where_off (is_off s) a b) old new
-at_on off s a b old new e f p = rw (← e, f) p
+-- ---- an event that is ignored, and one that is taken
+pub at_idle : (accepts : Acceptance) (e : Event) (idle : Bool) (old new : World) → idle ≡ is_idle e (story_of old) → idle ≡ true → Follows ignored old new → Follows (course accepts e (story_of old)) old new
+at_idle accepts e idle old new is yes p = rw (← is, yes) p
+
+pub at_taken : (accepts : Acceptance) (e : Event) (idle : Bool) (old new : World) → idle ≡ is_idle e (story_of old) → idle ≡ false → Follows (taken accepts e (story_of old)) old new
+    → Follows (course accepts e (story_of old)) old new
+at_taken accepts e idle old new is no p = rw (← is, no) p
+
+-- an event that is ignored leaves the banks as they stand, so they were off where they are
+pub idle_on : (e : Event) (old new : World) → is_idle e (story_of old) ≡ true → IsTaken e old → standing_of bank.Bmc new.notes.list ≡ standing_of bank.Bmc old.notes.list → standing_of bank.Bmc new.notes.list ≢ Off
+idle_on event.Power old new idle taken same = absurd (let never : false ≡ true = idle in cc)
+idle_on event.Off old new idle taken same = λ off. taken (sym same ∙ off)
+idle_on (event.Provision what) old new idle taken same = λ off. taken (sym same ∙ off)
+idle_on (event.Spi which frame) old new idle taken same = λ off. taken (sym same ∙ off)
+idle_on (event.Smbus which frame) old new idle taken same = λ off. taken (sym same ∙ off)
+
+off_only : (s : Standing) → is_off s ≡ true → s ≡ Off
+off_only Off e = refl
+off_only Held e = absurd (let never : false ≡ true = e in cc)
+off_only Locked e = absurd (let never : false ≡ true = e in cc)
+off_only Running e = absurd (let never : false ≡ true = e in cc)
+
+pub not_off : (s : Standing) → is_off s ≡ false → s ≢ Off
+not_off s e off = absurd (let never : true ≡ false = ap is_off (sym off) ∙ e in cc)
+
+-- what is provisioned where the banks aren't off is taken
+pub idle_known : (e : Event) (old : World) → is_idle e (story_of old) ≡ true → standing_of bank.Bmc old.notes.list ≢ Off → IsKnownSlot e
+idle_known event.Power old idle some = tt
+idle_known event.Off old idle some = tt
+idle_known (event.Provision what) old idle some = absurd (some (off_only (standing_of bank.Bmc old.notes.list) idle))
+idle_known (event.Spi which frame) old idle some = tt
+idle_known (event.Smbus which frame) old idle some = tt
+
+-- the bank of a frame that is taken runs
+pub running_only : (s : Standing) → not (is_running s) ≡ false → s ≡ Running
+running_only Off e = absurd (let never : true ≡ false = e in cc)
+running_only Held e = absurd (let never : true ≡ false = e in cc)
+running_only Locked e = absurd (let never : true ≡ false = e in cc)
+running_only Running e = refl
+
+-- ---- what is done doesn't rest on the item's number
+ruling_same : (accepts : Acceptance) (b : Bank) (s t : Story) (found : Result FusesState FuseFail) → mine b s ≡ mine b t → ruling_with accepts b s found ≡ ruling_with accepts b t found
+ruling_same accepts b s t (Ok fuses) e = ap (λ (image : List ℕ). ruling_by b fuses (judge_active image b fuses accepts)) e
+ruling_same accepts b s t (Err cause) e = refl
+
+mine_item : (b : Bank) (story : Story) (item : ℕ) → mine b (record story { item = item }) ≡ mine b story
+mine_item bank.Bmc story item = refl
+mine_item bank.Pch story item = refl
+
+smbus_item : (b : Bank) (frame : List ℕ) (found : Option Ruling) (s t : Story) → smbus_by b frame found s ≡ smbus_by b frame found t
+smbus_item b frame (Some r) s t = refl
+smbus_item b frame None s t = refl
+
+course_item : (accepts : Acceptance) (e : Event) (story : Story) (item : ℕ) → course accepts e (record story { item = item }) ≡ course accepts e story
+course_item accepts event.Power story item = refl
+course_item accepts event.Off story item = refl
+course_item accepts (event.Provision what) story item = refl
+course_item accepts (event.Spi which frame) story item = refl
+course_item accepts (event.Smbus which frame) story item =
+    let same : smbus_judged accepts which frame (record story { item = item }) ≡ smbus_judged accepts which frame story =
+    ap (λ (found : Option Ruling). smbus_by which frame found (record story { item = item })) (ruling_same accepts which (record story { item = item }) story (fuses_of (store story)) (mine_item which story item))
+    ∙ smbus_item which frame (ruling accepts which story) (record story { item = item }) story in
+    ap (λ (moves : List Move). ignored_if (is_idle (event.Smbus which frame) story) (record { first = moves; stretches = [] })) same
 
 -- ---- an item was begun
 pub record Begun (old next : World) : Type 0 where
@@ -104,14 +170,9 @@ module _ (old next : World) (b : Begun old next) where
         none_failed = record { bmc = q.none_failed.bmc; pch = q.none_failed.pch; nv = q.none_failed.nv };
       }
 
-  course_of : (accepts : Acceptance) (e : Event) (s t : Story) → s.notes ≡ t.notes → course accepts e s ≡ course accepts e t
-  course_of accepts event.Power s t p = refl
-  course_of accepts event.Off s t p = rw p refl
-  course_of accepts (event.Provision what) s t p = rw p refl
-
   pub turned : (accepts : Acceptance) (e : Event) (new : World) → Follows (course accepts e (story_of next)) next new → Turn accepts e old new
   turned accepts e new (mid, p, q) =
-      let same : course accepts e (story_of next) ≡ course accepts e (story_of old) = course_of accepts e (story_of next) (story_of old) b.list in
+      let same : course accepts e (story_of next) ≡ course accepts e (story_of old) = ap (λ (s : Story). course accepts e s) story_begun ∙ course_item accepts e (story_of old) (old.item + 1) in
       subst (λ (c : Course). Follows c (begun old) new) same (mid, ran_begun _ mid p, q)
 
   pub still_whole : (accepts : Acceptance) (e : Event) (new : World) → IsWhole old → Follows (course accepts e (story_of next)) next new → LeavesWhole 64 next new → IsWhole new

@@ -1,7 +1,7 @@
 -- What notes and devices do to the platform.
-use Rattle.std.proofs.Common.{◌≡◌, ◌≢◌, ◌∙◌, refl, sym, ap, subst, ℕ, ◌≤◌, ◌+◌, true, List, [], ◌∷◌, ◌++◌, arith}
+use Rattle.std.proofs.Common.{◌≡◌, ◌≢◌, ◌∙◌, refl, sym, ap, subst, ℕ, ◌≤◌, ◌+◌, Bool, true, false, List, [], ◌∷◌, ◌++◌, Some, None, arith}
 use Rattle.std.proofs.lemmas.List.{length-append}
-use Rattle.pfr_flash.specs.FlashState.{size_of}
+use Rattle.pfr_flash.specs.FlashState.{FlashState, now, op_count_of, size_of}
 use Rattle.pfr_flash.specs.Layout.{IsBankSize}
 use Rattle.pfr_flash.specs.declared.names.Bank.{Bank}
 use Rattle.pfr_flash.specs.declared.names.Bank.TheVariants as bank
@@ -10,19 +10,21 @@ use Rattle.pfr_report.specs.NotesState.{NotesState}
 use Rattle.pfr_report.specs.Texts.{AllText, HasText}
 use Rattle.pfr_report.specs.declared.note.Note.{Note}
 use Rattle.pfr_report.specs.declared.note.What.{What}
-use Rattle.pfr_report.specs.declared.note.What.TheVariants.{Released, Locked}
+use Rattle.pfr_report.specs.declared.note.What.TheVariants.{Held, Released, Locked}
 use Rattle.pfr_report.specs.declared.note.LockWhy.{LockWhy}
 use Rattle.pfr_report.proofs.NotedLemmas.{AllText-append}
+use Rattle.pfr_story.specs.Guards.{latch_after}
+use Rattle.pfr_story.specs.Plans.{Ruling}
 use Rattle.pfr_story.specs.Standing as standing
 use Rattle.pfr_story.specs.Standing.{Standing, standing_from, standing_after, standing_by, standing_of}
 use Rattle.pfr_story.specs.Story.{Says, device_of, other_bank}
 use Rattle.pfr_story.specs.World.{World, counts_in, state_at}
 use Rattle.pfr_story.specs.Goes.{Ran}
-use Rattle.pfr_story.specs.declared.line.Line.{Line}
 use Rattle.pfr_story.specs.declared.line.Line.TheVariants as line
 use Rattle.pfr_story.proofs.Lift.{Ran-says}
-use Rattle.pfr_machine.specs.Inside.{IsSeat, IsBoard}
-use Rattle.pfr_machine.specs.Worlds.{AddsNotes, with_note}
+use Rattle.pfr_machine.specs.Inside.{IsBoard, IsLaid, IsSeat, KeepsLaid}
+use Rattle.pfr_machine.specs.Worlds.{AddsNotes, Latches, Sitting, counts_by, desk_world, latches_after, latches_by, with_note}
+use Rattle.pfr_machine.specs.declared.board.Board.{Board}
 
 -- ---- how banks stand once something more is noted
 standing_from-noted : (which : Bank) (how : Standing) (list : List Note) (note : Note) → standing_from which how (list ++ note ∷ []) ≡ standing_after which note.what (standing_from which how list)
@@ -58,32 +60,51 @@ noted_ran says what old new w e =
     let same : new ≡ with_note (says (counts_in old)) old = subst (λ (x : What). new ≡ with_note x old) w e in
     subst (λ (x : World). Ran (Says says ∷ []) old x) (sym same) (Ran-says says old (with_note (says (counts_in old)) old) refl refl refl refl refl refl)
 
+-- ---- counts
+pub counts_desk : {F : Type 0} (b : Bank) (mine other nv : FlashState) (latches : Latches) (board : Board F) → counts_by b (op_count_of mine) (op_count_of other) (op_count_of nv) ≡ counts_in (desk_world b mine other nv latches board)
+counts_desk bank.Bmc mine other nv latches board = refl
+counts_desk bank.Pch mine other nv latches board = refl
+
 -- ---- seats
+-- a bank that runs was judged by the layout that the store provisions it with
+abbrev pub AreLaid : Bank → Sitting → World → Type 0
+AreLaid which seat w = (r : Ruling) → seat.ruling ≡ Some r → IsLaid which r.layout (now w.nv)
+
+-- the seats of banks that don't run
+abbrev pub off_seat : Bank → Sitting
+off_seat whose = record { whose = whose; line = line.Off; latch = false; ruling = None }
+
+abbrev pub locked_seat : Bank → Sitting
+locked_seat whose = record { whose = whose; line = line.Locked; latch = false; ruling = None }
+
 -- the seat of a bank, once something was noted
-pub seat_noted : (which owner : Bank) (later : Line) (note : Note) (old new : World)
+pub seat_noted : (which : Bank) (later : Sitting) (note : Note) (old new : World)
     → size_of (state_at (device_of which) new) ≡ size_of (state_at (device_of which) old)
     → new.notes.list ≡ old.notes.list ++ note ∷ []
-    → standing_after which note.what (standing_of which old.notes.list) ≡ standing_by later
-    → (later ≢ line.Off → (state_at (device_of which) new).powered ≡ true)
-    → owner ≡ which → IsBankSize (size_of (state_at (device_of which) old)) → IsSeat which owner later new
-seat_noted which owner later note old new size list after on owned bank_size = record {
+    → standing_after which note.what (standing_of which old.notes.list) ≡ standing_by later.line
+    → (later.line ≢ line.Off → (state_at (device_of which) new).powered ≡ true)
+    → later.whose ≡ which → IsBankSize (size_of (state_at (device_of which) old)) → AreLaid which later new → IsSeat which later new
+seat_noted which later note old new size list after on owned bank_size laid = record {
   owner = owned;
   size = subst (λ (n : ℕ). IsBankSize n) (sym size) bank_size;
   stands = ap (λ (l : List Note). standing_of which l) list ∙ (standing_noted which old.notes.list note ∙ after);
   on = on;
+  laid = laid;
 }
 
 -- a seat of which nothing was noted
-pub seat_stays : (which owner : Bank) (how : Line) (old new : World)
+pub seat_stays : (which : Bank) (seat : Sitting) (old new : World)
     → size_of (state_at (device_of which) new) ≡ size_of (state_at (device_of which) old)
     → new.notes.list ≡ old.notes.list
-    → (how ≢ line.Off → (state_at (device_of which) new).powered ≡ true)
-    → IsSeat which owner how old → IsSeat which owner how new
-seat_stays which owner how old new size list on seat = record {
-  owner = seat.owner;
-  size = subst (λ (n : ℕ). IsBankSize n) (sym size) seat.size;
-  stands = ap (λ (l : List Note). standing_of which l) list ∙ seat.stands;
+    → (seat.line ≢ line.Off → (state_at (device_of which) new).powered ≡ true)
+    → KeepsLaid (now old.nv) (now new.nv)
+    → IsSeat which seat old → IsSeat which seat new
+seat_stays which seat old new size list on keeps h = record {
+  owner = h.owner;
+  size = subst (λ (n : ℕ). IsBankSize n) (sym size) h.size;
+  stands = ap (λ (l : List Note). standing_of which l) list ∙ h.stands;
   on = on;
+  laid = λ r e. keeps which r.layout (h.laid r e);
 }
 
 pub board_noted : (note : Note) (old new : World) → size_of new.nv ≡ size_of old.nv → new.notes.list ≡ old.notes.list ++ note ∷ [] → HasText note.what → IsBoard old → IsBoard new
@@ -94,6 +115,26 @@ board_noted note old new size list text board = record {
 
 pub board_stays : (old new : World) → size_of new.nv ≡ size_of old.nv → new.notes.list ≡ old.notes.list → IsBoard old → IsBoard new
 board_stays old new size list board = record { size = size ∙ board.size; texts = subst (λ (l : List Note). AllText l) (sym list) board.texts }
+
+-- ---- what notes do to the latches
+-- a note that moves neither
+pub still_latches : (what : What) (latches : Latches) → ((which : Bank) (latch : Bool) → latch_after which what latch ≡ latch) → latches ≡ latches_after what latches
+still_latches what latches still =
+    ap (λ (l : Bool). latches_by bank.Bmc l latches.pch) (sym (still bank.Bmc latches.bmc))
+    ∙ ap (λ (l : Bool). latches_by bank.Bmc (latch_after bank.Bmc what latches.bmc) l) (sym (still bank.Pch latches.pch))
+
+-- a bank that is held, locked or released has its latch off
+pub held_latches : (b : Bank) (at : Counts) (mine other : Bool) → latches_by b false other ≡ latches_after (Held b at) (latches_by b mine other)
+held_latches bank.Bmc at mine other = refl
+held_latches bank.Pch at mine other = refl
+
+pub locked_latches : (b : Bank) (why : LockWhy) (at : Counts) (mine other : Bool) → latches_by b false other ≡ latches_after (Locked b why at) (latches_by b mine other)
+locked_latches bank.Bmc why at mine other = refl
+locked_latches bank.Pch why at mine other = refl
+
+pub released_latches : (b : Bank) (svn : ℕ) (at : Counts) (mine other : Bool) → latches_by b false other ≡ latches_after (Released b svn at) (latches_by b mine other)
+released_latches bank.Bmc svn at mine other = refl
+released_latches bank.Pch svn at mine other = refl
 
 -- ---- what notes of this bank say of it, and of the other one
 pub after_locked : (b : Bank) (why : LockWhy) (at : Counts) (s : Standing) → standing_after b (Locked b why at) s ≡ standing.Locked

@@ -86,6 +86,7 @@ impl<F: Flash> Desk<F> {
     fn check_again<E: Engine>(self, fuses: &Fuses, engine: &E) -> Result<Inner<F>, Halt<F>>
         requires room { 1 ≤ self.world.notes.spare }
         requires on { IsAwake self.bank self.world }
+        requires found { fuses_of (now self.world.nv) ≡ Ok fuses.now }
         requires valid { let layout = layout_of fuses.now.provision self.bank in
             IsValidLayout layout (size_of (state_at (device_of self.bank) self.world)) }
         requires trusted { IsOk (judged_active (E.accepts engine.now) self.bank fuses.now (story_of self.world)) }

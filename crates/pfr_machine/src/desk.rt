@@ -1,5 +1,5 @@
 // A bank in work.
-ghost use Rattle.std.specs.Prelude.{◌≡◌, ◌≢◌, ◌≤◌, [], ◌∷◌, true, Some, Ok, Err, IfOk, IfErr};
+ghost use Rattle.std.specs.Prelude.{◌≡◌, ◌≢◌, ◌≤◌, Bool, [], ◌∷◌, true, false, Some, Ok, Err, IfOk, IfErr};
 ghost use Rattle.pfr_flash.specs.Answer.{IsFound};
 ghost use Rattle.pfr_flash.specs.FlashState.{now, size_of};
 ghost use Rattle.pfr_flash.specs.Layout.{IsValidLayout};
@@ -12,19 +12,20 @@ ghost use Rattle.pfr_fuses.specs.RootSlot.{layout_of};
 ghost use Rattle.pfr_report.specs.Texts.{HasText};
 ghost use Rattle.pfr_report.specs.declared.note.What.TheVariants.{Released, Locked, Lost, Untrusted};
 ghost use Rattle.pfr_story.specs.Goes.{Goes, Ran};
+ghost use Rattle.pfr_story.specs.Guards.{latch_after};
 ghost use Rattle.pfr_story.specs.Plans.{asks, asks_store, copied, judged_recovery, restored};
 ghost use Rattle.pfr_story.specs.Standing.{Standing, standing_after};
 ghost use Rattle.pfr_story.specs.Story.{Says, device_of};
 ghost use Rattle.pfr_story.specs.World.{IsDark, counts_in, state_at, story_of};
-ghost use Rattle.pfr_machine.specs.Inside.{IsDesk};
-ghost use Rattle.pfr_machine.specs.Worlds.{AddsNotes, IsAwake, Stays, bank_in, desk_world, flash_in, line_in, with_note};
+ghost use Rattle.pfr_machine.specs.Inside.{IsDesk, IsLaid};
+ghost use Rattle.pfr_machine.specs.Worlds.{AddsNotes, IsAwake, Stays, desk_world, flash_in, latch_in, latches_by, sits_in, with_note};
 ghost use Rattle.pfr_machine.specs.Ready.{Checks, IsText, LeavesSeated};
 
 use crate::board::Board;
 use crate::inner::Inner;
 use crate::judging::read_fuses;
 use crate::seat::Seat;
-use crate::sides::Sides;
+use crate::sides::{Sides, counts_by};
 use pfr_auth::{ActiveFail, Area, capsule_at};
 use pfr_bank::{Checked, Held, Unchecked};
 use pfr_capsule::{Capsule, CapsuleFail};
@@ -63,23 +64,26 @@ pub enum Found<F: Flash> {
 }
 
 impl<F: Flash> Model for Desk<F> {
+    ghost use Rattle.std.specs.Prelude.{false};
     ghost use Rattle.pfr_machine.specs.Inside.{IsDesk};
-    ghost use Rattle.pfr_machine.specs.Worlds.{DeskState, bank_in, desk_world, flash_in, line_in};
+    ghost use Rattle.pfr_machine.specs.Worlds.{DeskState, desk_world, flash_in, latch_in, latches_by, line_in, sits_in};
 
     ghost Value = { DeskState };
 
     ghost view = { λ d. record {
       bank = d.bank;
       other = line_in d.other;
-      world = desk_world d.bank (F.device d.held.flash) (F.device (flash_in d.other)) (F.device d.board.nv) d.board;
+      world = desk_world d.bank (F.device d.held.flash) (F.device (flash_in d.other)) (F.device d.board.nv)
+          (latches_by d.bank false (latch_in d.other)) d.board;
     } };
 
-    ghost invariant = { λ d. IsDesk d.bank d.held.bank (bank_in d.other) (line_in d.other)
-        (desk_world d.bank (F.device d.held.flash) (F.device (flash_in d.other)) (F.device d.board.nv) d.board) };
+    ghost invariant = { λ d. IsDesk d.bank d.held.bank (sits_in d.other)
+        (desk_world d.bank (F.device d.held.flash) (F.device (flash_in d.other)) (F.device d.board.nv)
+        (latches_by d.bank false (latch_in d.other)) d.board) };
 }
 
-// The device of a bank.
-fn device_of(bank: Bank) -> Device
+/// The device of a bank.
+pub fn device_of(bank: Bank) -> Device
     ensures { result ≡ device_of bank }
 {
     match bank {
@@ -97,11 +101,14 @@ fn release<F: Flash>(
     counts: Counts,
 ) -> Inner<F>
     requires room { 1 ≤ board.notes.spare }
-    requires desk { IsDesk bank checked.bank (bank_in other) (line_in other)
-        (desk_world bank (F.device checked.flash) (F.device (flash_in other)) (F.device board.nv) board) }
+    requires desk { IsDesk bank checked.bank (sits_in other)
+        (desk_world bank (F.device checked.flash) (F.device (flash_in other)) (F.device board.nv)
+        (latches_by bank false (latch_in other)) board) }
     requires on { (F.device checked.flash).powered ≡ true }
+    requires laid { IsLaid bank checked.layout (now (F.device board.nv)) }
     ensures { result ≡ with_note (Released bank checked.manifest.svn counts)
-        (desk_world bank (F.device checked.flash) (F.device (flash_in other)) (F.device board.nv) board) }
+        (desk_world bank (F.device checked.flash) (F.device (flash_in other)) (F.device board.nv)
+        (latches_by bank false (latch_in other)) board) }
 {
     let running = checked.release();
     let svn = running.manifest().svn;
@@ -121,19 +128,7 @@ impl<F: Flash> Desk<F> {
         ensures { result ≡ counts_in self.now.world }
     {
         let (mine, other) = (self.held.op_count(), self.other.op_count());
-        let nv = self.board.nv.op_count();
-        match self.bank {
-            Bank::Bmc => Counts {
-                bmc: mine,
-                pch: other,
-                nv,
-            },
-            Bank::Pch => Counts {
-                bmc: other,
-                pch: mine,
-                nv,
-            },
-        }
+        counts_by(self.bank, mine, other, self.board.nv.op_count())
     }
 
     /// What the store provisions the platform with, or why it doesn't.
@@ -196,6 +191,7 @@ impl<F: Flash> Desk<F> {
             (layout_of fuses.now.provision self.old.bank) capsule.now }
         ensures goes { Goes (copied self.old.bank level fuses.now capsule.now) self.old.world self.new.world result }
         ensures stays { Stays 0 self.old self.new result }
+        ensures store { self.new.world.nv ≡ self.old.world.nv }
     {
         let layout = fuses.provision().layout(self.bank);
         match apply(
@@ -212,11 +208,12 @@ impl<F: Flash> Desk<F> {
         }
     }
 
-    // Notes something by which no bank stands otherwise.
+    // Notes something by which no bank stands otherwise, and no latch moves.
     fn note(&mut self, what: What)
         requires room { 1 ≤ self.old.world.notes.spare }
         requires text { HasText what }
         requires still { (which : Bank) (s : Standing) → standing_after which what s ≡ s }
+        requires still_latch { (which : Bank) (latch : Bool) → latch_after which what latch ≡ latch }
         ensures noted { self.new ≡ record self.old { world = with_note what self.old.world } }
     {
         self.board.push(what);
@@ -230,6 +227,7 @@ impl<F: Flash> Desk<F> {
             (layout_of fuses.now.provision self.old.bank) capsule.now }
         ensures goes { Goes (restored self.old.bank level fuses.now capsule.now) self.old.world self.new.world result }
         ensures stays { Stays 1 self.old self.new result }
+        ensures store { self.new.world.nv ≡ self.old.world.nv }
     {
         self.copy(fuses, capsule, level)?;
         self.note(What::Restored {
@@ -253,6 +251,7 @@ impl<F: Flash> Desk<F> {
     pub fn check<E: Engine>(self, fuses: &Fuses, engine: &E) -> Result<Found<F>, Halt<F>>
         requires room { 1 ≤ self.world.notes.spare }
         requires on { IsAwake self.bank self.world }
+        requires found { fuses_of (now self.world.nv) ≡ Ok fuses.now }
         requires valid { IsValidLayout (layout_of fuses.now.provision self.bank)
             (size_of (state_at (device_of self.bank) self.world)) }
         ensures checks { Checks (E.accepts engine.now) fuses.now self result }
@@ -320,24 +319,18 @@ impl<F: Flash> Desk<F> {
         ensures dark { IsDark result }
         ensures notes { AddsNotes 1 self.world.notes result.notes }
     {
-        let counts = self.counts();
         let Desk {
             bank,
             held,
             other,
-            mut board,
+            board,
         } = self;
-        board.push(What::Lost {
-            device: Some(device),
-            counts,
-        });
-        board.nv.power_down();
         Sides {
             bank,
             mine: Seat::Off(held.lost()),
-            other: Seat::Off(other.lose()),
+            other,
             board,
         }
-        .inner()
+        .lose(Some(device))
     }
 }

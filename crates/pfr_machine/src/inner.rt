@@ -1,11 +1,12 @@
 // A platform none of whose banks is in work.
-ghost use Rattle.std.specs.Prelude.{◌≡◌, ◌≢◌, ◌↔◌, ◌≤◌, [], ◌∷◌, IsTrue, true};
+ghost use Rattle.std.specs.Prelude.{◌≡◌, ◌≢◌, ◌↔◌, ◌≤◌, Bool, [], ◌∷◌, IsTrue, true};
 ghost use Rattle.pfr_flash.specs.declared.names.Bank.{Bank};
 ghost use Rattle.pfr_flash.specs.declared.names.Bank.TheVariants.{Bmc};
 ghost use Rattle.pfr_flash.specs.declared.names.Device.TheVariants.{Nv};
 ghost use Rattle.pfr_report.specs.Texts.{HasText};
 ghost use Rattle.pfr_report.specs.declared.note.What.TheVariants.{Held, Locked, Lost};
 ghost use Rattle.pfr_story.specs.Goes.{Ran};
+ghost use Rattle.pfr_story.specs.Guards.{latch_after};
 ghost use Rattle.pfr_story.specs.Standing as standing;
 ghost use Rattle.pfr_story.specs.Standing.{Standing, standing_of, standing_after, standing_by};
 ghost use Rattle.pfr_story.specs.Story.{Says, other_bank};
@@ -31,16 +32,19 @@ pub struct Inner<F: Flash> {
 }
 
 impl<F: Flash> Model for Inner<F> {
+    ghost use Rattle.pfr_flash.specs.declared.names.Bank.TheVariants.{Bmc};
     ghost use Rattle.pfr_machine.specs.Inside.{AreSeated};
-    ghost use Rattle.pfr_machine.specs.Worlds.{bank_in, flash_in, line_in, world_with};
+    ghost use Rattle.pfr_machine.specs.Worlds.{flash_in, latch_in, latches_by, sits_in, world_with};
     ghost use Rattle.pfr_story.specs.World.{World};
 
     ghost Value = { World };
 
-    ghost view = { λ p. world_with (F.device (flash_in p.bmc)) (F.device (flash_in p.pch)) (F.device p.board.nv) p.board };
+    ghost view = { λ p. world_with (F.device (flash_in p.bmc)) (F.device (flash_in p.pch)) (F.device p.board.nv)
+        (latches_by Bmc (latch_in p.bmc) (latch_in p.pch)) p.board };
 
-    ghost invariant = { λ p. AreSeated (bank_in p.bmc) (bank_in p.pch) (line_in p.bmc) (line_in p.pch)
-        (world_with (F.device (flash_in p.bmc)) (F.device (flash_in p.pch)) (F.device p.board.nv) p.board) };
+    ghost invariant = { λ p. AreSeated (sits_in p.bmc) (sits_in p.pch)
+        (world_with (F.device (flash_in p.bmc)) (F.device (flash_in p.pch)) (F.device p.board.nv)
+        (latches_by Bmc (latch_in p.bmc) (latch_in p.pch)) p.board) };
 }
 
 impl<F: Flash> Inner<F> {
@@ -65,11 +69,12 @@ impl<F: Flash> Inner<F> {
         }
     }
 
-    /// Notes something by which no bank stands otherwise.
+    /// Notes something by which no bank stands otherwise, and no latch moves.
     pub fn note(&mut self, what: What)
         requires room { 1 ≤ self.old.notes.spare }
         requires text { HasText what }
         requires still { (which : Bank) (s : Standing) → standing_after which what s ≡ s }
+        requires still_latch { (which : Bank) (latch : Bool) → latch_after which what latch ≡ latch }
         ensures noted { self.new ≡ with_note what self.old }
     {
         self.board.push(what);
@@ -141,18 +146,6 @@ impl<F: Flash> Inner<F> {
         ensures dark { IsDark result }
         ensures notes { AddsNotes 1 self.notes result.notes }
     {
-        let counts = self.counts();
-        let Inner {
-            bmc,
-            pch,
-            mut board,
-        } = self;
-        board.push(What::Lost { device, counts });
-        board.nv.power_down();
-        Inner {
-            bmc: Seat::Off(bmc.lose()),
-            pch: Seat::Off(pch.lose()),
-            board,
-        }
+        self.sides(Bank::Bmc).lose(device)
     }
 }

@@ -4,6 +4,7 @@
 mod arming;
 mod board;
 mod bringing;
+mod bus;
 mod desk;
 mod inner;
 mod judging;

@@ -9,8 +9,9 @@ ghost use Rattle.pfr_recoverable.specs.Recoverable.{HasGoodRecovery};
 ghost use Rattle.pfr_report.specs.Texts.{AllText};
 ghost use Rattle.pfr_story.specs.Bringing.{BringsUpCalm, PowerReleases};
 ghost use Rattle.pfr_story.specs.Course.{Calm};
+ghost use Rattle.pfr_story.specs.Filtering.{FiltersSo};
 ghost use Rattle.pfr_story.specs.Guards.{first_guards};
-ghost use Rattle.pfr_story.specs.Promises.{ReleasesTrusted, LocksHaveCauses, RestoresGood, ProvisionsSo, FaultsAreNoted, FaultsHaveCauses, LossesAreNoted, LostEnds, LostIsDark, NotesOff, StaysQuiet, CallsNone, HasPower, DistrustsWithCause, NotesBelong, AreOff, IsPower, IsKnownSlot};
+ghost use Rattle.pfr_story.specs.Promises.{ReleasesTrusted, LocksHaveCauses, RestoresGood, ProvisionsSo, FaultsAreNoted, FaultsHaveCauses, LossesAreNoted, LostEnds, LostIsDark, NotesOff, StaysQuiet, CallsNone, HasPower, DistrustsWithCause, NotesBelong, AreOff, IsPower, IsKnownSlot, Runs};
 ghost use Rattle.pfr_story.specs.Recovery.{CountsRise, StaysRecoverable};
 ghost use Rattle.pfr_story.specs.Run.{armed, takes_arm};
 ghost use Rattle.pfr_story.specs.Spans.{ReleasedSpans};
@@ -29,7 +30,7 @@ use pfr_chain::Engine;
 use pfr_flash::{Bank, Flash, NoMemory, Rigged, Tear};
 use pfr_report::Notes;
 use pfr_script::{Arm, Event};
-use pfr_story::{Guards, Line};
+use pfr_story::{Line, Watches};
 use std::alloc::Global;
 use std::marker::Model;
 
@@ -87,7 +88,7 @@ impl<F: Flash, E: Engine + Drop> Platform<F, E> {
             nv,
             notes: Notes::new(alloc),
             item: 0,
-            guards: Guards::new(),
+            watches: Watches::new(),
         };
         let inner = Inner {
             bmc: Seat::Off(Off::new(bmc, Bank::Bmc)),
@@ -117,6 +118,8 @@ impl<F: Flash, E: Engine + Drop> Platform<F, E> {
         ensures restores { OnOk result (RestoresGood (E.accepts self.old.engine) self.old.world self.new.world) }
         ensures brings_up { OnOk result (BringsUpCalm event.now (E.accepts self.old.engine) self.old.world self.new.world) }
         ensures provisions { OnOk result (ProvisionsSo event.now self.old.world self.new.world) }
+        // Frames on the buses of a bank that runs are judged by what it is trusted by.
+        ensures filters { OnOk result (FiltersSo event.now (E.accepts self.old.engine) self.old.world self.new.world) }
         ensures belongs { OnOk result (NotesBelong event.now self.old.world self.new.world) }
 
         // So far each bank was trusted throughout each span in which it stood released, and in none of them a byte was written that
@@ -157,6 +160,7 @@ impl<F: Flash, E: Engine + Drop> Platform<F, E> {
         // All that the devices hold at the end are bytes.
         ensures bytes { AreDevices self.new.world }
     {
+        self.known();
         let done = self.work(event);
         self.known();
         done
@@ -169,6 +173,8 @@ impl<F: Flash, E: Engine + Drop> Platform<F, E> {
         ensures sizes { HasSizes self.now.world }
         ensures on { HasPower self.now.world }
         ensures spans { (which : Bank) → ReleasedSpans (E.accepts self.now.engine) which (story_of self.now.world) }
+        ensures trusted { (which : Bank) → Runs which self.now.world →
+            IsTrusted (now (state_at (device_of which) self.now.world)) (now self.now.world.nv) which (E.accepts self.now.engine) }
     {
         match &self.inner {
             Some(inner) => inner.known(),

@@ -8,6 +8,7 @@ ghost use Rattle.pfr_fuses.specs.FusesOf.{fuses_of};
 ghost use Rattle.pfr_story.specs.Goes.{Goes};
 ghost use Rattle.pfr_story.specs.Plans.{asks_store, migrated, migration_by, migration_in, store};
 ghost use Rattle.pfr_story.specs.Story.{called};
+ghost use Rattle.pfr_machine.specs.Inside.{KeepsLaid};
 ghost use Rattle.pfr_machine.specs.Ready.{StaysSeated};
 ghost use Rattle.pfr_machine.specs.Worlds.{with_state};
 
@@ -22,6 +23,7 @@ fn migrate_fuses<F: Flash>(nv: &mut F, fuses: &mut Fuses) -> Result<(), FlashFai
     requires size { size_of (F.device nv.old) ≡ 32768 }
     requires found { fuses_of (now (F.device nv.old)) ≡ Ok fuses.old }
     ensures follows { Follows (migration_by fuses.old.profile fuses.old) (F.device nv.old) (F.device nv.new) result }
+    ensures laid { KeepsLaid (now (F.device nv.old)) (now (F.device nv.new)) }
 {
     if fuses.profile() == 1 {
         fuses.migrate(nv)
@@ -34,7 +36,8 @@ fn migrate_fuses<F: Flash>(nv: &mut F, fuses: &mut Fuses) -> Result<(), FlashFai
 fn migrate<F: Flash>(nv: &mut F, found: Result<Fuses, FuseFail>) -> Result<(), FlashFail>
     requires size { size_of (F.device nv.old) ≡ 32768 }
     requires found { found ≡ fuses_of (now (F.device nv.old)) }
-    ensures { Follows (migration_in found) (F.device nv.old) (F.device nv.new) result }
+    ensures follows { Follows (migration_in found) (F.device nv.old) (F.device nv.new) result }
+    ensures laid { KeepsLaid (now (F.device nv.old)) (now (F.device nv.new)) }
 {
     match found {
         Ok(mut fuses) => migrate_fuses(nv, &mut fuses),

@@ -1,14 +1,18 @@
 // A bank that isn't in work.
-ghost use Rattle.std.specs.Prelude.{◌≡◌, ◌≢◌, ◌<◌, ◌≤◌, true, false};
+ghost use Rattle.std.specs.Prelude.{◌≡◌, ◌≢◌, ◌<◌, ◌≤◌, true, false, Some};
 ghost use Rattle.pfr_flash.specs.Flash.{with_cut, with_fault};
-ghost use Rattle.pfr_flash.specs.FlashState.{op_count_of, size_of};
-ghost use Rattle.pfr_machine.specs.Worlds.{flash_in, bank_in, line_in};
+ghost use Rattle.pfr_flash.specs.FlashState.{now, op_count_of, size_of};
+ghost use Rattle.pfr_bank.specs.Spelling.{StillSpells};
+ghost use Rattle.pfr_machine.specs.Worlds.{flash_in, bank_in, line_in, ruling_in, sits_in};
+ghost use Rattle.pfr_story.specs.Plans.{Ruling, judge_smbus};
 ghost use Rattle.pfr_story.specs.Run.{takes_arm, with_arm};
 ghost use Rattle.pfr_story.specs.declared.line.Line.TheVariants as line;
 
 use pfr_bank::{Held, Locked, Off, Running};
 use pfr_flash::{Flash, Rigged, Tear};
+use pfr_manifest::Rules;
 use pfr_script::{Arm, ArmWhat};
+use pfr_smbus::{SmbusCause, SmbusFrame, allowed};
 use pfr_story::Line;
 
 /// A bank that isn't in work, in one of the states that it may stand in between two events.
@@ -17,6 +21,14 @@ pub enum Seat<F: Flash> {
     Off(Off<F>),
     Locked(Locked<F>),
     Running(Running<F>),
+}
+
+// Judges a frame on an SMBus by these rules.
+fn judge_smbus(rules: &Rules, frame: &[u8]) -> Result<(), SmbusCause>
+    ensures { result ≡ judge_smbus rules.now frame.now }
+{
+    let frame = SmbusFrame::read(frame)?;
+    allowed(rules, &frame)
 }
 
 impl<F: Flash> Seat<F> {
@@ -78,6 +90,22 @@ impl<F: Flash> Seat<F> {
         }
     }
 
+    /// Judges a frame on the SMBus of a bank that runs, by the rules of its manifest.
+    pub fn judge_smbus(&self, frame: &[u8]) -> Result<(), SmbusCause>
+        requires runs { line_in self.now ≡ line.Running }
+        ensures judged { (r : Ruling) → ruling_in self.now ≡ Some r → result ≡ judge_smbus r.manifest.rules frame.now }
+        ensures spells { (r : Ruling) → ruling_in self.now ≡ Some r →
+            StillSpells (now (F.device (flash_in self.now))) r.manifest r.layout }
+    {
+        match self {
+            Seat::Running(running) => {
+                running.known();
+                judge_smbus(&running.manifest().rules, frame)
+            }
+            Seat::Off(_) | Seat::Locked(_) => unreachable!(),
+        }
+    }
+
     /// Gives the device up as it stands.
     pub fn into_flash(self) -> F
         ensures { result ≡ flash_in self }
@@ -96,8 +124,7 @@ impl<F: Rigged> Seat<F> {
         requires nth { 1 ≤ nth }
         requires arms { 0 < (F.device (flash_in self.old)).arms }
         ensures flash { F.device (flash_in self.new) ≡ with_cut (F.device (flash_in self.old)) nth tear.now }
-        ensures bank { bank_in self.new ≡ bank_in self.old }
-        ensures line { line_in self.new ≡ line_in self.old }
+        ensures sits { sits_in self.new ≡ sits_in self.old }
     {
         match self {
             Seat::Off(off) => off.arm_cut(nth, tear),
@@ -111,8 +138,7 @@ impl<F: Rigged> Seat<F> {
         requires nth { 1 ≤ nth }
         requires arms { 0 < (F.device (flash_in self.old)).arms }
         ensures flash { F.device (flash_in self.new) ≡ with_fault (F.device (flash_in self.old)) nth tear.now }
-        ensures bank { bank_in self.new ≡ bank_in self.old }
-        ensures line { line_in self.new ≡ line_in self.old }
+        ensures sits { sits_in self.new ≡ sits_in self.old }
     {
         match self {
             Seat::Off(off) => off.arm_fault(nth, tear),
@@ -125,8 +151,7 @@ impl<F: Rigged> Seat<F> {
     fn arm_read_fault(&mut self, nth: u32)
         requires { 1 ≤ nth }
         ensures flash { F.device (flash_in self.new) ≡ record (F.device (flash_in self.old)) { read_due = true } }
-        ensures bank { bank_in self.new ≡ bank_in self.old }
-        ensures line { line_in self.new ≡ line_in self.old }
+        ensures sits { sits_in self.new ≡ sits_in self.old }
     {
         match self {
             Seat::Off(off) => off.arm_read_fault(nth),
@@ -140,8 +165,7 @@ impl<F: Rigged> Seat<F> {
         requires some { 1 ≤ arm.now.nth }
         requires arms { takes_arm arm.now.what ≤ (F.device (flash_in self.old)).arms }
         ensures flash { F.device (flash_in self.new) ≡ with_arm arm.now.what arm.now.nth tear.now (F.device (flash_in self.old)) }
-        ensures bank { bank_in self.new ≡ bank_in self.old }
-        ensures line { line_in self.new ≡ line_in self.old }
+        ensures sits { sits_in self.new ≡ sits_in self.old }
     {
         match arm.what {
             ArmWhat::Cut => self.arm_cut(arm.nth, tear),

@@ -1,14 +1,17 @@
 // What is done at each event.
-ghost use Rattle.std.specs.Prelude.{◌≡◌, ◌≢◌, ◌*◌, ◌<◌, ◌≤◌, ◌∷◌, [], length, true, OnOk, OnErr};
+ghost use Rattle.std.specs.Prelude.{◌≡◌, ◌≢◌, ◌*◌, ◌<◌, ◌≤◌, ◌∷◌, [], length, true, false, OnOk, OnErr};
+ghost use Rattle.pfr_auth.specs.Trusted.{IsTrusted};
+ghost use Rattle.pfr_flash.specs.FlashState.{now};
+ghost use Rattle.pfr_flash.specs.declared.names.Bank.{Bank};
 ghost use Rattle.pfr_flash.specs.declared.names.Bank.TheVariants.{Bmc, Pch};
-ghost use Rattle.pfr_fuses.specs.RootSlot.{IsSlot};
 ghost use Rattle.pfr_report.specs.Texts.{AllText};
 ghost use Rattle.pfr_story.specs.Course.{Follows, Steps};
 ghost use Rattle.pfr_story.specs.Goes.{Ran};
-ghost use Rattle.pfr_story.specs.Promises.{IsKnownSlot, IsPower};
-ghost use Rattle.pfr_story.specs.Standing.{standing_of, is_off, Off};
-ghost use Rattle.pfr_story.specs.Turn.{bank_stretch, begun, unreadable, ignored, off_course, power_course, provision_course, where_off, course};
-ghost use Rattle.pfr_story.specs.World.{AreDevices, IsDark, SameDevices, story_of};
+ghost use Rattle.pfr_story.specs.Promises.{IsIdle, IsKnownSlot, Runs};
+ghost use Rattle.pfr_story.specs.Standing.{standing_of, is_off, is_running, Off};
+ghost use Rattle.pfr_story.specs.Story.{device_of};
+ghost use Rattle.pfr_story.specs.Turn.{bank_stretch, begun, course, ignored, is_idle, off_course, power_course, taken, unreadable};
+ghost use Rattle.pfr_story.specs.World.{AreDevices, IsDark, SameDevices, state_at, story_of};
 ghost use Rattle.pfr_machine.specs.Inside.{AreLit, HasSizes, IsWhole};
 ghost use Rattle.pfr_machine.specs.Ready.{BringsBoth, IsTaken, LeavesWhole};
 
@@ -16,7 +19,6 @@ use crate::bringing::Dark;
 use crate::inner::Inner;
 use pfr_chain::Engine;
 use pfr_flash::{Bank, Flash, FlashFail, NoMemory};
-use pfr_fuses::RootSlot;
 use pfr_report::{LockWhy, What};
 use pfr_script::Event;
 use pfr_story::Line;
@@ -104,12 +106,13 @@ impl<F: Flash> Inner<F> {
         self.wake(engine)
     }
 
-    // Notes that the event is ignored, since the banks are off.
+    // Notes that the event is ignored, since the banks don't take it as they stand.
     fn ignore(&mut self)
         requires room { 64 ≤ self.old.notes.spare }
         requires whole { IsWhole self.old }
         ensures follows { Follows ignored self.old self.new }
         ensures leaves { LeavesWhole 64 self.old self.new }
+        ensures stands { (which : Bank) → standing_of which self.new.notes.list ≡ standing_of which self.old.notes.list }
         ensures untouched { SameDevices self.old self.new }
     {
         self.note(What::Ignored);
@@ -119,62 +122,81 @@ impl<F: Flash> Inner<F> {
     fn is_off(&self) -> bool
         ensures { result ≡ is_off (standing_of Bmc self.now.notes.list) }
     {
-        match self.bmc.line() {
+        match self.line(Bank::Bmc) {
             Line::Off => true,
-            _ => false,
+            Line::Locked | Line::Running => false,
         }
     }
 
-    // The power goes off, unless it is off already.
-    fn off(mut self) -> Inner<F>
-        requires room { 64 ≤ self.notes.spare }
-        requires whole { IsWhole self }
-        ensures follows { Follows (where_off (is_off (standing_of Bmc self.notes.list)) ignored off_course) self result }
-        ensures leaves { LeavesWhole 64 self result }
-        ensures dark { standing_of Bmc self.notes.list ≢ Off → IsDark result }
-        ensures untouched { standing_of Bmc self.notes.list ≡ Off → SameDevices self result }
+    // Whether the bank runs.
+    fn runs(&self, bank: Bank) -> bool
+        ensures { result ≡ is_running (standing_of bank self.now.notes.list) }
     {
-        if self.is_off() {
-            self.ignore();
-            self
-        } else {
-            self.lose(None)
+        match self.line(bank) {
+            Line::Running => true,
+            Line::Off | Line::Locked => false,
         }
     }
 
-    // Provisions the platform, unless the power is off.
-    fn provision_unless_off(mut self, what: &RootSlot) -> Inner<F>
-        requires room { 64 ≤ self.notes.spare }
-        requires whole { IsWhole self }
-        ensures follows { Follows (where_off (is_off (standing_of Bmc self.notes.list)) ignored (provision_course what.now))
-            self result }
-        ensures leaves { LeavesWhole 64 self result }
-        ensures dark { standing_of Bmc self.notes.list ≢ Off → standing_of Bmc result.notes.list ≡ Off → IsDark result }
-        ensures untouched { standing_of Bmc self.notes.list ≡ Off → SameDevices self result }
-        ensures spelled { standing_of Bmc self.notes.list ≢ Off → IsSlot what.now }
+    // Whether the banks don't take the event as they stand.
+    fn is_idle(&self, event: &Event) -> bool
+        ensures { result ≡ is_idle event.now (story_of self.now) }
     {
-        if self.is_off() {
-            self.ignore();
-            self
-        } else {
-            self.provision(what)
+        match event {
+            Event::Power => false,
+            Event::Off | Event::Provision(_) => self.is_off(),
+            Event::Spi { bank, .. } | Event::Smbus { bank, .. } => !self.runs(*bank),
         }
     }
 
-    /// Does an event, as the banks stand.
-    pub fn turn<E: Engine>(self, event: &Event, engine: &E) -> Inner<F>
+    // The power goes off.
+    fn off(self) -> Inner<F>
+        requires room { 64 ≤ self.notes.spare }
+        ensures follows { Follows off_course self result }
+        ensures leaves { LeavesWhole 64 self result }
+        ensures dark { IsDark result }
+    {
+        self.lose(None)
+    }
+
+    // Does an event that the banks take.
+    fn take<E: Engine>(self, event: &Event, engine: &E) -> Inner<F>
         requires room { 64 ≤ self.notes.spare }
         requires whole { IsWhole self }
-        ensures follows { Follows (course (E.accepts engine.now) event.now (story_of self)) self result }
+        requires trusted { (which : Bank) → Runs which self →
+            IsTrusted (now (state_at (device_of which) self)) (now self.nv) which (E.accepts engine.now) }
+        requires taken { is_idle event.now (story_of self) ≡ false }
+        ensures follows { Follows (taken (E.accepts engine.now) event.now (story_of self)) self result }
         ensures leaves { LeavesWhole 64 self result }
-        ensures dark { IsTaken event.now self → standing_of Bmc result.notes.list ≡ Off → IsDark result }
-        ensures untouched { standing_of Bmc self.notes.list ≡ Off → ¬ IsPower event.now → SameDevices self result }
-        ensures spelled { standing_of Bmc self.notes.list ≢ Off → IsKnownSlot event.now }
+        ensures dark { standing_of Bmc result.notes.list ≡ Off → IsDark result }
+        ensures spelled { IsKnownSlot event.now }
     {
         match event {
             Event::Power => self.power(engine),
             Event::Off => self.off(),
-            Event::Provision(what) => self.provision_unless_off(what),
+            Event::Provision(what) => self.provision(what),
+            Event::Spi { bank, frame } => self.spi(*bank, frame),
+            Event::Smbus { bank, frame } => self.smbus(*bank, frame),
+        }
+    }
+
+    /// Does an event, as the banks stand. A bank that runs is trusted.
+    pub fn turn<E: Engine>(mut self, event: &Event, engine: &E) -> Inner<F>
+        requires room { 64 ≤ self.notes.spare }
+        requires whole { IsWhole self }
+        requires trusted { (which : Bank) → Runs which self →
+            IsTrusted (now (state_at (device_of which) self)) (now self.nv) which (E.accepts engine.now) }
+        ensures follows { Follows (course (E.accepts engine.now) event.now (story_of self)) self result }
+        ensures leaves { LeavesWhole 64 self result }
+        ensures dark { IsTaken event.now self → standing_of Bmc result.notes.list ≡ Off → IsDark result }
+        ensures untouched { IsIdle event.now self → SameDevices self result }
+        ensures spelled { standing_of Bmc self.notes.list ≢ Off → IsKnownSlot event.now }
+    {
+        if self.is_idle(event) {
+            self.ignore();
+            self
+        } else {
+            self.take(event, engine)
         }
     }
 }

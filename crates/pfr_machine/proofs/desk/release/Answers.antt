@@ -1,15 +1,29 @@
-use Rattle.std.proofs.Common.{ap}
+use Rattle.std.proofs.Common.{◌≡◌, ◌∙◌, ap, false, subst, sym}
+use Rattle.pfr_flash.specs.FlashState.{FlashState, now}
+use Rattle.pfr_flash.specs.declared.layout.Layout.{Layout}
 use Rattle.pfr_report.specs.declared.note.What.TheVariants.{Released}
-use Rattle.pfr_story.specs.declared.line.Line.TheVariants.{Running}
-use Rattle.pfr_machine.specs.Worlds.{flash_in}
-use Rattle.pfr_machine.proofs.SeatLemmas.{desk_beside}
-use Rattle.pfr_machine.proofs.WorldLemmas.{after_released, other_released}
+use Rattle.pfr_story.specs.World.{World}
+use Rattle.pfr_machine.specs.Inside.{IsLaid}
+use Rattle.pfr_machine.specs.Worlds.{Latches, desk_world, flash_in, latch_in, latches_by, sits_in, with_note}
+use Rattle.pfr_machine.specs.declared.seat.Seat.TheVariants as seat
+use Rattle.pfr_machine.proofs.DeskLemmas.{state_store}
+use Rattle.pfr_machine.proofs.LaidLemmas.{ruled_laid}
+use Rattle.pfr_machine.proofs.SeatLemmas.{desk_beside, desk_noted_is}
+use Rattle.pfr_machine.proofs.WorldLemmas.{after_released, other_released, released_latches}
 use Rattle.pfr_machine.proofs.desk.release.Goals as goal
 
 pub inner-requires : goal.inner-requires
-inner-requires g c = record {
-  seated = desk_beside g.F.Flash.device c.args.bank c.args.checked.bank _ _ (g.F.Flash.device c.args.checked.flash) (g.F.Flash.device c.release-running.result.flash) (g.F.Flash.device (flash_in c.args.other)) c.args.board
-      c.requires.desk c.requires.on (ap g.F.Flash.device c.release-running.ensures.flash)
-      Running (Released c.args.bank c.manifest.result.now.svn c.args.counts) c.release-running.result.bank c.push.new.self c.release-running.ensures.bank c.push.ensures.noted tt
-      (after_released c.args.bank c.manifest.result.now.svn c.args.counts) (other_released c.args.bank c.manifest.result.now.svn c.args.counts);
-}
+inner-requires g c =
+    let latches : Latches = latches_by c.args.bank false (latch_in c.args.other) in
+    let what = Released c.args.bank c.manifest.result.now.svn c.args.counts in
+    let mine = g.F.Flash.device c.args.checked.flash in
+    let other = g.F.Flash.device (flash_in c.args.other) in
+    let laid : IsLaid c.args.bank c.release-running.result.layout (now (desk_world c.args.bank mine other (g.F.Flash.device c.args.board.nv) latches c.args.board).nv) =
+    subst (λ (d : FlashState). IsLaid c.args.bank c.release-running.result.layout (now d)) (sym (state_store c.args.bank mine other (g.F.Flash.device c.args.board.nv) latches c.args.board))
+    (subst (λ (l : Layout). IsLaid c.args.bank l (now (g.F.Flash.device c.args.board.nv))) (sym c.release-running.ensures.layout) c.requires.laid) in
+    let beside = desk_beside g.F.Flash.device c.args.bank c.args.checked.bank (sits_in c.args.other) mine (g.F.Flash.device c.release-running.result.flash) other latches c.args.board
+    c.requires.desk c.requires.on (ap g.F.Flash.device c.release-running.ensures.flash)
+    what (released_latches c.args.bank c.manifest.result.now.svn c.args.counts false (latch_in c.args.other)) c.push.new.self c.push.ensures.noted
+    (sits_in (seat.Running c.release-running.result)) c.release-running.ensures.bank (ruled_laid c.args.bank c.release-running.result.manifest c.release-running.result.layout _ laid) tt
+    (after_released c.args.bank c.manifest.result.now.svn c.args.counts) (other_released c.args.bank c.manifest.result.now.svn c.args.counts) in
+    record { seated = rw c.release-running.ensures.latch beside }

@@ -5,5 +5,5 @@ use Rattle.pfr_story.specs.Plans.{migration_in}
 use Rattle.pfr_machine.proofs.StoreLemmas.{none_to_do}
 use Rattle.pfr_machine.proofs.preparing.migrate.Goals as goal
 
-pub returns-in-Err : goal.returns-in-Err
-returns-in-Err g c = none_to_do _ _ (ap (λ (f : Result FusesState FuseFail). migration_in f) c.in-Err.is)
+pub returns-in-Err-clause-follows : goal.returns-in-Err-clause-follows
+returns-in-Err-clause-follows g c = none_to_do _ _ (ap (λ (f : Result FusesState FuseFail). migration_in f) c.in-Err.is)

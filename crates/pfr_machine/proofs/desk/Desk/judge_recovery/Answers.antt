@@ -1,10 +1,10 @@
-use Rattle.std.proofs.Common.{◌≡◌, ◌∙◌, ap, refl, sym, subst, Option, Some, None}
+use Rattle.std.proofs.Common.{◌≡◌, ◌∙◌, ap, false, refl, sym, subst, Option, Some, None}
 use Rattle.pfr_flash.specs.FlashState.{FlashState}
 use Rattle.pfr_flash.specs.Reading.{EndsAt}
 use Rattle.pfr_flash.specs.declared.flash.FlashFail.{FlashFail}
 use Rattle.pfr_fuses.specs.RootSlot.{layout_of}
 use Rattle.pfr_fuses.specs.declared.root_slot.RootSlot.{RootSlot}
-use Rattle.pfr_machine.specs.Worlds.{flash_in}
+use Rattle.pfr_machine.specs.Worlds.{flash_in, latch_in, latches_by, sits_in}
 use Rattle.pfr_machine.proofs.CapsuleLemmas.{capsule_left}
 use Rattle.pfr_machine.proofs.DeskLemmas.{awake_mine, mine_read, mine_unread}
 use Rattle.pfr_machine.proofs.desk.Desk.judge_recovery.Goals as goal
@@ -16,22 +16,22 @@ lent failed told read mine later f e h = subst (λ (d : FlashState). EndsAt told
 
 pub returns-clause-goes : goal.returns-clause-goes
 returns-clause-goes g c =
-    let on = awake_mine c.self.inside.bank (g.F.Flash.device c.self.inside.held.flash) (g.F.Flash.device (flash_in c.self.inside.other)) (g.F.Flash.device c.self.inside.board.nv) c.self.inside.board (rw (← c.self.view_is) at c.requires.on) in
+    let on = awake_mine c.self.inside.bank (g.F.Flash.device c.self.inside.held.flash) (g.F.Flash.device (flash_in c.self.inside.other)) (g.F.Flash.device c.self.inside.board.nv) (latches_by c.self.inside.bank false (latch_in c.self.inside.other)) c.self.inside.board (rw (← c.self.view_is) at c.requires.on) in
     let same = ap g.F.Flash.device c.flash.ensures.value in
     elim c.match-capsule_at.branch [
-      | in-Ok w ↦ rw (w.result-is, ← c.self.view_is) (mine_read c.self.inside.bank (g.F.Flash.device c.self.inside.held.flash) (g.F.Flash.device c.capsule_at.new.flash) (g.F.Flash.device (flash_in c.self.inside.other)) (g.F.Flash.device c.self.inside.board.nv) c.self.inside.board on (lent None None (g.F.Flash.device c.flash.result.now) (g.F.Flash.device c.self.inside.held.flash) (g.F.Flash.device c.capsule_at.new.flash) refl same w.in-Ok.ensures.ends))
+      | in-Ok w ↦ rw (w.result-is, ← c.self.view_is) (mine_read c.self.inside.bank (g.F.Flash.device c.self.inside.held.flash) (g.F.Flash.device c.capsule_at.new.flash) (g.F.Flash.device (flash_in c.self.inside.other)) (g.F.Flash.device c.self.inside.board.nv) (latches_by c.self.inside.bank false (latch_in c.self.inside.other)) c.self.inside.board on (lent None None (g.F.Flash.device c.flash.result.now) (g.F.Flash.device c.self.inside.held.flash) (g.F.Flash.device c.capsule_at.new.flash) refl same w.in-Ok.ensures.ends))
       | in-Err+in-Some w ↦
-          rw (w.result-is, w.device_of.ensures, ← c.self.view_is) (mine_unread c.self.inside.bank (g.F.Flash.device c.self.inside.held.flash) (g.F.Flash.device c.capsule_at.new.flash) (g.F.Flash.device (flash_in c.self.inside.other)) (g.F.Flash.device c.self.inside.board.nv) c.self.inside.board on w.in-Some.fail
+          rw (w.result-is, w.device_of.ensures, ← c.self.view_is) (mine_unread c.self.inside.bank (g.F.Flash.device c.self.inside.held.flash) (g.F.Flash.device c.capsule_at.new.flash) (g.F.Flash.device (flash_in c.self.inside.other)) (g.F.Flash.device c.self.inside.board.nv) (latches_by c.self.inside.bank false (latch_in c.self.inside.other)) c.self.inside.board on w.in-Some.fail
           (lent _ (Some w.in-Some.fail) (g.F.Flash.device c.flash.result.now) (g.F.Flash.device c.self.inside.held.flash) (g.F.Flash.device c.capsule_at.new.flash) (sym w.failure.ensures ∙ w.in-Some.is) same w.in-Err.ensures.ends))
       | in-Err+in-None w ↦
-          rw (w.result-is, ← c.self.view_is) (mine_read c.self.inside.bank (g.F.Flash.device c.self.inside.held.flash) (g.F.Flash.device c.capsule_at.new.flash) (g.F.Flash.device (flash_in c.self.inside.other)) (g.F.Flash.device c.self.inside.board.nv) c.self.inside.board on (lent _ None (g.F.Flash.device c.flash.result.now) (g.F.Flash.device c.self.inside.held.flash) (g.F.Flash.device c.capsule_at.new.flash) (sym w.failure.ensures ∙ w.in-None.is) same w.in-Err.ensures.ends))
+          rw (w.result-is, ← c.self.view_is) (mine_read c.self.inside.bank (g.F.Flash.device c.self.inside.held.flash) (g.F.Flash.device c.capsule_at.new.flash) (g.F.Flash.device (flash_in c.self.inside.other)) (g.F.Flash.device c.self.inside.board.nv) (latches_by c.self.inside.bank false (latch_in c.self.inside.other)) c.self.inside.board on (lent _ None (g.F.Flash.device c.flash.result.now) (g.F.Flash.device c.self.inside.held.flash) (g.F.Flash.device c.capsule_at.new.flash) (sym w.failure.ensures ∙ w.in-None.is) same w.in-Err.ensures.ends))
     ]
 
 pub returns-clause-can : goal.returns-clause-can
 returns-clause-can g c =
     let laid = c.layout-layout.ensures ∙ ap (λ (slot : RootSlot). layout_of slot c.self.inside.bank) c.provision.ensures in
     elim c.match-capsule_at.branch [
-      | in-Ok w ↦ rw (w.result-is, ← c.self.view_is) (capsule_left c.self.inside.bank c.self.inside.held.bank _ _ (g.F.Flash.device c.self.inside.held.flash) (g.F.Flash.device c.flash.result.now) (g.F.Flash.device c.capsule_at.new.flash) (g.F.Flash.device (flash_in c.self.inside.other)) (g.F.Flash.device c.self.inside.board.nv) c.self.inside.board c.layout-layout.result.now c.args.fuses.now
+      | in-Ok w ↦ rw (w.result-is, ← c.self.view_is) (capsule_left c.self.inside.bank c.self.inside.held.bank (sits_in c.self.inside.other) (g.F.Flash.device c.self.inside.held.flash) (g.F.Flash.device c.flash.result.now) (g.F.Flash.device c.capsule_at.new.flash) (g.F.Flash.device (flash_in c.self.inside.other)) (g.F.Flash.device c.self.inside.board.nv) (latches_by c.self.inside.bank false (latch_in c.self.inside.other)) c.self.inside.board c.layout-layout.result.now c.args.fuses.now
           (g.E.Engine.accepts c.args.engine.now) w.in-Ok.capsule c.self.invariant (rw (← c.self.view_is) at c.requires.valid) (ap g.F.Flash.device c.flash.ensures.value) laid
           w.in-Ok.ensures.ends w.in-Ok.ensures.exact w.in-Ok.ensures.pages w.in-Ok.ensures.regions w.in-Ok.ensures.lies)
       | in-Err+in-Some w ↦ rw w.result-is tt

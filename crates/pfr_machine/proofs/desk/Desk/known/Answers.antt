@@ -10,4 +10,4 @@ use Rattle.pfr_machine.proofs.desk.Desk.known.Goals as goal
 pub returns-clause-bytes : goal.returns-clause-bytes
 returns-clause-bytes g c =
     subst (λ (d : DeskState). HoldsBytes (state_at (device_of d.bank) d.world)) c.self.view_is
-    (subst (λ (d : FlashState). HoldsBytes d) (sym (state_mine c.self.inside.bank _ _ _ c.self.inside.board)) (g.met.F.Flash.holds_bytes c.self.inside.held.flash))
+    (subst (λ (d : FlashState). HoldsBytes d) (sym (state_mine c.self.inside.bank _ _ _ _ c.self.inside.board)) (g.met.F.Flash.holds_bytes c.self.inside.held.flash))

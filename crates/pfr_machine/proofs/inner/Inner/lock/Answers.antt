@@ -1,5 +1,4 @@
 use Rattle.std.proofs.Common.{◌∙◌, ap}
-use Rattle.pfr_report.specs.declared.note.What.TheVariants.{Locked}
 use Rattle.pfr_machine.proofs.SeatLemmas.{locked_are_beside, locked_says, locked_adds}
 use Rattle.pfr_machine.proofs.inner.Inner.lock.Goals as goal
 
@@ -17,4 +16,4 @@ returns-clause-ran g c =
 pub returns-clause-notes : goal.returns-clause-notes
 returns-clause-notes g c =
     rw c.inner.ensures (locked_adds g.F.Flash.device c.sides-bank.result c.sides-bank.ensures.seated (g.F.Flash.device c.lock.result.flash) (λ off. ap g.F.Flash.device c.lock.ensures.flash ∙ c.hold.ensures.off off) (λ on. ap g.F.Flash.device (c.lock.ensures.flash ∙ c.hold.ensures.on on))
-    (Locked c.sides-bank.result.bank c.args.why c.counts-counts.result) c.args.self c.push.new.self c.sides-bank.ensures.is c.requires.room c.push.ensures.noted)
+    c.args.why c.counts-counts.result c.args.self c.push.new.self c.sides-bank.ensures.is c.requires.room c.push.ensures.noted)

@@ -1,18 +1,15 @@
-use Rattle.std.proofs.Common.{◌∙◌}
-use Rattle.pfr_flash.specs.declared.names.Bank.TheVariants.{Bmc}
-use Rattle.pfr_machine.specs.Worlds.{flash_in}
-use Rattle.pfr_machine.proofs.SeatLemmas.{dark_beside, dark_says}
-use Rattle.pfr_machine.proofs.DeskLemmas.{beside_seated}
+use Rattle.pfr_machine.specs.Worlds.{sides_world, sits_in}
+use Rattle.pfr_machine.proofs.SeatLemmas.{beside_owned, lost_dark, lost_from, lost_notes, lost_ran}
 use Rattle.pfr_machine.proofs.inner.Inner.lose.Goals as goal
 
-pub invariant_of-result : goal.invariant_of-result
-invariant_of-result g c =
-    beside_seated _ _ _ _ _
-    (dark_beside g.F.Flash.device Bmc (g.F.Flash.device (flash_in c.self.inside.bmc)) (g.F.Flash.device c.lose.result.flash) (g.F.Flash.device (flash_in c.self.inside.pch)) (g.F.Flash.device c.lose-2.result.flash) c.self.inside.board c.push.new.self c.power_down.new.self
-    c.args.device c.counts-counts.result c.lose.ensures.flash c.lose-2.ensures.flash c.power_down.ensures c.push.ensures.noted
-    c.lose.result.bank c.lose-2.result.bank (c.lose.ensures.bank ∙ c.self.invariant.bmc.owner) c.self.invariant.bmc.size (c.lose-2.ensures.bank ∙ c.self.invariant.pch.owner) c.self.invariant.pch.size c.self.invariant.board)
+pub lose-requires-clause-owned : goal.lose-requires-clause-owned
+lose-requires-clause-owned g c = beside_owned c.sides.result.bank (sits_in c.sides.result.mine) (sits_in c.sides.result.other) (sides_world g.F.Flash.device c.sides.result) c.sides.ensures.seated
 
-pub returns-clause-ran : goal.returns-clause-ran
-returns-clause-ran g c =
-    rw (← c.self.view_is) (dark_says g.F.Flash.device Bmc (g.F.Flash.device (flash_in c.self.inside.bmc)) (g.F.Flash.device c.lose.result.flash) (g.F.Flash.device (flash_in c.self.inside.pch)) (g.F.Flash.device c.lose-2.result.flash) c.self.inside.board c.push.new.self c.power_down.new.self
-    c.args.device c.counts-counts.result c.lose.ensures.flash c.lose-2.ensures.flash c.power_down.ensures c.push.ensures.noted (rw (← c.self.view_is) at c.counts-counts.ensures))
+pub returns : goal.returns
+returns g c =
+    let is = lost_from c.args.device (sides_world g.F.Flash.device c.sides.result) c.args.self c.lose.result c.sides.ensures.is c.lose.ensures in
+    record {
+      ran = lost_ran c.args.device c.args.self c.lose.result is;
+      dark = lost_dark c.args.device c.args.self c.lose.result is;
+      notes = lost_notes c.args.device c.args.self c.lose.result is c.requires.room;
+    }

@@ -6,6 +6,7 @@ use Rattle.pfr_story.proofs.Bytes.{have_bytes}
 use Rattle.pfr_story.proofs.BringLaws.{Turn-brings, Turn-powers}
 use Rattle.pfr_story.proofs.EventLaws.{Turn-belongs, Turn-dark, Turn-quiet}
 use Rattle.pfr_story.proofs.FaultLaws.{Turn-told}
+use Rattle.pfr_story.proofs.FilterLaws.{Turn-filters}
 use Rattle.pfr_story.proofs.GrowthLaws.{Turn-grows, Turn-keeps}
 use Rattle.pfr_story.proofs.LossLaws.{Turn-losses, Turn-lost, Turn-off}
 use Rattle.pfr_story.proofs.NoteLaws.{Turn-distrusts, Turn-faults, Turn-locks, Turn-releases, Turn-restores}
@@ -20,31 +21,31 @@ pub returns-clause-calm : goal.returns-clause-calm
 returns-clause-calm g c = by_turn c.work-done.result c.work-done.ensures.turn (λ t. λ lost rose. Turn-calm _ c.args.event.now _ _ t lost rose)
 
 pub returns-clause-released : goal.returns-clause-released
-returns-clause-released g c = by_turn c.work-done.result c.work-done.ensures.turn (λ t. Turn-releases _ c.args.event.now _ _ t (have_bytes _ c.known.ensures.bytes))
+returns-clause-released g c = by_turn c.work-done.result c.work-done.ensures.turn (λ t. Turn-releases _ c.args.event.now _ _ t (have_bytes _ c.known-2.ensures.bytes))
 
 pub returns-clause-spans : goal.returns-clause-spans
-returns-clause-spans g c = by_turn c.work-done.result c.work-done.ensures.turn (λ t. subst (λ engine. (which : Bank) → ReleasedSpans (g.E.Engine.accepts engine) which (story_of c.work-done.new.self.world)) c.work-done.ensures.engine c.known.ensures.spans)
+returns-clause-spans g c = by_turn c.work-done.result c.work-done.ensures.turn (λ t. subst (λ engine. (which : Bank) → ReleasedSpans (g.E.Engine.accepts engine) which (story_of c.work-done.new.self.world)) c.work-done.ensures.engine c.known-2.ensures.spans)
 
 pub returns-clause-locks : goal.returns-clause-locks
-returns-clause-locks g c = by_turn c.work-done.result c.work-done.ensures.turn (λ t. Turn-locks _ c.args.event.now _ _ t (have_bytes _ c.known.ensures.bytes))
+returns-clause-locks g c = by_turn c.work-done.result c.work-done.ensures.turn (λ t. Turn-locks _ c.args.event.now _ _ t (have_bytes _ c.known-2.ensures.bytes))
 
 pub returns-clause-distrusts : goal.returns-clause-distrusts
 returns-clause-distrusts g c = by_turn c.work-done.result c.work-done.ensures.turn (λ t. Turn-distrusts _ c.args.event.now _ _ t)
 
 pub returns-clause-restores : goal.returns-clause-restores
-returns-clause-restores g c = by_turn c.work-done.result c.work-done.ensures.turn (λ t. Turn-restores _ c.args.event.now _ _ t (have_bytes _ c.known.ensures.bytes))
+returns-clause-restores g c = by_turn c.work-done.result c.work-done.ensures.turn (λ t. Turn-restores _ c.args.event.now _ _ t (have_bytes _ c.known-2.ensures.bytes))
 
 pub returns-clause-brings_up : goal.returns-clause-brings_up
-returns-clause-brings_up g c = by_turn c.work-done.result c.work-done.ensures.turn (λ t. Turn-brings _ c.args.event.now _ _ t (have_bytes _ c.known.ensures.bytes))
+returns-clause-brings_up g c = by_turn c.work-done.result c.work-done.ensures.turn (λ t. Turn-brings _ c.args.event.now _ _ t (have_bytes _ c.known-2.ensures.bytes))
 
 pub returns-clause-belongs : goal.returns-clause-belongs
 returns-clause-belongs g c = by_turn c.work-done.result c.work-done.ensures.turn (λ t. Turn-belongs _ c.args.event.now _ _ t)
 
 pub returns-clause-recoverable : goal.returns-clause-recoverable
-returns-clause-recoverable g c = by_turn c.work-done.result c.work-done.ensures.turn (λ t. let s = sizes_before _ c.args.event.now _ _ t c.known.ensures.sizes in Turn-recoverable _ c.args.event.now _ _ t (have_bytes _ c.known.ensures.bytes) s.bmc s.pch s.nv)
+returns-clause-recoverable g c = by_turn c.work-done.result c.work-done.ensures.turn (λ t. let s = sizes_before _ c.args.event.now _ _ t c.known-2.ensures.sizes in Turn-recoverable _ c.args.event.now _ _ t (have_bytes _ c.known-2.ensures.bytes) s.bmc s.pch s.nv)
 
 pub returns-clause-powers : goal.returns-clause-powers
-returns-clause-powers g c = by_turn c.work-done.result c.work-done.ensures.turn (λ t. let s = sizes_before _ c.args.event.now _ _ t c.known.ensures.sizes in Turn-powers _ c.args.event.now _ _ t (have_bytes _ c.known.ensures.bytes) s.bmc s.pch)
+returns-clause-powers g c = by_turn c.work-done.result c.work-done.ensures.turn (λ t. let s = sizes_before _ c.args.event.now _ _ t c.known-2.ensures.sizes in Turn-powers _ c.args.event.now _ _ t (have_bytes _ c.known-2.ensures.bytes) s.bmc s.pch)
 
 pub returns-clause-faults : goal.returns-clause-faults
 returns-clause-faults g c = by_turn c.work-done.result c.work-done.ensures.turn (λ t. Turn-faults _ c.args.event.now _ _ t)
@@ -71,13 +72,16 @@ pub returns-clause-moved : goal.returns-clause-moved
 returns-clause-moved g c = by_turn c.work-done.result c.work-done.ensures.turn (λ t. Turn-moved _ c.args.event.now _ _ t)
 
 pub returns-clause-provisions : goal.returns-clause-provisions
-returns-clause-provisions g c = by_both c.work-done.result c.work-done.ensures.turn c.work-done.ensures.spelled (λ t slot. let s = sizes_before _ c.args.event.now _ _ t c.known.ensures.sizes in Turn-provisions _ c.args.event.now _ _ s.nv slot t)
+returns-clause-provisions g c = by_both c.work-done.result c.work-done.ensures.turn c.work-done.ensures.spelled (λ t slot. let s = sizes_before _ c.args.event.now _ _ t c.known-2.ensures.sizes in Turn-provisions _ c.args.event.now _ _ s.nv slot t)
+
+pub returns-clause-filters : goal.returns-clause-filters
+returns-clause-filters g c = by_turn c.work-done.result c.work-done.ensures.turn (λ t. Turn-filters _ c.args.event.now _ _ t c.known.ensures.trusted)
 
 pub returns-clause-grows : goal.returns-clause-grows
-returns-clause-grows g c = by_both c.work-done.result c.work-done.ensures.turn c.work-done.ensures.spelled (λ t slot. let s = sizes_before _ c.args.event.now _ _ t c.known.ensures.sizes in Turn-grows _ c.args.event.now _ _ s.nv c.known.ensures.bytes slot t)
+returns-clause-grows g c = by_both c.work-done.result c.work-done.ensures.turn c.work-done.ensures.spelled (λ t slot. let s = sizes_before _ c.args.event.now _ _ t c.known-2.ensures.sizes in Turn-grows _ c.args.event.now _ _ s.nv c.known-2.ensures.bytes slot t)
 
 pub returns-clause-provision : goal.returns-clause-provision
-returns-clause-provision g c = by_both c.work-done.result c.work-done.ensures.turn c.work-done.ensures.spelled (λ t slot. let s = sizes_before _ c.args.event.now _ _ t c.known.ensures.sizes in Turn-keeps _ c.args.event.now _ _ s.nv slot t)
+returns-clause-provision g c = by_both c.work-done.result c.work-done.ensures.turn c.work-done.ensures.spelled (λ t slot. let s = sizes_before _ c.args.event.now _ _ t c.known-2.ensures.sizes in Turn-keeps _ c.args.event.now _ _ s.nv slot t)
 
 pub returns-clause-dark : goal.returns-clause-dark
 returns-clause-dark g c = by_both c.work-done.result c.work-done.ensures.turn c.work-done.ensures.dark (λ t dark. Turn-dark _ c.args.event.now _ _ t (Turn-lost _ c.args.event.now _ _ t) dark)

@@ -1,8 +1,13 @@
 use Rattle.std.proofs.Common.{Option, subst, sym}
 use Rattle.pfr_story.specs.World.{World}
 use Rattle.pfr_machine.specs.Inside.{IsThere}
-use Rattle.pfr_machine.proofs.SoundLemmas.{still_sound}
+use Rattle.pfr_machine.proofs.SoundLemmas.{begun_trusted, still_sound}
 use Rattle.pfr_machine.proofs.platform.Platform.work.Goals as goal
+
+pub turn-inner-requires-clause-trusted : goal.turn-inner-requires-clause-trusted
+turn-inner-requires-clause-trusted g c =
+    let there = subst (λ (o : Option World). IsThere (g.E.Engine.accepts c.self.inside.engine) o) (sym c.in-Some.ensures.value) c.self.invariant in
+    begun_trusted _ _ (record { is = c.in-Ok.ensures.begun; list = c.in-Ok.ensures.list }) (g.E.Engine.accepts c.self.inside.engine) there
 
 pub invariant_of-self : goal.invariant_of-self
 invariant_of-self g c =
