@@ -47,7 +47,7 @@ use Rattle.pfr_story.proofs.Courses.{Turn-cases}
 use Rattle.pfr_story.proofs.BringRules.{Any}
 use Rattle.pfr_story.proofs.BusRules.{ruled, calls_safe}
 use Rattle.pfr_story.proofs.Rulings.{trusted_ruling}
-use Rattle.pfr_story.proofs.Traces.{Traced, Traced-keeps, Traced-known, KnownBefore, Saying, Begins, Precedes}
+use Rattle.pfr_story.proofs.Traces.{Traced, Traced-keeps, Traced-known, KnownBefore, Saying, begins_at}
 use Rattle.pfr_story.proofs.Made.{said, noted_next, added_said}
 use Rattle.pfr_story.proofs.StepTraces.{IsGoodStretch, single_along}
 use Rattle.pfr_story.proofs.Facts.{NoDevice}
@@ -87,11 +87,6 @@ now_played : (d : Device) (plan : List Operation) (old new : World) → image_at
 now_played device.Bmc plan old new e = e
 now_played device.Pch plan old new e = e
 now_played device.Nv plan old new e = e
-
-begins_at : (d : Device) (a b : Story) → Precedes a b → Begins (past_at d a) (past_at d b)
-begins_at device.Bmc a b p = p.bmc
-begins_at device.Pch a b p = p.pch
-begins_at device.Nv a b p = p.nv
 
 -- ---- what a frame that passes does
 did_nothing : (past : Past) → past ≡ with_all past []

@@ -3,7 +3,6 @@ use Rattle.std.proofs.Common.{◌≡◌, ◌∙◌, refl, sym, ap, subst, ℕ, L
 use Rattle.pfr_flash.specs.Bytes.{AreBytes}
 use Rattle.pfr_flash.specs.declared.layout.Layout.{Layout}
 use Rattle.pfr_flash.specs.declared.names.Bank.{Bank}
-use Rattle.pfr_flash.proofs.LayoutLemmas.{valid_judged}
 use Rattle.pfr_engine.specs.Acceptance.{Acceptance}
 use Rattle.pfr_fuses.specs.FusesState.{FusesState}
 use Rattle.pfr_fuses.specs.RootSlot.{layout_of}
@@ -20,19 +19,15 @@ use Rattle.pfr_report.specs.declared.note.LockWhy.{LockWhy}
 use Rattle.pfr_story.specs.Guards.{guard_at}
 use Rattle.pfr_story.specs.Story.{Story}
 use Rattle.pfr_story.specs.Plans.{mine, store, judged_active, ready_of, Ruling, ruling_by, ruling_with, ruling}
-use Rattle.pfr_story.proofs.BringRules.{IsReady, ready_found}
+use Rattle.pfr_story.proofs.BringRules.{IsReady, ready_found, ready_is}
 use Rattle.pfr_story.proofs.BusRules.{ruled}
 
 module _ (accepts : Acceptance) (b : Bank) (story : Story) where
   -- ---- a bank that is trusted has a ruling
-  module _ (t : IsTrusted (mine b story) (store story) b accepts) where
-    trusted_ready : ready_of b story ≡ Ok t.fuses
-    trusted_ready = rw (t.provisioned, valid_judged _ _ t.layout) refl
-
-    pub trusted_ruling : ruling accepts b story ≡ Some (record { manifest = t.manifest; layout = layout_of t.fuses.provision b })
-    trusted_ruling =
-        ap (λ (ready : Result FusesState LockWhy). ruling_with accepts b story ready) trusted_ready
-        ∙ ap (λ (judged : Result Manifest ActiveFail). ruling_by b t.fuses judged) (trusted_judged (mine b story) (store story) b accepts t)
+  pub trusted_ruling : (t : IsTrusted (mine b story) (store story) b accepts) → ruling accepts b story ≡ Some (record { manifest = t.manifest; layout = layout_of t.fuses.provision b })
+  trusted_ruling t =
+      ap (λ (ready : Result FusesState LockWhy). ruling_with accepts b story ready) (ready_is b t.fuses story t.provisioned t.layout)
+      ∙ ap (λ (judged : Result Manifest ActiveFail). ruling_by b t.fuses judged) (trusted_judged (mine b story) (store story) b accepts t)
 
   -- ---- and one that has a ruling is trusted by it
   -- the image is trusted by the manifest and the layout of a ruling
