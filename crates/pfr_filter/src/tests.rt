@@ -1,5 +1,7 @@
 // What some frames come to in a bank with a manifest.
-ghost use Rattle.std.specs.Prelude.{◌≡◌, ◌<◌, ◌≤◌, length};
+ghost use Rattle.std.specs.Prelude.{◌≡◌, ◌+◌, ◌<◌, ◌≤◌, length};
+ghost use Rattle.pfr_flash.specs.FlashState.{size_of};
+ghost use Rattle.pfr_flash.specs.Layout.{IsValidLayout};
 
 use crate::{BlockCause, BusOp, Verdict, judge_counted};
 use pfr_flash::{Flash, Layout, MemFlash};
@@ -138,8 +140,23 @@ fn want_all<L: Ledger>(rt: &impl Abort, table: &RegionTable, blank: Blank) -> Re
     want_blocked(rt, table, &mut steps)
 }
 
+// Wants it with a count of its own.
+fn want_counted(rt: &impl Abort, table: &RegionTable) -> Result<(), Fail> {
+    want_all::<Brand>(rt, table, Blank::new(1))
+}
+
+// The table of the manifest at a place of a bank.
+fn table_at<F: Flash>(flash: &mut F, place: u32, layout: &Layout) -> Option<RegionTable>
+    requires within { place + 256 ≤ size_of (F.device flash.old) }
+    requires layout { IsValidLayout layout.now (size_of (F.device flash.old)) }
+{
+    match Manifest::read(flash, place, 256, layout) {
+        Ok(manifest) => Some(RegionTable::new(&manifest)),
+        Err(_) => None,
+    }
+}
+
 #[test]
-#[tactic(auto, using(pfr_manifest::proofs::StretchLemmas::manifest_table))]
 fn frames(rt: HostRuntime) -> Result<(), Fail> {
     let alloc = rt.alloc();
     let bytes = vec![in alloc; 0xff; 1_048_576]?;
@@ -149,8 +166,6 @@ fn frames(rt: HostRuntime) -> Result<(), Fail> {
     assert_eq!(rt; flash.size(), SIZE);
     assert!(rt; LAYOUT.judge(SIZE).is_ok());
     flash.program(1024, &MANIFEST)?;
-    match Manifest::read(&mut flash, 1024, 256, &LAYOUT) {
-        Ok(manifest) => want_all::<Brand>(&rt, &RegionTable::new(&manifest), Blank::new(1)),
-        Err(_) => Err("no manifest".into()),
-    }
+    let table = table_at(&mut flash, 1024, &LAYOUT).ok_or("no manifest")?;
+    want_counted(&rt, &table)
 }
