@@ -19,7 +19,7 @@ use Rattle.pfr_story.specs.World.{World, story_of, state_at, added}
 use Rattle.pfr_story.specs.Run.{Did}
 use Rattle.pfr_story.specs.Spans.{ReleasedSpans}
 use Rattle.pfr_story.specs.Promises.{FaultsAreNoted, ReleasesTrusted, LocksHaveCauses, FaultsHaveCauses}
-use Rattle.pfr_story.specs.declared.guards.Guards.{Guards}
+use Rattle.pfr_story.specs.Guards.{Guards}
 use Rattle.pfr_story.proofs.Bytes.{HaveBytes, have_bytes}
 use Rattle.pfr_story.proofs.NoteLaws.{Turn-distrusts, Turn-restores}
 use Rattle.pfr_story.proofs.FaultLaws.{Turn-told}

@@ -1,9 +1,9 @@
 -- Frames on the buses of a bank that runs are judged by what it is trusted by.
-use Rattle.std.proofs.Common.{◌≡◌, ◌≢◌, ◌∙◌, refl, sym, ap, subst, ℕ, List, [], ◌∷◌, ◌++◌, length, ◌⊎◌, inl, inr, Bool, true, false, Option, Some, Result, Ok, Err}
+use Rattle.std.proofs.Common.{◌≡◌, ◌≢◌, ◌∙◌, refl, sym, ap, subst, ℕ, List, [], ◌∷◌, ◌++◌, ◌⊎◌, inl, inr, true, Option, Some, Result, Ok, Err}
 use Rattle.std.specs.Prelude.{◌↔◌, ◌+◌, not}
 use Rattle.std.proofs.lemmas.Bool.{false≢true}
 use Rattle.std.proofs.lemmas.List.{append-nil}
-use Rattle.pfr_flash.specs.FlashState.{now, size_of}
+use Rattle.pfr_flash.specs.FlashState.{now}
 use Rattle.pfr_flash.specs.Operation.{Operation, play}
 use Rattle.pfr_flash.specs.Plan.{IsPart, DoesPart}
 use Rattle.pfr_flash.specs.declared.names.Bank.{Bank}
@@ -31,10 +31,10 @@ use Rattle.pfr_report.specs.declared.note.Note.{Note}
 use Rattle.pfr_report.specs.declared.note.What.{What}
 use Rattle.pfr_report.specs.declared.note.What.TheVariants as what
 use Rattle.pfr_story.specs.Guards.{guard_at}
-use Rattle.pfr_story.specs.Story.{Past, Story, Move, Says, Does, Asks, after, noted, operated, counts_of, image_of, image_at, past_at, device_of, all_do, IsCut}
+use Rattle.pfr_story.specs.Story.{Past, Story, Move, Says, Does, Asks, after, noted, operated, counts_of, image_at, past_at, device_of, all_do, IsCut}
 use Rattle.pfr_story.specs.World.{World, story_of, state_at, added}
 use Rattle.pfr_story.specs.Safety.{Rule, AllGood, AllSafe, Keeps}
-use Rattle.pfr_story.specs.Plans.{mine, store, Ruling, by_verdict, by_ruling, filtered, bus_calls, judge_smbus, smbus_note, smbus_by, smbus_judged}
+use Rattle.pfr_story.specs.Plans.{mine, store, Ruling, by_verdict, by_ruling, filtered, bus_calls, judge_smbus, smbus_note, smbus_by}
 use Rattle.pfr_story.specs.Course.{Steps, lost, Follows}
 use Rattle.pfr_story.specs.Standing.{Standing, Running, standing_of, is_running}
 use Rattle.pfr_story.specs.Turn.{spi_stretch, spi_course, smbus_course, begun, Turn}

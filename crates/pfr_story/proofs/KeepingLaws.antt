@@ -30,7 +30,7 @@ use Rattle.pfr_story.proofs.Bytes.{HaveBytes}
 use Rattle.pfr_story.proofs.Traces.{Begins, Precedes, begins_at}
 use Rattle.pfr_story.proofs.NoteLaws.{Turn-releases}
 use Rattle.pfr_story.proofs.RunLaws.{IsLater-turn, trusted_at, adds_added, turn_adds}
-use Rattle.pfr_story.proofs.SpanLaws.{past_upto, AreSpared, IsKept, IsTrustedAt, IsOpen, Kept, AllOpen, AllEnded, open_none, ended_append, begins, ReleasedSpans-begun, none_or_settled}
+use Rattle.pfr_story.proofs.SpanLaws.{past_upto, AreSpared, IsKept, IsTrustedAt, IsOpen, Kept, AllOpen, AllEnded, open_none, ended_append, begins, ReleasedSpans-begun, none_or_settled, upto_last}
 use Rattle.pfr_story.proofs.SpanSteps.{Turn-spans}
 
 -- ---- a bank stands released exactly where a span of it is open
@@ -191,10 +191,7 @@ trusted_at_end : (accepts : Acceptance) (which : Bank) (mine nv : Past) (begin e
     → IsSpan accepts which mine nv begin end → IsTrusted (play mine.start mine.ops) (play nv.start nv.ops) which accepts
 trusted_at_end accepts which mine nv begin end b n p =
     let t = p.throughout (count_at which end) end.nv p.forth (omega arith) p.forth_store (omega arith) in
-    let all : play_first (count_at which end) mine.start mine.ops ≡ play mine.start mine.ops =
-    ap (λ (ops : List Operation). play mine.start ops) (take_all (count_at which end) mine.ops (omega (arith, b))) in
-    let store : play_first end.nv nv.start nv.ops ≡ play nv.start nv.ops = ap (λ (ops : List Operation). play nv.start ops) (take_all end.nv nv.ops (omega (arith, n))) in
-    rw (all, store) at t.0
+    rw (upto_last mine (count_at which end) b, upto_last nv end.nv n) at t.0
 
 trusted_open : (accepts : Acceptance) (which : Bank) (story : Story) → count_at which (counts_of story) ≡ length (past_at (device_of which) story).ops → HasTrustedSpans accepts which story
     → standing_of which story.notes ≡ standing.Running → IsTrusted (image_at (device_of which) story) (image_at device.Nv story) which accepts

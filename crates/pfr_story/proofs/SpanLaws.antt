@@ -419,6 +419,10 @@ module _ (accepts : Acceptance) where
   Kept-moves which (Asks at) story g k = k
 
 -- ---- what a span that is open stands on
+-- what a device held at its last count it holds
+pub upto_last : (past : Past) (count : ℕ) → count ≡ length past.ops → past_upto past count ≡ image_of past
+upto_last past count same = ap (λ (ops : List Operation). play past.start ops) (take_all count past.ops (omega (arith, same)))
+
 play_between : (image : List ℕ) (ops : List Operation) (begin end : ℕ) → begin ≤ end → play (play_first begin image ops) (between begin end ops) ≡ play_first end image ops
 play_between image ops begin end forth =
     sym (play-append image (take begin ops) (between begin end ops))
@@ -433,25 +437,19 @@ module _ (accepts : Acceptance) (which : Bank) (mine nv : Past) where
     pub layout : layout_of trusted.fuses.provision which ≡ layout_of t.fuses.provision which
 
   module _ (begin end : Counts) (same : count_at which end ≡ length mine.ops) (same_store : end.nv ≡ length nv.ops) (k : IsKept accepts which mine nv begin end) where
-    all_done : past_upto mine (count_at which end) ≡ image_of mine
-    all_done = ap (λ (ops : List Operation). play mine.start ops) (take_all (count_at which end) mine.ops (omega (arith, same)))
-
-    all_stored : past_upto nv end.nv ≡ image_of nv
-    all_stored = ap (λ (ops : List Operation). play nv.start ops) (take_all end.nv nv.ops (omega (arith, same_store)))
-
     trusted_last : (t : IsTrustedAt accepts which mine nv begin) → IsTrustedBy t.manifest (image_of mine) (image_of nv) which accepts
     trusted_last t =
         let all = k.spared.each t in
         let last = trusted_between accepts which mine.start nv.start mine.ops nv.ops (count_at which begin) (count_at which end) begin.nv end.nv t all.image all.store
         (count_at which end) end.nv k.forth (omega arith) k.forth_store (omega arith) in
-        subst (λ (image : List ℕ). IsTrustedBy t.manifest image (image_of nv) which accepts) all_done
-        (subst (λ (store : List ℕ). IsTrustedBy t.manifest (past_upto mine (count_at which end)) store which accepts) all_stored last)
+        subst (λ (image : List ℕ). IsTrustedBy t.manifest image (image_of nv) which accepts) (upto_last mine (count_at which end) same)
+        (subst (λ (store : List ℕ). IsTrustedBy t.manifest (past_upto mine (count_at which end)) store which accepts) (upto_last nv end.nv same_store) last)
 
     stands_still : (t : IsTrustedAt accepts which mine nv begin) → StandFor (image_of nv) t.fuses which
     stands_still t =
         let found = fuses_of-ok (past_upto nv begin.nv) t.fuses t.provisioned in
         let left = left_store which t.fuses (past_upto nv begin.nv) (between begin.nv end.nv nv.ops) (ap (λ (f : FusesState). f.profile) found.2) (k.spared.each t).store in
-        subst (λ (store : List ℕ). StandFor store t.fuses which) (play_between nv.start nv.ops begin.nv end.nv k.forth_store ∙ all_stored)
+        subst (λ (store : List ℕ). StandFor store t.fuses which) (play_between nv.start nv.ops begin.nv end.nv k.forth_store ∙ upto_last nv end.nv same_store)
         (store_lasts which (past_upto nv begin.nv) _ t.fuses left t.provisioned)
 
     pub still_trusted : (t : IsTrustedAt accepts which mine nv begin) → IsTrustedStill begin t

@@ -1,5 +1,5 @@
 -- What a step does where no device call fails, from the contents as they are.
-use Rattle.std.specs.Prelude.{ℕ, ◌+◌, min, nat_lt, Bool, true, false, List, [], ◌∷◌, length, Option, Some, None, Result, Ok, Err}
+use Rattle.std.specs.Prelude.{ℕ, ◌+◌, min, nat_lt, Bool, true, false, List, [], length, Option, Some, None, Result, Ok, Err}
 use Rattle.pfr_flash.specs.Judging.{◌>>=◌, ◌>>◌, told_as}
 use Rattle.pfr_flash.specs.Layout.{judge_layout}
 use Rattle.pfr_flash.specs.Operation.{Operation}
