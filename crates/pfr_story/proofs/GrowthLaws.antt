@@ -1,5 +1,5 @@
 -- Fuses are never taken back, and a provision never changes.
-use Rattle.std.proofs.Common.{◌≡◌, ◌∙◌, refl, sym, ap, ℕ, ◌≤◌, arith, Bool, true, false, List, [], length, Result, Ok, Err, inr}
+use Rattle.std.proofs.Common.{◌≡◌, ◌∙◌, refl, sym, ap, ℕ, ◌≤◌, arith, false, List, [], length, Result, Ok, Err, inl, inr}
 use Rattle.std.proofs.lemmas.Bool.{false≢true}
 use Rattle.std.proofs.lemmas.List.{append-nil}
 use Rattle.pfr_flash.specs.Bytes.{AreBytes}
@@ -7,7 +7,6 @@ use Rattle.pfr_flash.specs.FlashState.{FlashState, now, upto, size_of, op_count_
 use Rattle.pfr_flash.specs.Operation.{Operation, play}
 use Rattle.pfr_flash.specs.Plan.{IsPart, DoesPart}
 use Rattle.pfr_flash.specs.Range.{AllWithin}
-use Rattle.pfr_flash.specs.declared.names.Bank.TheVariants as bank
 use Rattle.pfr_flash.specs.declared.names.Device.TheVariants as device
 use Rattle.pfr_flash.proofs.CutLemmas.{at_each}
 use Rattle.pfr_flash.proofs.PlayLemmas.{length-play}
@@ -33,9 +32,9 @@ use Rattle.pfr_story.specs.Story.{Story}
 use Rattle.pfr_story.specs.World.{World, past_of, story_of, AreDevices}
 use Rattle.pfr_story.specs.Plans.{migration_in, migration_by}
 use Rattle.pfr_story.specs.Course.{Follows}
-use Rattle.pfr_story.specs.Standing.{standing_of, is_off}
 use Rattle.pfr_story.specs.Promises.{AreOff, IsKnownSlot}
-use Rattle.pfr_story.specs.Turn.{ignored, provision_course, where_off, begun, Turn}
+use Rattle.pfr_story.specs.Turn.{ignored, is_idle, begun, Turn}
+use Rattle.pfr_story.proofs.Courses.{Turn-cases}
 use Rattle.pfr_story.proofs.Traces.{precedes_moved}
 use Rattle.pfr_story.proofs.Bytes.{have_bytes, images_then}
 use Rattle.pfr_story.proofs.Turns.{Turn-moved}
@@ -65,23 +64,29 @@ provision_keeps root old new m n (Ok number) j size start slot did =
     let can = judged-ok (now old) root m n number j in KeepsProvision-slot old new root number size start slot can.unset can.slot did
 provision_keeps root old new m n (Err cause) j size start slot did = KeepsProvision-plan 2048 0 [] old new size start did (omega arith) tt
 
--- A slot that provisions the platform at one moment of a step does so at each later one, with the same bytes.
-pub Turn-keeps : (accepts : Acceptance) (e : Event) (old new : World) → size_of old.nv ≡ 32768 → (¬ AreOff old → IsKnownSlot e) → Turn accepts e old new → KeepsProvision old.nv new.nv
-Turn-keeps accepts event.Power old new size slot t =
+nothing_keeps : (old new : FlashState) → size_of old ≡ 32768 → new.start ≡ old.start → DoesPart [] old new → KeepsProvision old new
+nothing_keeps old new size start did = KeepsProvision-plan 2048 0 [] old new size start did (omega arith) tt
+
+taken_keeps : (accepts : Acceptance) (e : Event) (old new : World) → size_of old.nv ≡ 32768 → (¬ AreOff old → IsKnownSlot e) → is_idle e (story_of old) ≡ false → Turn accepts e old new → KeepsProvision old.nv new.nv
+taken_keeps accepts event.Power old new size slot on t =
     let did = Turn-stored accepts event.Power old new t in
     let plan : List Operation = migration_in (fuses_of (now old.nv)) in
     KeepsProvision-plan 2048 30720 plan old.nv new.nv size did.start (did_part plan old new did) (omega arith) (in_within (now old.nv) (fuses_of (now old.nv)) refl)
-Turn-keeps accepts event.Off old new size slot t =
-    let did = Turn-stored accepts event.Off old new t in KeepsProvision-plan 2048 0 [] old.nv new.nv size did.start (did_part [] old new did) (omega arith) tt
-Turn-keeps accepts (event.Provision root) old new size slot t = by_off (is_off (standing_of bank.Bmc old.notes.list)) refl t
-  where
-    by_off : (b : Bool) → is_off (standing_of bank.Bmc old.notes.list) ≡ b → Follows (where_off b ignored (provision_course root)) (begun old) new → KeepsProvision old.nv new.nv
-    by_off true off u = KeepsProvision-none old.nv new.nv (ignored_store old new u)
-    by_off false on u =
-        let did = Turn-stored accepts (event.Provision root) old new t in
-        provision_keeps root old.nv new.nv (length old.bmc.start) (length old.pch.start) (judged_here root (story_of old)) refl size did.start
-        (slot (λ (off : AreOff old). false≢true (sym on ∙ off)))
-        (did_part (operations_in root (judged_here root (story_of old))) old new did)
+taken_keeps accepts (event.Provision root) old new size slot on t =
+    let did = Turn-stored accepts (event.Provision root) old new t in
+    provision_keeps root old.nv new.nv (length old.bmc.start) (length old.pch.start) (judged_here root (story_of old)) refl size did.start
+    (slot (λ (off : AreOff old). false≢true (sym on ∙ off)))
+    (did_part (operations_in root (judged_here root (story_of old))) old new did)
+taken_keeps accepts event.Off old new size slot on t = let did = Turn-stored accepts event.Off old new t in nothing_keeps old.nv new.nv size did.start (did_part [] old new did)
+taken_keeps accepts (event.Spi b frame) old new size slot on t = let did = Turn-stored accepts (event.Spi b frame) old new t in nothing_keeps old.nv new.nv size did.start (did_part [] old new did)
+taken_keeps accepts (event.Smbus b frame) old new size slot on t = let did = Turn-stored accepts (event.Smbus b frame) old new t in nothing_keeps old.nv new.nv size did.start (did_part [] old new did)
+
+-- A slot that provisions the platform at one moment of a step does so at each later one, with the same bytes.
+pub Turn-keeps : (accepts : Acceptance) (e : Event) (old new : World) → size_of old.nv ≡ 32768 → (¬ AreOff old → IsKnownSlot e) → Turn accepts e old new → KeepsProvision old.nv new.nv
+Turn-keeps accepts e old new size slot t = elim (Turn-cases accepts e old new t) [
+  | inl idle ↦ KeepsProvision-none old.nv new.nv (ignored_store old new idle.1)
+  | inr on ↦ taken_keeps accepts e old new size slot on.0 t
+]
 
 -- ---- fuses are never taken back
 migrated_grows : (old new : FlashState) (fuses : FusesState) → size_of old ≡ 32768 → new.start ≡ old.start → fuses_of (now old) ≡ Ok fuses → fuses.profile ≡ One → AreBytes (now old)
@@ -117,22 +122,24 @@ provision_grows root old new m n (Ok number) j size start slot did =
     (inr (omega arith))
 provision_grows root old new m n (Err cause) j size start slot did = nothing_grows old new size start did
 
--- Fuses are never taken back in a step of devices that hold bytes.
-pub Turn-grows : (accepts : Acceptance) (e : Event) (old new : World) → size_of old.nv ≡ 32768 → AreDevices new → (¬ AreOff old → IsKnownSlot e) → Turn accepts e old new → NeverGoesBack old.nv new.nv
-Turn-grows accepts event.Power old new size held slot t =
+taken_grows : (accepts : Acceptance) (e : Event) (old new : World) → size_of old.nv ≡ 32768 → AreDevices new → (¬ AreOff old → IsKnownSlot e) → is_idle e (story_of old) ≡ false → Turn accepts e old new
+    → NeverGoesBack old.nv new.nv
+taken_grows accepts event.Power old new size held slot on t =
     let did = Turn-stored accepts event.Power old new t in
     let plan : List Operation = migration_in (fuses_of (now old.nv)) in
     in_grows old.nv new.nv (fuses_of (now old.nv)) size did.start refl (images_then (story_of (begun old)) new (precedes_moved (begun old) new (Turn-moved accepts event.Power old new t)) (have_bytes new held) device.Nv) (did_part plan old new did)
-Turn-grows accepts event.Off old new size held slot t =
-    let did = Turn-stored accepts event.Off old new t in nothing_grows old.nv new.nv size did.start (did_part [] old new did)
-Turn-grows accepts (event.Provision root) old new size held slot t = by_off (is_off (standing_of bank.Bmc old.notes.list)) refl t
-  where
-    by_off : (b : Bool) → is_off (standing_of bank.Bmc old.notes.list) ≡ b → Follows (where_off b ignored (provision_course root)) (begun old) new → NeverGoesBack old.nv new.nv
-    by_off true off u =
-        let did = Turn-stored accepts (event.Provision root) old new t in
-        nothing_grows old.nv new.nv size did.start (record { added = []; is = ignored_store old new u ∙ sym (append-nil old.nv.ops); part = tt })
-    by_off false on u =
-        let did = Turn-stored accepts (event.Provision root) old new t in
-        provision_grows root old.nv new.nv (length old.bmc.start) (length old.pch.start) (judged_here root (story_of old)) refl size did.start
-        (slot (λ (off : AreOff old). false≢true (sym on ∙ off)))
-        (did_part (operations_in root (judged_here root (story_of old))) old new did)
+taken_grows accepts (event.Provision root) old new size held slot on t =
+    let did = Turn-stored accepts (event.Provision root) old new t in
+    provision_grows root old.nv new.nv (length old.bmc.start) (length old.pch.start) (judged_here root (story_of old)) refl size did.start
+    (slot (λ (off : AreOff old). false≢true (sym on ∙ off)))
+    (did_part (operations_in root (judged_here root (story_of old))) old new did)
+taken_grows accepts event.Off old new size held slot on t = let did = Turn-stored accepts event.Off old new t in nothing_grows old.nv new.nv size did.start (did_part [] old new did)
+taken_grows accepts (event.Spi b frame) old new size held slot on t = let did = Turn-stored accepts (event.Spi b frame) old new t in nothing_grows old.nv new.nv size did.start (did_part [] old new did)
+taken_grows accepts (event.Smbus b frame) old new size held slot on t = let did = Turn-stored accepts (event.Smbus b frame) old new t in nothing_grows old.nv new.nv size did.start (did_part [] old new did)
+
+-- Fuses are never taken back in a step of devices that hold bytes.
+pub Turn-grows : (accepts : Acceptance) (e : Event) (old new : World) → size_of old.nv ≡ 32768 → AreDevices new → (¬ AreOff old → IsKnownSlot e) → Turn accepts e old new → NeverGoesBack old.nv new.nv
+Turn-grows accepts e old new size held slot t = elim (Turn-cases accepts e old new t) [
+  | inl idle ↦ nothing_grows old.nv new.nv size (Turn-stored accepts e old new t).start (record { added = []; is = ignored_store old new idle.1 ∙ sym (append-nil old.nv.ops); part = tt })
+  | inr on ↦ taken_grows accepts e old new size held slot on.0 t
+]

@@ -2,6 +2,7 @@
 use Rattle.std.proofs.Common.{◌≡◌, refl, sym, ap, subst, arith, ℕ, zero, suc, ◌+◌, ◌*◌, ◌%◌, ◌/◌, ◌≤◌, ◌<◌, Bool, true, false, if◌then◌else◌, List, [], ◌∷◌, ◌++◌, length, drop, length-take, All, ◌⊎◌, inl, inr, Result, Ok, Err}
 use Rattle.std.proofs.lemmas.Bool.{cases_lt}
 use Rattle.std.proofs.lemmas.Bool.Decides.{nat_tests}
+use Rattle.std.proofs.lemmas.List.Elements.{All-head, All-tail}
 use Rattle.pfr_flash.specs.Bytes.{AreBytes, bytes_at}
 use Rattle.pfr_flash.specs.FuseRow.{is_cleared}
 use Rattle.pfr_flash.specs.Layout.{IsValidLayout}
@@ -27,6 +28,8 @@ use Rattle.pfr_fuses.specs.declared.profile.Profile.{Profile}
 use Rattle.pfr_fuses.specs.declared.profile.Profile.TheVariants as profile
 use Rattle.pfr_fuses.specs.declared.root_slot.RootSlot.{RootSlot}
 use Rattle.pfr_manifest.specs.Regions.{IsRegion}
+use Rattle.pfr_manifest.specs.declared.manifest.Manifest.{Manifest}
+use Rattle.pfr_manifest.proofs.ApartLaw.{LeavesTrusted}
 use Rattle.pfr_capsule.specs.CapsuleState.{CapsuleState}
 use Rattle.pfr_capsule.specs.Good.{IsGood, StandForBank}
 use Rattle.pfr_capsule.proofs.ServesLaw.{StillServes, good_serves}
@@ -140,6 +143,12 @@ module _ (accepts : Acceptance) (b : Bank) (layout : Layout) where
     ),
     ops_safe ops (operated (device_of b) op story) (placed_on op story p) all.1,
   )
+
+-- operations that leave what trust in the bank's image stands on leave its recovery area
+pub trusted_leave : (m : Manifest) (layout : Layout) (ops : List Operation) → All (LeavesTrusted m layout) ops → AllLeave layout.recovery_at layout.area_len ops
+trusted_leave m layout [] all = tt
+trusted_leave m layout (op ∷ ops) all =
+    ((All-head (LeavesTrusted m layout) op ops all).recovery, trusted_leave m layout ops (All-tail (LeavesTrusted m layout) op ops all))
 
 -- ---- a store that says the same of the bank
 module _ (accepts : Acceptance) (b : Bank) (image nv later : List ℕ) where

@@ -27,7 +27,7 @@ use Rattle.pfr_story.specs.Spans.{opens_after, closes, ended, opens_from, ended_
 use Rattle.pfr_story.specs.Keeping.{IsSettled, HasTrustedSpans}
 use Rattle.pfr_story.specs.Turn.{Turn}
 use Rattle.pfr_story.proofs.Bytes.{HaveBytes}
-use Rattle.pfr_story.proofs.Traces.{Begins, Precedes}
+use Rattle.pfr_story.proofs.Traces.{Begins, Precedes, begins_at}
 use Rattle.pfr_story.proofs.NoteLaws.{Turn-releases}
 use Rattle.pfr_story.proofs.RunLaws.{IsLater-turn, trusted_at, adds_added, turn_adds}
 use Rattle.pfr_story.proofs.SpanLaws.{past_upto, AreSpared, IsKept, IsTrustedAt, IsOpen, Kept, AllOpen, AllEnded, open_none, ended_append, begins, ReleasedSpans-begun, none_or_settled}
@@ -139,10 +139,6 @@ module _ (accepts : Acceptance) (which : Bank) where
   trusted_later mine nv more later begin end b n p =
       rw (upto_same mine more (count_at which begin) b (omega (arith, p.forth, p.done)), upto_same nv later begin.nv n (omega (arith, p.forth_store, p.done_store))) p.trusted
 
-begins_at : (which : Bank) (a b : Story) → Precedes a b → Begins (past_at (device_of which) a) (past_at (device_of which) b)
-begins_at bank.Bmc a b p = p.bmc
-begins_at bank.Pch a b p = p.pch
-
 -- ---- notes that are added
 opens_append : (which : Bank) (opens : List Counts) (notes more : List Note) → opens_from which opens (notes ++ more) ≡ opens_from which (opens_from which opens notes) more
 opens_append which opens [] more = refl
@@ -175,7 +171,7 @@ Turn-trusted_spans accepts which e old new t held size h =
     let p : Precedes a b = (IsLater-turn accepts e old new t).precedes in
     let P : Counts → Type 0 = IsTrustedAt accepts which (past_at (device_of which) b) b.nv in
     let later : (begin end : Counts) → IsSpan accepts which (past_at (device_of which) a) a.nv begin end → P begin =
-    λ begin end s. trusted_later accepts which (past_at (device_of which) a) a.nv (past_at (device_of which) b) b.nv begin end (begins_at which a b p) p.nv s in
+    λ begin end s. trusted_later accepts which (past_at (device_of which) a) a.nv (past_at (device_of which) b) b.nv begin end (begins_at (device_of which) a b p) p.nv s in
     let begun = begin_more which P old.notes.list (added old new) (all_ended accepts which a h (λ begin end. P begin) later) (all_open accepts which a h P (λ begin s. later begin (counts_of a) s))
     (λ svn at n. trusted_at accepts which svn at new (Turn-releases accepts e old new t held which svn at n)) in
     let notes : old.notes.list ++ added old new ≡ new.notes.list = sym (adds_added old new (turn_adds accepts e old new t)) in

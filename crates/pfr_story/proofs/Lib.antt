@@ -7,7 +7,6 @@ pub mod BringRules
 pub mod Courses
 pub mod BusRules
 pub mod Rulings
-pub mod RulingLaws
 pub mod Traces
 pub mod StepTraces
 pub mod Facts
@@ -31,6 +30,7 @@ pub mod FuseLaws
 pub mod StoreLaws
 pub mod EventLaws
 pub mod ProvisionLaws
+pub mod FilterLaws
 pub mod GrowthLaws
 pub mod ContentsLaws
 pub mod RunLaws

@@ -1,6 +1,6 @@
 -- Each step keeps its promises about provisions.
-use Rattle.std.proofs.Common.{◌≡◌, ◌∙◌, refl, sym, ap, subst, ℕ, ◌+◌, ◌*◌, ◌≤◌, arith, Bool, true, false, List, [], ◌∷◌, ◌++◌, length, drop, length-append, Some, None, Result, Ok, Err, ◌⊎◌, inl, inr}
-use Rattle.std.proofs.lemmas.Bool.{cases_lt, cases_Bool}
+use Rattle.std.proofs.Common.{◌≡◌, ◌∙◌, refl, sym, ap, subst, ℕ, ◌+◌, ◌*◌, ◌≤◌, arith, true, false, List, [], ◌∷◌, ◌++◌, length, drop, length-append, Some, None, Result, Ok, Err, inl, inr}
+use Rattle.std.proofs.lemmas.Bool.{cases_lt}
 use Rattle.std.proofs.lemmas.List.{append-nil}
 use Rattle.pfr_flash.specs.Operation.{Operation, Program, applied, play}
 use Rattle.pfr_flash.specs.FlashState.{FlashState, now, size_of, with_op}
@@ -33,11 +33,11 @@ use Rattle.pfr_story.specs.World.{World, past_of, story_of, added}
 use Rattle.pfr_story.specs.Safety.{Rule, AllSafe}
 use Rattle.pfr_story.specs.Plans.{provisioned_in, refusal_of}
 use Rattle.pfr_story.specs.Course.{Steps, Follows as FollowsCourse}
-use Rattle.pfr_story.specs.Standing.{standing_of, is_off}
-use Rattle.pfr_story.specs.Turn.{provision_stretch, ignored, provision_course, where_off, begun, Turn}
+use Rattle.pfr_story.specs.Turn.{provision_stretch, provision_course, begun, Turn}
 use Rattle.pfr_story.specs.Promises.{AreOff, IsKnownSlot, IsUntroubled, sizes_judged, TriesProvision, ProvisionsSo}
 use Rattle.pfr_story.proofs.Sequence.{after-append}
 use Rattle.pfr_story.proofs.SafetyLaws.{AllSafe-append, with_all, past_called}
+use Rattle.pfr_story.proofs.Courses.{Turn-cases}
 use Rattle.pfr_story.proofs.Traces.{Saying, call_says, Begins, Traced-known, noted_right}
 use Rattle.pfr_story.proofs.Made.{Made, said, said_append, added_said}
 use Rattle.pfr_story.proofs.StepTraces.{AllowsBanks, provision_traced}
@@ -136,7 +136,7 @@ no_length [] e = refl
 no_length (op ∷ ops) e = absurd (omega (arith, e))
 
 -- a part of a plan that begins with all of it is the plan
-whole_part : (base at : Past) (plan : List Operation) (new : Past) → Stored plan base new → at ≡ with_all base plan → Begins at new → new.ops ≡ base.ops ++ plan
+pub whole_part : (base at : Past) (plan : List Operation) (new : Past) → Stored plan base new → at ≡ with_all base plan → Begins at new → new.ops ≡ base.ops ++ plan
 whole_part base at plan new stored e begins =
     let ops : new.ops ≡ (base.ops ++ plan) ++ begins.more = begins.ops ∙ ap (λ (p : Past). p.ops ++ begins.more) e in
     let long : length new.ops ≡ (length base.ops + length plan) + length begins.more =
@@ -225,9 +225,9 @@ module _ (accepts : Acceptance) (root : RootSlot) (old new : World) where
 pub Turn-provisions : (accepts : Acceptance) (e : Event) (old new : World) → size_of old.nv ≡ 32768 → (¬ AreOff old → IsKnownSlot e) → Turn accepts e old new → ProvisionsSo e old new
 Turn-provisions accepts event.Power old new size slot t = tt
 Turn-provisions accepts event.Off old new size slot t = tt
-Turn-provisions accepts (event.Provision root) old new size slot t = λ on. by_off on (cases_Bool (is_off (standing_of bank.Bmc old.notes.list)))
-  where
-    by_off : ¬ AreOff old → ((is_off (standing_of bank.Bmc old.notes.list) ≡ true) ⊎ (is_off (standing_of bank.Bmc old.notes.list) ≡ false)) → TriesProvision root old new
-    by_off on (inl off) = absurd (on off)
-    by_off on (inr off) =
-        tries accepts root old new size (slot on) t (subst (λ (b : Bool). FollowsCourse (where_off b ignored (provision_course root)) (begun old) new) off t)
+Turn-provisions accepts (event.Provision root) old new size slot t = λ on. elim (Turn-cases accepts (event.Provision root) old new t) [
+  | inl idle ↦ absurd (on idle.0)
+  | inr taken ↦ tries accepts root old new size (slot on) t taken.1
+]
+Turn-provisions accepts (event.Spi b frame) old new size slot t = tt
+Turn-provisions accepts (event.Smbus b frame) old new size slot t = tt

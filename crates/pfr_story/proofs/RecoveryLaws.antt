@@ -1,5 +1,5 @@
 -- A step leaves a bank one that can be recovered, from each of its moments to the next.
-use Rattle.std.proofs.Common.{◌≡◌, ◌∙◌, refl, sym, ap, subst, ℕ, ◌%◌, Bool, true, false, List, [], ◌∷◌, length, All, inl, inr, Result, Ok, Err}
+use Rattle.std.proofs.Common.{◌≡◌, ◌∙◌, refl, sym, ap, subst, ℕ, ◌%◌, true, List, [], ◌∷◌, length, All, ◌⊎◌, inl, inr, Some, Result, Ok, Err}
 use Rattle.pfr_flash.specs.Bytes.{AreBytes}
 use Rattle.pfr_flash.specs.FlashState.{size_of}
 use Rattle.pfr_flash.specs.Layout.{IsBankSize, IsValidLayout}
@@ -22,6 +22,9 @@ use Rattle.pfr_fuses.proofs.StandsLemmas.{fuses_of-ok}
 use Rattle.pfr_manifest.specs.Regions.{IsRegion}
 use Rattle.pfr_capsule.specs.CapsuleState.{CapsuleState}
 use Rattle.pfr_capsule.proofs.GoodFacts.{good_regions}
+use Rattle.pfr_filter.specs.Asking.{bus_ops}
+use Rattle.pfr_filter.specs.declared.verdict.BusOp.{BusOp}
+use Rattle.pfr_filter.specs.declared.verdict.Verdict.TheVariants.{Pass}
 use Rattle.pfr_jobs.specs.declared.job.JobKind.TheVariants.{ActiveFromRecovery}
 use Rattle.pfr_recoverable.specs.Recoverable.{HasGoodRecovery}
 use Rattle.pfr_recoverable.proofs.StaysLaw.{fuses_one}
@@ -33,21 +36,23 @@ use Rattle.pfr_story.specs.Story.{Story, Move, Says, noted, device_of, called}
 use Rattle.pfr_story.specs.World.{World, story_of, AllMoved}
 use Rattle.pfr_story.specs.Safety.{Rule, AllGood, AllSafe}
 use Rattle.pfr_story.specs.Course.{Stretch, Steps, Follows}
-use Rattle.pfr_story.specs.Standing.{standing_of, is_off}
-use Rattle.pfr_story.specs.Plans.{mine, store, judged_recovery, restore_ops, copied, brought_up, migrated, provisioned, provisioned_in}
-use Rattle.pfr_story.specs.Turn.{bank_stretch, fuse_stretch, provision_stretch, where_off, ignored, power_course, off_course, provision_course, begun, Turn}
+use Rattle.pfr_story.specs.Plans.{mine, store, judged_recovery, restore_ops, copied, brought_up, migrated, provisioned, provisioned_in, Ruling, ruling, filtered, smbus_judged}
+use Rattle.pfr_story.specs.Turn.{bank_stretch, fuse_stretch, provision_stretch, spi_stretch, ignored, power_course, off_course, provision_course, is_idle, taken, begun, Turn}
 use Rattle.pfr_story.specs.Recovery.{HoldsIn, LeavesTrue, StaysRecoverable}
 use Rattle.pfr_story.proofs.WorldLaws.{AllMoved-refl}
-use Rattle.pfr_story.proofs.SafetyLaws.{AllSafe-append, image_noted}
+use Rattle.pfr_story.proofs.SafetyLaws.{AllSafe-append, safe_whole, image_noted}
+use Rattle.pfr_story.proofs.Courses.{IsTakenBy, Turn-cases}
+use Rattle.pfr_story.proofs.BusRules.{ruled, filtered_safe, calls_safe, smbus_safe}
+use Rattle.pfr_story.proofs.Rulings.{ruling_trusted, ruled_leaves}
 use Rattle.pfr_story.proofs.RestoreLaws.{found_good}
 use Rattle.pfr_story.proofs.BringRules.{Any, IsReady, ready_noted, ready_found, Walks, walk_safe}
 use Rattle.pfr_story.proofs.Turns.{Turn-moved}
 use Rattle.pfr_story.proofs.Traces.{call_says, Traced, Traced-then, Traced-ran, Traced-whole, Traced-cut, precedes_moved, AreImages}
-use Rattle.pfr_story.proofs.StepTraces.{Between, AllowsLosses, IsGoodStretch, noted_along, power_along, provision_along}
+use Rattle.pfr_story.proofs.StepTraces.{Between, AllowsLosses, IsGoodStretch, noted_along, power_along, single_along}
 use Rattle.pfr_story.proofs.Bytes.{HaveBytes, images_then, mine_sized, bank_sized}
 use Rattle.pfr_story.proofs.RecoverableLaws.{other_safe}
 use Rattle.pfr_story.proofs.MomentLaws.{StaysTrue, IsUnstamped, NoMoments, Stays, call_stays, stays_along, stays_behind}
-use Rattle.pfr_story.proofs.KeepLaws.{GoodRecovery, job_leaves, ops_safe, migration_safe}
+use Rattle.pfr_story.proofs.KeepLaws.{GoodRecovery, job_leaves, ops_safe, trusted_leave, migration_safe}
 
 -- the devices hold bytes, the banks have whole blocks, and the store has its size
 record IsSized (story : Story) : Type 0 where
@@ -92,6 +97,34 @@ module _ (accepts : Acceptance) where
   copy_safe bank.Pch bank.Bmc fuses capsule story sized read valid judged = other_safe (GoodRecovery accepts bank.Pch) bank.Pch (restore_ops 1 (mine bank.Bmc story) capsule (layout_of fuses.provision bank.Bmc)) story
   copy_safe bank.Pch bank.Pch fuses capsule story sized read valid judged = own_copy accepts bank.Pch fuses capsule story sized read valid judged
 
+-- ---- a frame on the SPI bus of a bank
+module _ (accepts : Acceptance) where
+  -- what a frame does that passes on the bank's own bus
+  own_frame : (b : Bank) (frame : List ℕ) (r : Ruling) (op : BusOp) (story : Story) → IsSized story → ruling accepts b story ≡ Some r → ruled b frame r story ≡ Pass op
+      → AllSafe (LeavesTrue (GoodRecovery accepts b) b) (called (device_of b) (bus_ops op)) story
+  own_frame b frame r op story sized found passed =
+      let t = (ruling_trusted accepts b story r (sized.images (device_of b)) found).trusted in
+      let layout : Layout = layout_of t.fuses.provision b in
+      ops_safe accepts b layout (bus_ops op) story
+      (record { by_layout = λ f is. ap (λ (g : FusesState). layout_of g.provision b) (fuses_one (store story) f t.fuses is t.provisioned); blocks = sized.blocks b })
+      (trusted_leave t.manifest layout (bus_ops op) (ruled_leaves accepts b story frame r op found passed t))
+
+  -- whichever bank's bus it is
+  frame_safe : (b c : Bank) (frame : List ℕ) (r : Ruling) (op : BusOp) (story : Story) → IsSized story → ruling accepts c story ≡ Some r → ruled c frame r story ≡ Pass op
+      → AllSafe (LeavesTrue (GoodRecovery accepts b) b) (called (device_of c) (bus_ops op)) story
+  frame_safe bank.Bmc bank.Bmc frame r op story sized found passed = own_frame bank.Bmc frame r op story sized found passed
+  frame_safe bank.Bmc bank.Pch frame r op story sized found passed = other_safe (GoodRecovery accepts bank.Bmc) bank.Bmc (bus_ops op) story
+  frame_safe bank.Pch bank.Bmc frame r op story sized found passed = other_safe (GoodRecovery accepts bank.Pch) bank.Pch (bus_ops op) story
+  frame_safe bank.Pch bank.Pch frame r op story sized found passed = own_frame bank.Pch frame r op story sized found passed
+
+  passing_safe : (b c : Bank) (frame : List ℕ) (story : Story) → IsSized story → AllSafe (Keeping accepts b) (filtered accepts c frame story) story
+  passing_safe b c frame story sized = filtered_safe (Keeping accepts b) accepts c frame story (record {
+    blocked = λ cause. tt;
+    calls = λ r op found passed. calls_safe (Keeping accepts b) c op story
+        (call_stays (GoodRecovery accepts b) b (device_of c) (bus_ops op) story (frame_safe b c frame r op story sized found passed));
+    passed = λ r op found passed. tt;
+  })
+
 -- ---- a bank is brought up
 module _ (accepts : Acceptance) (b c : Bank) where
   -- a bank that can be checked, of devices that have their sizes
@@ -127,6 +160,13 @@ module _ (accepts : Acceptance) (b : Bank) (first last : World) where
   bank_keeps c = record {
     plan = record { safe = λ story p. brought_safe accepts b c story p.0; ends = λ story p. tt };
     noted = λ which story trace p cut rose. (refl, tt);
+    on = λ which story trace p cut e. tt;
+  }
+
+  spi_keeps : (c : Bank) (frame : List ℕ) → IsKeeping Any (spi_stretch accepts c frame)
+  spi_keeps c frame = record {
+    plan = record { safe = λ story p. passing_safe accepts b c frame story p.0; ends = λ story p. tt };
+    noted = λ which story trace p cut rose. (refl, (refl, tt));
     on = λ which story trace p cut e. tt;
   }
 
@@ -202,10 +242,6 @@ module _ (accepts : Acceptance) (b : Bank) (old new : World) (held : HaveBytes n
       kept (power_along (Keeping accepts b) old new IsSized known allows old new within accepts Any Any Any Any (fuse_keeps accepts b old new)
       (bank_keeps accepts b old new bank.Bmc) (bank_keeps accepts b old new bank.Pch) tt tt t)
 
-  off_kept : (off : Bool) → Follows (where_off off ignored off_course) old new → Kept
-  off_kept true t = noted_kept ignored.first t (tt, tt)
-  off_kept false t = noted_kept off_course.first t (refl, tt)
-
   -- nothing is provisioned where the platform is
   unset : (root : RootSlot) (number : ℕ) → judge_provision (store (story_of old)) root (size_of old.bmc) (size_of old.pch) ≡ Ok number → ¬ HoldsIn (GoodRecovery accepts b) b (story_of old)
   unset root number judged r =
@@ -229,21 +265,37 @@ module _ (accepts : Acceptance) (b : Bank) (old new : World) (held : HaveBytes n
   by_judged : (root : RootSlot) (judged : Result ℕ FuseFail) → judge_provision (store (story_of old)) root (size_of old.bmc) (size_of old.pch) ≡ judged → Follows (provision_course root) old new → Kept
   by_judged root (Ok number) e (mid, first, steps) = slot_kept root mid (unset root number e) (Traced-ran NoMoments [] old mid first tt) steps
   by_judged root (Err cause) e t =
-      kept (provision_along (Keeping accepts b) old new IsSized known allows old new within root (IsRefused accepts b old new root) Any (refusal_keeps accepts b old new root) (cause, e) t)
+      kept (single_along (Keeping accepts b) old new IsSized known allows old new within (provision_stretch root) (IsRefused accepts b old new root) Any (refusal_keeps accepts b old new root) (cause, e) t)
 
-  try_kept : (root : RootSlot) (off : Bool) → Follows (where_off off ignored (provision_course root)) old new → Kept
-  try_kept root true t = noted_kept ignored.first t (tt, tt)
-  try_kept root false t = by_judged root (judge_provision (store (story_of old)) root (size_of old.bmc) (size_of old.pch)) refl t
+  -- judged by the contents of the story at which the step began
+  taken_kept : (e : Event) (story : Story) → Follows (taken accepts e story) old new → Kept
+  taken_kept event.Power story t = power_kept t
+  taken_kept event.Off story t = noted_kept off_course.first t (refl, tt)
+  taken_kept (event.Provision root) story t = by_judged root (judge_provision (store (story_of old)) root (size_of old.bmc) (size_of old.pch)) refl t
+  taken_kept (event.Spi c frame) story t =
+      kept (single_along (Keeping accepts b) old new IsSized known allows old new within (spi_stretch accepts c frame) Any Any (spi_keeps accepts b old new c frame) tt t)
+  taken_kept (event.Smbus c frame) story t =
+      let moves : List Move = smbus_judged accepts c frame story in
+      noted_kept moves t (safe_whole (Keeping accepts b) moves (story_of old)
+      (smbus_safe (Keeping accepts b) accepts c frame (record { passed = λ here. tt; blocked = λ cause here. tt }) story (story_of old)))
 
 -- What says that a good capsule stands in a bank's recovery area stays true from each moment of a step to the next.
 pub Turn-recoverable : (accepts : Acceptance) (e : Event) (old new : World) → Turn accepts e old new → HaveBytes new → IsBankSize (size_of old.bmc) → IsBankSize (size_of old.pch) → size_of old.nv ≡ 32768
     → StaysRecoverable (λ b image nv. HasGoodRecovery b image nv accepts) old new
-Turn-recoverable accepts e old new t held bmc pch nv b = by_event e t (bank_sized bank.Bmc (begun old) new m bmc) (bank_sized bank.Pch (begun old) new m pch) (ap (λ (start : List ℕ). length start) m.nv.start ∙ nv)
+Turn-recoverable accepts e old new t held bmc pch nv b = by_case (Turn-cases accepts e old new t)
   where
     m : AllMoved (begun old) new
     m = Turn-moved accepts e old new t
 
-    by_event : (e : Event) → Turn accepts e old new → IsBankSize (size_of new.bmc) → IsBankSize (size_of new.pch) → size_of new.nv ≡ 32768 → Stays (GoodRecovery accepts b) b (begun old) new
-    by_event event.Power t bmc pch nv = power_kept accepts b (begun old) new held bmc pch nv t
-    by_event event.Off t bmc pch nv = off_kept accepts b (begun old) new held bmc pch nv (is_off (standing_of bank.Bmc old.notes.list)) t
-    by_event (event.Provision root) t bmc pch nv = try_kept accepts b (begun old) new held bmc pch nv root (is_off (standing_of bank.Bmc old.notes.list)) t
+    bmc_then : IsBankSize (size_of new.bmc)
+    bmc_then = bank_sized bank.Bmc (begun old) new m bmc
+
+    pch_then : IsBankSize (size_of new.pch)
+    pch_then = bank_sized bank.Pch (begun old) new m pch
+
+    nv_then : size_of new.nv ≡ 32768
+    nv_then = ap (λ (start : List ℕ). length start) m.nv.start ∙ nv
+
+    by_case : ((is_idle e (story_of old) ≡ true) × Follows ignored (begun old) new) ⊎ IsTakenBy accepts e old new → Stays (GoodRecovery accepts b) b (begun old) new
+    by_case (inl idle) = noted_kept accepts b (begun old) new held bmc_then pch_then nv_then ignored.first idle.1 (tt, tt)
+    by_case (inr on) = taken_kept accepts b (begun old) new held bmc_then pch_then nv_then e (story_of old) on.1

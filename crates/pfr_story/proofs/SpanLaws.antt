@@ -1,6 +1,6 @@
 -- How spans are kept, move by move.
 use Rattle.std.proofs.Common.{◌≡◌, ◌∙◌, ℕ, ◌≤◌, refl, sym, ap, subst, arith, List, [], ◌∷◌, ◌++◌, length, take, drop, All, append_assoc, ◌⊎◌, inl, inr, true, false, Bool, cond, length-append}
-use Rattle.std.proofs.lemmas.List.{append-nil, take-append-le, take_all, take-take, drop-append-le}
+use Rattle.std.proofs.lemmas.List.{append-nil, take-append-le, take_all, take-take, take-append-drop, drop-append-le}
 use Rattle.std.proofs.lemmas.List.Elements.{All-push}
 use Rattle.std.proofs.Math.ListN.{drop_of_length-le}
 use Rattle.pfr_flash.specs.Operation.{Operation, play, play_first}
@@ -10,20 +10,24 @@ use Rattle.pfr_flash.specs.declared.names.Bank.TheVariants as bank
 use Rattle.pfr_flash.specs.declared.names.Counts.{Counts}
 use Rattle.pfr_flash.specs.declared.names.Device.{Device}
 use Rattle.pfr_flash.specs.declared.names.Device.TheVariants as device
+use Rattle.pfr_flash.proofs.PlayLemmas.{play-append}
 use Rattle.pfr_engine.specs.Acceptance.{Acceptance}
 use Rattle.pfr_fuses.specs.FusesState.{FusesState}
 use Rattle.pfr_fuses.specs.RootSlot.{layout_of}
+use Rattle.pfr_fuses.specs.declared.root_slot.RootSlot.{RootSlot}
+use Rattle.pfr_fuses.proofs.StandsLemmas.{fuses_of-ok}
 use Rattle.pfr_manifest.specs.declared.manifest.Manifest.{Manifest}
 use Rattle.pfr_auth.specs.Leaving.{LeavesImage, LeavesStore}
-use Rattle.pfr_auth.specs.Throughout.{between}
-use Rattle.pfr_auth.specs.Trusted.{IsTrusted}
-use Rattle.pfr_auth.proofs.LeavingLaw.{trusted_between}
+use Rattle.pfr_auth.specs.Throughout.{IsTrustedBy, between}
+use Rattle.pfr_auth.specs.Trusted.{IsTrusted, StandFor}
+use Rattle.pfr_auth.proofs.LastingLaw.{store_lasts}
+use Rattle.pfr_auth.proofs.LeavingLaw.{left_store, trusted_between}
 use Rattle.pfr_report.specs.Texts.{IsNoted}
 use Rattle.pfr_report.specs.declared.note.Note.{Note}
 use Rattle.pfr_report.specs.declared.note.What.{What}
 use Rattle.pfr_report.specs.declared.note.What.TheVariants as what
 use Rattle.pfr_story.specs.Guards.{same_bank}
-use Rattle.pfr_story.specs.Story.{Past, Story, Says, Does, Asks, counts_of, past_at, device_of, with_op, operated, noted, image_at}
+use Rattle.pfr_story.specs.Story.{Past, Story, Says, Does, Asks, counts_of, past_at, device_of, with_op, operated, noted, image_of, image_at}
 use Rattle.pfr_story.specs.Safety.{Rule, Keeps}
 use Rattle.pfr_story.specs.Promises.{count_at}
 use Rattle.pfr_story.proofs.Traces.{IsStamped}
@@ -120,7 +124,7 @@ ended_push which opens (n ∷ notes) note =
     ap (λ (xs : List (Counts × Counts)). ended which n.what opens ++ xs) (ended_push which (opens_after which n.what opens) notes note)
     ∙ sym (append_assoc (ended which n.what opens) (ended_from which (opens_after which n.what opens) notes) _)
 
-same_one : (which b : Bank) → same_bank which b ≡ true → b ≡ which
+pub same_one : (which b : Bank) → same_bank which b ≡ true → b ≡ which
 same_one bank.Bmc bank.Bmc e = refl
 same_one bank.Bmc bank.Pch e = absurd cc
 same_one bank.Pch bank.Bmc e = absurd cc
@@ -248,7 +252,7 @@ module _ (accepts : Acceptance) (which : Bank) where
       ∙ drop-append-le begin ops (op ∷ []) (omega (arith, forth, h))
       ∙ ap (λ (xs : List Operation). drop begin xs ++ op ∷ []) (sym (take_all here ops (omega (arith, h))))
 
-  longer_upto : (past : Past) (op : Operation) (begin : ℕ) → begin ≤ length past.ops → past_upto (with_op past op) begin ≡ past_upto past begin
+  pub longer_upto : (past : Past) (op : Operation) (begin : ℕ) → begin ≤ length past.ops → past_upto (with_op past op) begin ≡ past_upto past begin
   longer_upto past op begin within = ap (λ (ops : List Operation). play past.start ops) (take-append-le begin past.ops (op ∷ []) within)
 
   grown_mine : (mine nv : Past) (op : Operation) (begin here there : Counts) → count_at which here ≡ length mine.ops → count_at which there ≡ length (with_op mine op).ops → there.nv ≡ here.nv
@@ -413,3 +417,50 @@ module _ (accepts : Acceptance) where
     opened = open_both _ _ _ (λ begin o s. record { kept = elsewhere accepts bank.Pch story.pch story.nv begin _ _ refl refl o.kept; settled = s.settled }) _ k.opened g;
   }
   Kept-moves which (Asks at) story g k = k
+
+-- ---- what a span that is open stands on
+play_between : (image : List ℕ) (ops : List Operation) (begin end : ℕ) → begin ≤ end → play (play_first begin image ops) (between begin end ops) ≡ play_first end image ops
+play_between image ops begin end forth =
+    sym (play-append image (take begin ops) (between begin end ops))
+    ∙ ap (λ (xs : List Operation). play image (xs ++ between begin end ops)) (sym (take-take begin end ops forth))
+    ∙ ap (λ (xs : List Operation). play image xs) (take-append-drop begin (take end ops))
+
+module _ (accepts : Acceptance) (which : Bank) (mine nv : Past) where
+  -- a bank that was trusted at a count is trusted now, by the same manifest and the same layout
+  pub record IsTrustedStill (begin : Counts) (t : IsTrustedAt accepts which mine nv begin) : Type 0 where
+    pub trusted : IsTrusted (image_of mine) (image_of nv) which accepts
+    pub manifest : trusted.manifest ≡ t.manifest
+    pub layout : layout_of trusted.fuses.provision which ≡ layout_of t.fuses.provision which
+
+  module _ (begin end : Counts) (same : count_at which end ≡ length mine.ops) (same_store : end.nv ≡ length nv.ops) (k : IsKept accepts which mine nv begin end) where
+    all_done : past_upto mine (count_at which end) ≡ image_of mine
+    all_done = ap (λ (ops : List Operation). play mine.start ops) (take_all (count_at which end) mine.ops (omega (arith, same)))
+
+    all_stored : past_upto nv end.nv ≡ image_of nv
+    all_stored = ap (λ (ops : List Operation). play nv.start ops) (take_all end.nv nv.ops (omega (arith, same_store)))
+
+    trusted_last : (t : IsTrustedAt accepts which mine nv begin) → IsTrustedBy t.manifest (image_of mine) (image_of nv) which accepts
+    trusted_last t =
+        let all = k.spared.each t in
+        let last = trusted_between accepts which mine.start nv.start mine.ops nv.ops (count_at which begin) (count_at which end) begin.nv end.nv t all.image all.store
+        (count_at which end) end.nv k.forth (omega arith) k.forth_store (omega arith) in
+        subst (λ (image : List ℕ). IsTrustedBy t.manifest image (image_of nv) which accepts) all_done
+        (subst (λ (store : List ℕ). IsTrustedBy t.manifest (past_upto mine (count_at which end)) store which accepts) all_stored last)
+
+    stands_still : (t : IsTrustedAt accepts which mine nv begin) → StandFor (image_of nv) t.fuses which
+    stands_still t =
+        let found = fuses_of-ok (past_upto nv begin.nv) t.fuses t.provisioned in
+        let left = left_store which t.fuses (past_upto nv begin.nv) (between begin.nv end.nv nv.ops) (ap (λ (f : FusesState). f.profile) found.2) (k.spared.each t).store in
+        subst (λ (store : List ℕ). StandFor store t.fuses which) (play_between nv.start nv.ops begin.nv end.nv k.forth_store ∙ all_stored)
+        (store_lasts which (past_upto nv begin.nv) _ t.fuses left t.provisioned)
+
+    pub still_trusted : (t : IsTrustedAt accepts which mine nv begin) → IsTrustedStill begin t
+    still_trusted t =
+        let last = trusted_last t in
+        let stands = stands_still t in
+        let same : last.0.fuses ≡ stands.all = (let here = last.0.provisioned in let was = stands.provisioned in cc) in
+        record {
+          trusted = last.0;
+          manifest = last.1;
+          layout = ap (λ (f : FusesState). layout_of f.provision which) same ∙ ap (λ (root : RootSlot). layout_of root which) (sym stands.provision);
+        }

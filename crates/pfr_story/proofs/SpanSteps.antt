@@ -1,7 +1,9 @@
 -- Each step keeps the spans.
-use Rattle.std.proofs.Common.{◌≡◌, ◌∙◌, ℕ, ◌+◌, refl, sym, ap, subst, List, [], ◌∷◌, length, ◌⊎◌, inl, inr, Result, Ok, Err, true, false, Bool}
+use Rattle.std.proofs.Common.{◌≡◌, ◌∙◌, ℕ, ◌+◌, ◌≤◌, refl, sym, ap, subst, arith, List, [], ◌∷◌, length, length-append, All, ◌⊎◌, inl, inr, Some, Result, Ok, Err, true, false, Bool}
 use Rattle.std.proofs.lemmas.Bool.{false≢true}
-use Rattle.pfr_flash.specs.Operation.{Operation, play}
+use Rattle.std.proofs.lemmas.List.Elements.{All-head, All-tail}
+use Rattle.pfr_flash.specs.Operation.{Operation, play, IsTorn}
+use Rattle.pfr_flash.specs.declared.layout.Layout.{Layout}
 use Rattle.pfr_flash.specs.declared.names.Bank.{Bank}
 use Rattle.pfr_flash.specs.declared.names.Bank.TheVariants as bank
 use Rattle.pfr_flash.specs.declared.names.Counts.{Counts}
@@ -19,29 +21,39 @@ use Rattle.pfr_fuses.specs.declared.fuse_fail.FuseFail.TheVariants.{AlreadyProvi
 use Rattle.pfr_fuses.specs.declared.profile.Profile.{Profile}
 use Rattle.pfr_fuses.specs.declared.profile.Profile.TheVariants.{One, Two}
 use Rattle.pfr_fuses.specs.declared.root_slot.RootSlot.{RootSlot}
+use Rattle.pfr_manifest.specs.declared.manifest.Manifest.{Manifest}
+use Rattle.pfr_manifest.proofs.ApartLaw.{LeavesTrusted}
+use Rattle.pfr_auth.specs.Trusted.{IsTrusted}
 use Rattle.pfr_capsule.specs.CapsuleState.{CapsuleState}
+use Rattle.pfr_filter.specs.Asking.{bus_ops}
+use Rattle.pfr_filter.specs.declared.verdict.BusOp.{BusOp}
+use Rattle.pfr_filter.specs.declared.verdict.Verdict.TheVariants.{Pass}
+use Rattle.pfr_filter.proofs.SafeLaws.{torn_leaves}
 use Rattle.pfr_script.specs.declared.event.Event.{Event}
 use Rattle.pfr_script.specs.declared.event.Event.TheVariants as event
 use Rattle.pfr_report.specs.declared.note.Note.{Note}
 use Rattle.pfr_report.specs.declared.note.What.{What}
 use Rattle.pfr_report.specs.declared.note.What.TheVariants as what
 use Rattle.pfr_story.specs.Guards.{same_bank}
-use Rattle.pfr_story.specs.Story.{Story, Move, Says, Does, Asks, after, moved_by, noted, operated, counts_of, device_of, called, says}
+use Rattle.pfr_story.specs.Story.{Past, Story, Move, Says, Does, Asks, after, moved_by, noted, with_op, operated, counts_of, past_at, image_of, device_of, called, says}
 use Rattle.pfr_story.specs.World.{World, story_of}
 use Rattle.pfr_story.specs.Safety.{Rule, AllGood, AllSafe, Keeps, Both, Leads}
 use Rattle.pfr_story.specs.Spans.{opens_after, opens_from}
-use Rattle.pfr_story.specs.Standing.{standing_of, is_off}
-use Rattle.pfr_story.specs.Plans.{mine, store, restore_ops, copied, restored, brought_up, migration_by, migration_in, migrated, provisioned_in, provisioned}
-use Rattle.pfr_story.specs.Course.{Follows}
-use Rattle.pfr_story.specs.Turn.{fault_of, bank_stretch, fuse_stretch, provision_stretch, where_off, ignored, off_course, power_course, provision_course, begun, Turn}
+use Rattle.pfr_story.specs.Promises.{count_at}
+use Rattle.pfr_story.specs.Plans.{mine, store, restore_ops, copied, restored, brought_up, migration_by, migration_in, migrated, provisioned_in, provisioned, Ruling, ruling, filtered, smbus_judged}
+use Rattle.pfr_story.specs.Course.{Stretch, Follows}
+use Rattle.pfr_story.specs.Turn.{fault_of, bank_stretch, fuse_stretch, provision_stretch, spi_stretch, ignored, off_course, power_course, taken, begun, Turn}
 use Rattle.pfr_story.proofs.WorldLaws.{AllMoved-refl}
 use Rattle.pfr_story.proofs.SafetyLaws.{AllSafe-append, Leads-then, safe_whole, safe_cut, kept_by, notes_operated, image_called}
 use Rattle.pfr_story.proofs.Traces.{Traced, Traced-keeps}
-use Rattle.pfr_story.proofs.StepTraces.{Between, AllowsLosses, IsGoodStretch, noted_along, power_along, provision_along}
+use Rattle.pfr_story.proofs.StepTraces.{Between, AllowsLosses, IsGoodStretch, noted_along, power_along, single_along}
+use Rattle.pfr_story.proofs.Courses.{Turn-cases}
+use Rattle.pfr_story.proofs.BusRules.{ruled, filtered_safe, calls_safe, smbus_safe}
+use Rattle.pfr_story.proofs.Rulings.{ruled_leaves}
 use Rattle.pfr_story.proofs.BringRules.{Any, ready_found, Walks, walk_safe}
 use Rattle.pfr_story.proofs.FuseLaws.{profile_migrated, profile_kept, provisioned_refused}
 use Rattle.pfr_story.specs.Keeping.{IsSettled}
-use Rattle.pfr_story.proofs.SpanLaws.{open_none, open_any, open_map, opens_push, IsOpen, Kept, SparesOpen, KeepsSpans, Kept-moves, none_or_settled}
+use Rattle.pfr_story.proofs.SpanLaws.{past_upto, LeavesBank, IsTrustedAt, AllOpen, open_none, open_any, open_map, opens_push, same_one, longer_upto, IsOpen, Kept, SparesOpen, KeepsSpans, Kept-moves, none_or_settled, IsTrustedStill, still_trusted}
 
 -- a store that can be read is of profile 2
 abbrev pub NotOne : List ℕ → Type 0
@@ -80,6 +92,59 @@ safe_first G H [] story p = tt
 safe_first G H (Says w ∷ moves) story p = (p.0.0, safe_first G H moves (moved_by (Says w) story) p.1)
 safe_first G H (Does at op ∷ moves) story p = ((p.0.0.0, λ done t. (p.0.1 done t).0), safe_first G H moves (moved_by (Does at op) story) p.1)
 safe_first G H (Asks at ∷ moves) story p = (p.0.0, safe_first G H moves (moved_by (Asks at) story) p.1)
+
+-- ---- a bank's own operations leave its open spans
+-- each of these operations leaves what the trust at the span's begin stands on
+record LeavesOpen (accepts : Acceptance) (which : Bank) (mine nv : Past) (ops : List Operation) (begin : Counts) : Type 0 where
+  within : count_at which begin ≤ length mine.ops
+  settled : IsSettled (image_of nv)
+  each : (t : IsTrustedAt accepts which mine nv begin) → All (LeavesTrusted t.manifest (layout_of t.fuses.provision which)) ops
+
+bank_left : (which : Bank) (fuses : FusesState) (m : Manifest) (op : Operation) → LeavesTrusted m (layout_of fuses.provision which) op → LeavesBank which fuses m op
+bank_left which fuses m op l = record { image = record { area = l.manifest; static = l.static }; recovery = l.recovery }
+
+module _ (accepts : Acceptance) (which : Bank) (mine nv : Past) (op : Operation) (ops : List Operation) (begin : Counts) (l : LeavesOpen accepts which mine nv (op ∷ ops) begin) where
+  first_leaves : (t : IsTrustedAt accepts which mine nv begin) → LeavesTrusted t.manifest (layout_of t.fuses.provision which) op
+  first_leaves t = All-head (LeavesTrusted t.manifest (layout_of t.fuses.provision which)) op ops (l.each t)
+
+  one_leaves : (t : IsTrustedAt accepts which mine nv begin) → LeavesBank which t.fuses t.manifest op
+  one_leaves t = bank_left which t.fuses t.manifest op (first_leaves t)
+
+  torn_one_leaves : (image : List ℕ) (done : Operation) → IsTorn image op done → (t : IsTrustedAt accepts which mine nv begin) → LeavesBank which t.fuses t.manifest done
+  torn_one_leaves image done torn t = bank_left which t.fuses t.manifest done (torn_leaves t.manifest (layout_of t.fuses.provision which) image op done torn (first_leaves t))
+
+  rest_leave : LeavesOpen accepts which (with_op mine op) nv ops begin
+  rest_leave = record {
+    within = omega (arith, l.within, length-append mine.ops (op ∷ []));
+    settled = l.settled;
+    each = subst (λ (image : List ℕ). (t : IsTrusted image (past_upto nv begin.nv) which accepts) → All (LeavesTrusted t.manifest (layout_of t.fuses.provision which)) ops)
+        (sym (longer_upto accepts which mine op (count_at which begin) l.within))
+        (λ t. All-tail (LeavesTrusted t.manifest (layout_of t.fuses.provision which)) op ops (l.each t));
+  }
+
+counts_here : (which : Bank) (story : Story) → count_at which (counts_of story) ≡ length (past_at (device_of which) story).ops
+counts_here bank.Bmc story = refl
+counts_here bank.Pch story = refl
+
+abbrev AllLeaveOpen : Acceptance → Bank → List Operation → Story → Type 0
+AllLeaveOpen accepts which ops story = AllOpen (LeavesOpen accepts which (past_at (device_of which) story) story.nv ops) (opens_from which [] story.notes)
+
+own_safe : (accepts : Acceptance) (which : Bank) (ops : List Operation) (story : Story) → AllLeaveOpen accepts which ops story → AllSafe (KeepsSpans accepts which) (called (device_of which) ops) story
+own_safe accepts which [] story all = (tt, tt)
+own_safe accepts bank.Bmc (op ∷ ops) story all = (
+  (
+    open_map _ _ (λ begin l. record { spares = one_leaves accepts bank.Bmc story.bmc story.nv op ops begin l; settled = l.settled }) (opens_from bank.Bmc [] story.notes) all,
+    λ done torn. open_map _ _ (λ begin l. record { spares = torn_one_leaves accepts bank.Bmc story.bmc story.nv op ops begin l _ done torn; settled = l.settled }) (opens_from bank.Bmc [] story.notes) all,
+  ),
+  own_safe accepts bank.Bmc ops (operated device.Bmc op story) (open_map _ _ (λ begin l. rest_leave accepts bank.Bmc story.bmc story.nv op ops begin l) (opens_from bank.Bmc [] story.notes) all),
+)
+own_safe accepts bank.Pch (op ∷ ops) story all = (
+  (
+    open_map _ _ (λ begin l. record { spares = one_leaves accepts bank.Pch story.pch story.nv op ops begin l; settled = l.settled }) (opens_from bank.Pch [] story.notes) all,
+    λ done torn. open_map _ _ (λ begin l. record { spares = torn_one_leaves accepts bank.Pch story.pch story.nv op ops begin l _ done torn; settled = l.settled }) (opens_from bank.Pch [] story.notes) all,
+  ),
+  own_safe accepts bank.Pch ops (operated device.Pch op story) (open_map _ _ (λ begin l. rest_leave accepts bank.Pch story.pch story.nv op ops begin l) (opens_from bank.Pch [] story.notes) all),
+)
 
 module _ (accepts : Acceptance) (which : Bank) where
   -- calls where no span is open
@@ -176,6 +241,43 @@ module _ (accepts : Acceptance) (which : Bank) where
     brought_safe story two =
         walk_safe InWork accepts b IsIdle (λ fuses there. AtWork b there) (λ fuses cause there. AtWork b there) (λ fuses there. AtWork b there) span_walks story ((refl, tt), tt) (held_idle which b story, two)
 
+  -- ---- a frame on the SPI bus of a bank
+  -- what passes on the bank's own bus is judged by what each open span that began with trust is trusted by
+  ruled_open : (frame : List ℕ) (r : Ruling) (op : BusOp) (story : Story) → ruling accepts which story ≡ Some r → ruled which frame r story ≡ Pass op
+      → (begin : Counts) → IsOpen accepts which story begin → LeavesOpen accepts which (past_at (device_of which) story) story.nv (bus_ops op) begin
+  ruled_open frame r op story found passed begin o =
+      let mine : Past = past_at (device_of which) story in
+      let counts = counts_here which story in
+      let still : (t : IsTrustedAt accepts which mine story.nv begin) → IsTrustedStill accepts which mine story.nv begin t =
+      λ t. still_trusted accepts which mine story.nv begin (counts_of story) counts refl o.kept t in
+      record {
+        within = omega (arith, o.kept.forth, counts);
+        settled = o.settled;
+        each = λ t.
+            let now = still t in
+            subst (λ (m : Manifest). All (LeavesTrusted m (layout_of t.fuses.provision which)) (bus_ops op)) now.manifest
+            (subst (λ (layout : Layout). All (LeavesTrusted now.trusted.manifest layout) (bus_ops op)) now.layout (ruled_leaves accepts which story frame r op found passed now.trusted));
+      }
+
+  frame_safe : (b : Bank) (frame : List ℕ) (r : Ruling) (op : BusOp) (story : Story) → Kept accepts which story → ruling accepts b story ≡ Some r → ruled b frame r story ≡ Pass op
+      → (same : Bool) → same_bank which b ≡ same → AllSafe (KeepsSpans accepts which) (called (device_of b) (bus_ops op)) story
+  frame_safe b frame r op story k found passed true e =
+      let is : b ≡ which = same_one which b e in
+      let leaves = open_map _ _ (ruled_open frame r op story (subst (λ (x : Bank). ruling accepts x story ≡ Some r) is found) (subst (λ (x : Bank). ruled x frame r story ≡ Pass op) is passed))
+      (opens_from which [] story.notes) k.opened in
+      subst (λ (x : Bank). AllSafe (KeepsSpans accepts which) (called (device_of x) (bus_ops op)) story) (sym is) (own_safe accepts which (bus_ops op) story leaves)
+  frame_safe b frame r op story k found passed false e = elim (none_or_settled accepts which story k) [
+    | inl none ↦ idle_safe (device_of b) (bus_ops op) story none
+    | inr q ↦ safe_first (KeepsSpans accepts which) LeavesNv (called (device_of b) (bus_ops op)) story (ops_safe b (bus_ops op) story (record { idle = inr e; settled = q }))
+  ]
+
+  passing_safe : (b : Bank) (frame : List ℕ) (story : Story) → Kept accepts which story → AllSafe (KeepsSpans accepts which) (filtered accepts b frame story) story
+  passing_safe b frame story k = filtered_safe (KeepsSpans accepts which) accepts b frame story (record {
+    blocked = λ cause. (tt, tt);
+    calls = λ r op found passed. calls_safe (KeepsSpans accepts which) b op story (frame_safe b frame r op story k found passed (same_bank which b) refl);
+    passed = λ r op found passed. (tt, tt);
+  })
+
   -- ---- the stretches
   -- the spans are kept, before the fuses are read, and behind that
   record Early (story : Story) : Type 0 where
@@ -253,6 +355,13 @@ module _ (accepts : Acceptance) (which : Bank) where
       on = λ at story trace p cut e. absurd (false≢true e);
     }
 
+    spi_kept : (b : Bank) (frame : List ℕ) → IsGoodStretch (KeepsSpans accepts which) first last Any Early (spi_stretch accepts b frame) Any
+    spi_kept b frame = record {
+      plan = record { safe = λ story p. passing_safe b frame story p.1.kept; ends = λ story p. tt };
+      noted = λ at story trace p cut rose. ((refl, tt), ((refl, tt), tt));
+      on = λ at story trace p cut e. tt;
+    }
+
   -- ---- a whole step
   module _ (old new : World) where
     within : Between (begun old) new (begun old) new
@@ -265,13 +374,9 @@ module _ (accepts : Acceptance) (which : Bank) where
         → Traced (KeepsSpans accepts which) (begun old) new
     noted_kept moves t good = noted_along (KeepsSpans accepts which) (begun old) new Any (λ w moved. tt) allows (begun old) new within moves t good
 
-    off_kept : (off : Bool) → Follows (where_off off ignored off_course) (begun old) new → Traced (KeepsSpans accepts which) (begun old) new
-    off_kept true t = noted_kept ignored.first t ((tt, tt), tt)
-    off_kept false t = noted_kept off_course.first t ((refl, tt), tt)
-
-    try_kept : (root : RootSlot) (off : Bool) → Early (story_of (begun old)) → Follows (where_off off ignored (provision_course root)) (begun old) new → Traced (KeepsSpans accepts which) (begun old) new
-    try_kept root true p t = noted_kept ignored.first t ((tt, tt), tt)
-    try_kept root false p t = provision_along (KeepsSpans accepts which) (begun old) new Any (λ w moved. tt) allows (begun old) new within root Early Any (provision_kept (begun old) new root) p t
+    single_kept : (stretch : Stretch) → IsGoodStretch (KeepsSpans accepts which) (begun old) new Any Early stretch Any → Early (story_of (begun old))
+        → Follows (record { first = []; stretches = stretch ∷ [] }) (begun old) new → Traced (KeepsSpans accepts which) (begun old) new
+    single_kept stretch good p t = single_along (KeepsSpans accepts which) (begun old) new Any (λ w moved. tt) allows (begun old) new within stretch Early Any good p t
 
     power_kept : Early (story_of (begun old)) → Follows (power_course accepts) (begun old) new → Traced (KeepsSpans accepts which) (begun old) new
     power_kept p t =
@@ -279,10 +384,21 @@ module _ (accepts : Acceptance) (which : Bank) where
         (fuse_kept (begun old) new) (bank_kept (begun old) new bank.Bmc) (bank_kept (begun old) new bank.Pch) (tt, tt)
         (record { kept = Kept-moves accepts which (Says (λ _. what.Power)) (story_of (begun old)) (tt, tt) p.kept; size = p.size }) t
 
+    taken_kept : (e : Event) → Early (story_of (begun old)) → Follows (taken accepts e (story_of old)) (begun old) new → Traced (KeepsSpans accepts which) (begun old) new
+    taken_kept event.Power p t = power_kept p t
+    taken_kept event.Off p t = noted_kept off_course.first t ((refl, tt), tt)
+    taken_kept (event.Provision root) p t = single_kept (provision_stretch root) (provision_kept (begun old) new root) p t
+    taken_kept (event.Spi b frame) p t = single_kept (spi_stretch accepts b frame) (spi_kept (begun old) new b frame) p t
+    taken_kept (event.Smbus b frame) p t =
+        let moves : List Move = smbus_judged accepts b frame (story_of old) in
+        noted_kept moves t (safe_whole (KeepsSpans accepts which) moves (story_of (begun old))
+        (smbus_safe (KeepsSpans accepts which) accepts b frame (record { passed = λ story. (tt, tt); blocked = λ cause story. (tt, tt) }) (story_of old) (story_of (begun old))))
+
     Turn-early : (e : Event) → Early (story_of (begun old)) → Turn accepts e old new → Traced (KeepsSpans accepts which) (begun old) new
-    Turn-early event.Power p t = power_kept p t
-    Turn-early event.Off p t = off_kept (is_off (standing_of bank.Bmc old.notes.list)) t
-    Turn-early (event.Provision root) p t = try_kept root (is_off (standing_of bank.Bmc old.notes.list)) p t
+    Turn-early e p t = elim (Turn-cases accepts e old new t) [
+      | inl idle ↦ noted_kept ignored.first idle.1 ((tt, tt), tt)
+      | inr on ↦ taken_kept e p on.1
+    ]
 
 -- the number of the item says nothing of spans
 pub Kept-item : (accepts : Acceptance) (which : Bank) (n : ℕ) (story : Story) → Kept accepts which story → Kept accepts which (record story { item = n })

@@ -1,5 +1,5 @@
 -- What a step does to the store.
-use Rattle.std.proofs.Common.{◌≡◌, refl, sym, ap, subst, ℕ, Bool, true, false, List, [], ◌∷◌, ◌++◌, length, Result, Ok, Err, None}
+use Rattle.std.proofs.Common.{◌≡◌, refl, sym, ap, subst, ℕ, List, [], ◌∷◌, ◌++◌, length, inl, inr, Result, Ok, Err}
 use Rattle.std.proofs.lemmas.List.{append-nil}
 use Rattle.pfr_flash.specs.Operation.{Operation}
 use Rattle.pfr_flash.specs.Plan.{IsPart}
@@ -15,16 +15,18 @@ use Rattle.pfr_fuses.specs.declared.root_slot.RootSlot.{RootSlot}
 use Rattle.pfr_script.specs.declared.event.Event.{Event}
 use Rattle.pfr_script.specs.declared.event.Event.TheVariants as event
 use Rattle.pfr_report.specs.declared.note.What.TheVariants as what
-use Rattle.pfr_story.specs.Story.{Past, Story, Says, Does, Asks, after, with_op, image_of, device_of, all_do, called}
+use Rattle.pfr_story.specs.Story.{Past, Story, Move, Says, Does, Asks, after, with_op, image_of, device_of, all_do, called}
 use Rattle.pfr_story.specs.World.{World, past_of, story_of}
-use Rattle.pfr_story.specs.Safety.{Rule, AllSafe, Keeps}
+use Rattle.pfr_story.specs.Safety.{Rule, AllGood, AllSafe, Keeps}
 use Rattle.pfr_story.specs.Plans.{store, migration_in, provisioned_in}
 use Rattle.pfr_story.specs.Course.{Follows}
-use Rattle.pfr_story.specs.Standing.{standing_of, is_off}
-use Rattle.pfr_story.specs.Turn.{off_course, ignored, provision_course, where_off, begun, Turn}
+use Rattle.pfr_story.specs.Turn.{off_course, ignored, taken, begun, Turn}
 use Rattle.pfr_story.proofs.SafetyLaws.{AllSafe-append, past_did, called_safe}
 use Rattle.pfr_story.proofs.Traces.{Traced, Traced-keeps}
-use Rattle.pfr_story.proofs.StepTraces.{AllowsBanks, noted_good, power_good, provision_traced}
+use Rattle.pfr_story.proofs.StepTraces.{AllowsBanks, noted_good, power_good, provision_traced, spi_traced, smbus_traced}
+use Rattle.pfr_story.proofs.Courses.{Turn-cases}
+use Rattle.pfr_story.proofs.BringRules.{Any}
+use Rattle.pfr_story.proofs.BusRules.{AllowsSpi, spi_safe, smbus_safe}
 
 -- the store did these operations, or a front of them, the last perhaps torn
 pub record Stored (plan : List Operation) (old new : Past) : Type 0 where
@@ -33,7 +35,7 @@ pub record Stored (plan : List Operation) (old new : Past) : Type 0 where
   pub is : new.ops ≡ old.ops ++ added
   pub part : IsPart (image_of old) plan added
 
-Stored-none : (plan : List Operation) (old : Past) → Stored plan old old
+pub Stored-none : (plan : List Operation) (old : Past) → Stored plan old old
 Stored-none plan old = record { start = refl; added = []; is = sym (append-nil old.ops); part = IsPart-none (image_of old) plan }
 
 -- each operation of the store leaves it so
@@ -70,6 +72,9 @@ module _ (plan : List Operation) (base : Past) where
     lost = λ which story. tt;
   }
 
+  storing_spi : (b : Bank) → AllowsSpi (Storing plan base) b
+  storing_spi b = record { passed = λ op story. tt; blocked = λ cause story. tt; asks = λ story. tt; works = λ op story. works b op story }
+
   call_stores : (ops : List Operation) (story : Story) → ops ≡ plan → story.nv ≡ base → AllSafe (Storing plan base) (called device.Nv ops) story
   call_stores ops story e f =
       subst (λ (p : List Operation). AllSafe (Storing p base) (called device.Nv ops) story) e (subst (λ (b : Past). AllSafe (Storing ops b) (called device.Nv ops) story) f here)
@@ -99,6 +104,8 @@ abbrev pub store_plan : Event → Story → List Operation
 store_plan event.Power story = migration_in (fuses_of (store story))
 store_plan event.Off story = []
 store_plan (event.Provision root) story = operations_in root (judged_here root story)
+store_plan (event.Spi which frame) story = []
+store_plan (event.Smbus which frame) story = []
 
 provision_stores : (plan : List Operation) (base : Past) (root : RootSlot) (r : Result ℕ FuseFail) (story : Story) → operations_in root r ≡ plan → story.nv ≡ base
     → AllSafe (Storing plan base) (provisioned_in root r story) story
@@ -107,33 +114,38 @@ provision_stores plan base root (Ok number) story e f =
     (call_stores plan base (provision_plan number root) story e f) (tt, tt)
 provision_stores plan base root (Err cause) story e f = (tt, tt)
 
+module _ (accepts : Acceptance) (old new : World) where
+  abbrev base : Past
+  base = past_of old.nv
+
+  -- the trace of a step from its begin
+  step_stored : (plan : List Operation) → Traced (Storing plan base) (begun old) new → Stored plan base (past_of new.nv)
+  step_stored plan t = stored_traced plan base (begun old) new t refl
+
+  noted_stored : (plan : List Operation) (moves : List Move) → Follows (record { first = moves; stretches = [] }) (begun old) new → AllGood (Storing plan base) moves (story_of (begun old)) → Stored plan base (past_of new.nv)
+  noted_stored plan moves t good = step_stored plan (noted_good (Storing plan base) (storing_banks plan base) (begun old) new moves t good)
+
+  taken_stored : (e : Event) → Follows (taken accepts e (story_of old)) (begun old) new → Stored (store_plan e (story_of old)) base (past_of new.nv)
+  taken_stored event.Power t =
+      let plan : List Operation = migration_in (fuses_of (image_of base)) in
+      step_stored plan
+      (power_good (Storing plan base) (storing_banks plan base) (λ story. story.nv ≡ base) accepts (begun old) new
+      (λ story e. (tt, call_stores plan base (migration_in (fuses_of (store story))) story (ap (λ (p : Past). migration_in (fuses_of (image_of p))) e) e)) tt refl t)
+  taken_stored event.Off t = noted_stored [] off_course.first t (tt, tt)
+  taken_stored (event.Provision root) t =
+      let plan : List Operation = operations_in root (judged_here root (story_of old)) in
+      step_stored plan
+      (provision_traced (Storing plan base) (storing_banks plan base) (λ story. story ≡ story_of (begun old)) root (begun old) new
+      (λ story e. (tt, provision_stores plan base root (judged_here root story) story (ap (λ (s : Story). operations_in root (judged_here root s)) e) (ap (λ (s : Story). s.nv) e))) refl t)
+  taken_stored (event.Spi b frame) t =
+      step_stored [] (spi_traced (Storing [] base) (storing_banks [] base) Any accepts b frame (begun old) new (λ story p. spi_safe (Storing [] base) accepts b frame (storing_spi [] base b) story) tt t)
+  taken_stored (event.Smbus b frame) t =
+      step_stored [] (smbus_traced (Storing [] base) (storing_banks [] base) accepts b frame (story_of old) (begun old) new
+      (smbus_safe (Storing [] base) accepts b frame (record { passed = λ story. tt; blocked = λ cause story. tt }) (story_of old) (story_of (begun old))) t)
+
 -- What a step does to the store: its plan, or a front of it.
 pub Turn-stored : (accepts : Acceptance) (e : Event) (old new : World) → Turn accepts e old new → Stored (store_plan e (story_of old)) (past_of old.nv) (past_of new.nv)
-Turn-stored accepts event.Power old new t =
-    let base : Past = past_of old.nv in
-    let plan : List Operation = migration_in (fuses_of (image_of base)) in
-    stored_traced plan base (begun old) new
-    (power_good (Storing plan base) (storing_banks plan base) (λ story. story.nv ≡ base) accepts (begun old) new
-    (λ story e. (tt, call_stores plan base (migration_in (fuses_of (store story))) story (ap (λ (p : Past). migration_in (fuses_of (image_of p))) e) e)) tt refl t) refl
-Turn-stored accepts event.Off old new t = by_off (is_off (standing_of bank.Bmc old.notes.list)) t
-  where
-    base : Past
-    base = past_of old.nv
-
-    by_off : (b : Bool) → Follows (where_off b ignored off_course) (begun old) new → Stored [] base (past_of new.nv)
-    by_off true t = stored_traced [] base (begun old) new (noted_good (Storing [] base) (storing_banks [] base) (begun old) new (Says (λ _. what.Ignored) ∷ []) t (tt, tt)) refl
-    by_off false t = stored_traced [] base (begun old) new (noted_good (Storing [] base) (storing_banks [] base) (begun old) new (Says (what.Lost None) ∷ []) t (tt, tt)) refl
-Turn-stored accepts (event.Provision root) old new t = by_off (is_off (standing_of bank.Bmc old.notes.list)) t
-  where
-    base : Past
-    base = past_of old.nv
-
-    plan : List Operation
-    plan = operations_in root (judged_here root (story_of old))
-
-    by_off : (b : Bool) → Follows (where_off b ignored (provision_course root)) (begun old) new → Stored plan base (past_of new.nv)
-    by_off true t = stored_traced plan base (begun old) new (noted_good (Storing plan base) (storing_banks plan base) (begun old) new (Says (λ _. what.Ignored) ∷ []) t (tt, tt)) refl
-    by_off false t =
-        stored_traced plan base (begun old) new
-        (provision_traced (Storing plan base) (storing_banks plan base) (λ story. story ≡ story_of (begun old)) root (begun old) new
-        (λ story e. (tt, provision_stores plan base root (judged_here root story) story (ap (λ (s : Story). operations_in root (judged_here root s)) e) (ap (λ (s : Story). s.nv) e))) refl t) refl
+Turn-stored accepts e old new t = elim (Turn-cases accepts e old new t) [
+  | inl idle ↦ noted_stored accepts old new (store_plan e (story_of old)) ignored.first idle.1 (tt, tt)
+  | inr on ↦ taken_stored accepts old new e on.1
+]

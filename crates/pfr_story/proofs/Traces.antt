@@ -14,7 +14,7 @@ use Rattle.pfr_report.specs.Texts.{IsNoted}
 use Rattle.pfr_report.specs.declared.note.Note.{Note}
 use Rattle.pfr_report.specs.declared.note.What.{What}
 use Rattle.pfr_report.specs.declared.note.What.TheVariants as what
-use Rattle.pfr_story.specs.Story.{Past, Story, Move, Says, Does, Asks, after, moved_by, noted, with_op, operated, counts_of, image_at, image_of, called}
+use Rattle.pfr_story.specs.Story.{Past, Story, Move, Says, Does, Asks, after, moved_by, noted, with_op, operated, counts_of, past_at, image_at, image_of, called}
 use Rattle.pfr_story.specs.World.{World, past_of, story_of, AllMoved, added}
 use Rattle.pfr_story.specs.Goes.{Ran, Stopped}
 use Rattle.pfr_story.specs.Safety.{Rule, AllGood, AllSafe, Keeps}
@@ -72,6 +72,11 @@ Begins-op a b op p = record {
   more = p.more ++ op ∷ [];
   ops = ap (λ (ops : List Operation). ops ++ op ∷ []) p.ops ∙ append_assoc a.ops p.more (op ∷ []);
 }
+
+pub begins_at : (d : Device) (a b : Story) → Precedes a b → Begins (past_at d a) (past_at d b)
+begins_at device.Bmc a b p = p.bmc
+begins_at device.Pch a b p = p.pch
+begins_at device.Nv a b p = p.nv
 
 pub Precedes-refl : (a : Story) → Precedes a a
 Precedes-refl a = record { bmc = Begins-refl a.bmc; pch = Begins-refl a.pch; nv = Begins-refl a.nv }
