@@ -10,10 +10,7 @@ use Rattle.pfr_flash.specs.declared.layout.Layout.{Layout}
 use Rattle.pfr_flash.specs.declared.names.Bank.{Bank}
 use Rattle.pfr_flash.specs.declared.names.Bank.TheVariants as bank
 use Rattle.pfr_engine.specs.Acceptance.{Acceptance}
-use Rattle.pfr_fuses.specs.FusesOf.{fuses_of}
-use Rattle.pfr_fuses.specs.FusesState.{FusesState}
 use Rattle.pfr_fuses.specs.RootSlot.{layout_of}
-use Rattle.pfr_fuses.specs.declared.fuse_fail.FuseFail.{FuseFail}
 use Rattle.pfr_manifest.specs.declared.manifest.Manifest.{Manifest}
 use Rattle.pfr_filter.specs.Asking.{bus_ops, latched}
 use Rattle.pfr_filter.specs.Frames.{bus_plan, verdict_on}
@@ -22,10 +19,7 @@ use Rattle.pfr_filter.specs.declared.verdict.BusOp.{BusOp}
 use Rattle.pfr_filter.specs.declared.verdict.BusOp.TheVariants.{Read, Status, Id, WriteEnable, WriteDisable, Program, Erase}
 use Rattle.pfr_filter.specs.declared.verdict.Verdict.{Verdict}
 use Rattle.pfr_filter.specs.declared.verdict.Verdict.TheVariants.{Pass, Block}
-use Rattle.pfr_auth.specs.Judge.{judge_active}
 use Rattle.pfr_auth.specs.Trusted.{IsTrusted}
-use Rattle.pfr_auth.specs.declared.fail.ActiveFail.{ActiveFail}
-use Rattle.pfr_auth.proofs.TrustedLaw.{trusted_judged}
 use Rattle.pfr_bank.specs.Seats.{RunningState, latch_left}
 use Rattle.pfr_bank.specs.Spelling.{StillSpells}
 use Rattle.pfr_bank.proofs.SpellingLaw.{spells_trusted}
@@ -38,7 +32,7 @@ use Rattle.pfr_report.specs.declared.note.What.TheVariants.{Held, Locked, Lost, 
 use Rattle.pfr_story.specs.Course.{Follows, Steps, lost}
 use Rattle.pfr_story.specs.Goes.{Goes, Ran, Stopped}
 use Rattle.pfr_story.specs.Guards.{guard_at}
-use Rattle.pfr_story.specs.Plans.{Ruling, bus_calls, by_ruling, by_verdict, filtered, judge_smbus, judged_active, ruling, ruling_by, ruling_with, smbus_by, smbus_judged, smbus_note}
+use Rattle.pfr_story.specs.Plans.{Ruling, bus_calls, by_ruling, by_verdict, filtered, judge_smbus, mine, ruling, smbus_by, smbus_judged, smbus_note}
 use Rattle.pfr_story.specs.Standing as standing
 use Rattle.pfr_story.specs.Standing.{Standing, standing_after, standing_by, standing_of}
 use Rattle.pfr_story.specs.Story.{Move, Says, device_of, other_bank, says}
@@ -47,6 +41,7 @@ use Rattle.pfr_story.specs.World.{World, IsDark, counts_in, state_at, story_of}
 use Rattle.pfr_story.specs.declared.line.Line.TheVariants as line
 use Rattle.pfr_story.proofs.Courses.{Steps-ended}
 use Rattle.pfr_story.proofs.Lift.{at_device}
+use Rattle.pfr_story.proofs.Rulings.{trusted_ruling}
 use Rattle.pfr_story.proofs.Sequence.{Ran-append, Ran-refl, Stopped-first}
 use Rattle.pfr_machine.specs.Buses.{IsBus, bus_sides, bus_world, verdict_stretch}
 use Rattle.pfr_machine.specs.Inside.{AreBeside, AreOwned, AreSides, IsLaid, IsSeat, IsWhole, darkened}
@@ -64,27 +59,27 @@ use Rattle.pfr_machine.proofs.StandLemmas.{leaves_on, leaves_standing, lost_leav
 use Rattle.pfr_machine.proofs.WorldLemmas.{AddsNotes-most, AddsNotes-then, board_noted, board_stays, noted_ran, seat_noted, seat_stays}
 
 -- ---- what a bank that runs is ruled by
-module _ (accepts : Acceptance) (b : Bank) (w : World) (t : IsTrusted (now (state_at (device_of b) w)) (now w.nv) b accepts) where
-  judged_so : judged_active accepts b t.fuses (story_of w) ≡ Ok t.manifest
-  judged_so = ap (λ (image : List ℕ). judge_active image b t.fuses accepts) (image_now b w) ∙ trusted_judged (now (state_at (device_of b) w)) (now w.nv) b accepts t
+pub trusted_mine : (accepts : Acceptance) (b : Bank) (w : World) → IsTrusted (now (state_at (device_of b) w)) (now w.nv) b accepts → IsTrusted (mine b (story_of w)) (now w.nv) b accepts
+trusted_mine accepts bank.Bmc w t = t
+trusted_mine accepts bank.Pch w t = t
 
-  ruling_so : ruling accepts b (story_of w) ≡ Some (record { manifest = t.manifest; layout = layout_of t.fuses.provision b })
-  ruling_so =
-      ap (λ (found : Result FusesState FuseFail). ruling_with accepts b (story_of w) found) t.provisioned
-      ∙ ap (λ (judged : Result Manifest ActiveFail). ruling_by b t.fuses judged) judged_so
+-- it is what it was judged by
+module _ (accepts : Acceptance) (b : Bank) (w : World) (trusted : IsTrusted (now (state_at (device_of b) w)) (now w.nv) b accepts) where
+  abbrev here : IsTrusted (mine b (story_of w)) (now w.nv) b accepts
+  here = trusted_mine accepts b w trusted
 
-  -- it is the one that it was judged by
   module _ (m : Manifest) (layout : Layout) (spells : StillSpells (now (state_at (device_of b) w)) m layout) (laid : IsLaid b layout (now w.nv)) where
-    same_layout : layout_of t.fuses.provision b ≡ layout
-    same_layout = fuses_laid b layout (now w.nv) t.fuses t.provisioned laid
+    same_layout : layout_of here.fuses.provision b ≡ layout
+    same_layout = fuses_laid b layout (now w.nv) here.fuses here.provisioned laid
 
-    same_manifest : t.manifest ≡ m
-    same_manifest = spells_trusted (now (state_at (device_of b) w)) (now w.nv) b accepts m layout spells t same_layout
+    same_manifest : here.manifest ≡ m
+    same_manifest =
+        spells_trusted (mine b (story_of w)) (now w.nv) b accepts m layout (subst (λ (image : List ℕ). StillSpells image m layout) (sym (image_now b w)) spells) here same_layout
 
     ruled : ruling accepts b (story_of w) ≡ Some (record { manifest = m; layout = layout })
     ruled =
         let with_both : Manifest → Layout → Option Ruling = λ manifest at. Some (record { manifest = manifest; layout = at }) in
-        ruling_so ∙ (ap (λ (x : Manifest). with_both x (layout_of t.fuses.provision b)) same_manifest ∙ ap (λ (x : Layout). with_both m x) same_layout)
+        trusted_ruling accepts b (story_of w) here ∙ (ap (λ (x : Manifest). with_both x (layout_of here.fuses.provision b)) same_manifest ∙ ap (λ (x : Layout). with_both m x) same_layout)
 
     pub filtered_so : (frame : List ℕ) (latch : Bool) → (guard_at b w.guards).latch ≡ latch
         → filtered accepts b frame (story_of w) ≡ by_verdict b (verdict_on frame m layout (size_of (state_at (device_of b) w)) latch) (story_of w)
