@@ -1,8 +1,8 @@
 -- What a platform carries of its banks' spans, from step to step.
 use Rattle.std.proofs.Common.{◌≡◌, ◌∙◌, ℕ, ◌≤◌, refl, sym, ap, subst, arith, List, [], ◌∷◌, ◌++◌, length, take, Bool, true, false, cond, ◌⊎◌, inl, inr, append_assoc}
-use Rattle.std.proofs.lemmas.List.{take-append-le, take_all}
+use Rattle.std.proofs.lemmas.List.{take-append-le}
 use Rattle.pfr_flash.specs.FlashState.{now}
-use Rattle.pfr_flash.specs.Operation.{Operation, play, play_first}
+use Rattle.pfr_flash.specs.Operation.{Operation, play}
 use Rattle.pfr_flash.specs.declared.names.Bank.{Bank}
 use Rattle.pfr_flash.specs.declared.names.Bank.TheVariants as bank
 use Rattle.pfr_flash.specs.declared.names.Counts.{Counts}
