@@ -1,16 +1,29 @@
 // What watches over the boots of the banks' processors.
-ghost use Rattle.std.specs.Prelude.{◌≡◌};
+ghost use Rattle.std.specs.Prelude.{◌≡◌, ◌&&◌, if◌then◌else◌};
 ghost use Rattle.pfr_story.specs.Guards.{first_watches, watch_after, watches_after};
+ghost use Rattle.pfr_watch.specs.Watching.{expires, passed, ticked};
 
 use pfr_flash::Bank;
 use pfr_report::What;
-use pfr_watch::Watch;
+use pfr_watch::{Stage, Watch};
 
 /// The watches over the boots of both banks' processors.
 #[derive(Clone, Copy, Debug, PartialEq, Eq)]
 pub struct Watches {
     pub bmc: Watch,
     pub pch: Watch,
+}
+
+// The stage was passed. A boot that is done stays so.
+fn pass(watch: &mut Watch)
+    ensures { watch.new ≡ passed watch.old }
+{
+    if watch.stage == Stage::Done {
+        watch.left = 0;
+        watch.recoveries = 0;
+    } else {
+        watch.pass();
+    }
 }
 
 // What a note does to the watch of this bank.
@@ -23,9 +36,27 @@ fn note(watch: &mut Watch, which: Bank, what: &What)
                 watch.restart(which);
             }
         }
+        What::Passed { bank, .. } | What::Booted { bank } => {
+            if *bank == which {
+                pass(watch);
+            }
+        }
+        What::Expired { bank, level } => {
+            if *bank == which {
+                watch.recoveries = *level;
+            }
+        }
         What::Power => watch.recoveries = 0,
         _ => {}
     }
+}
+
+// Counts ticks by the watch of a bank that runs, and answers whether it expires by them.
+fn tick(watch: &mut Watch, n: u16, runs: bool) -> bool
+    ensures due { result ≡ (runs && expires watch.old n) }
+    ensures ticked { watch.new ≡ (if runs then ticked watch.old n else watch.old) }
+{
+    runs && watch.tick(n)
 }
 
 impl Watches {
@@ -39,11 +70,24 @@ impl Watches {
         }
     }
 
-    /// What a note does to the watches: a release begins the boot's watch again, and a power-on forgets the recoveries.
+    /// What a note does to the watches: a release begins the boot's watch again, a stage that is passed takes it to the next
+    /// one, an expiry tells the recoveries, and a power-on forgets them.
     pub fn note(&mut self, what: &What)
         ensures { self.new ≡ watches_after what.now self.old }
     {
         note(&mut self.bmc, Bank::Bmc, what);
         note(&mut self.pch, Bank::Pch, what);
+    }
+
+    /// Counts `n` ticks by the watches of the banks that run, and answers of the BMC's and of the PCH's whether it expires.
+    pub fn tick(&mut self, n: u16, bmc_runs: bool, pch_runs: bool) -> (bool, bool)
+        ensures bmc { self.new.bmc ≡ (if bmc_runs then ticked self.old.bmc n else self.old.bmc) }
+        ensures pch { self.new.pch ≡ (if pch_runs then ticked self.old.pch n else self.old.pch) }
+        ensures bmc_due { result.0 ≡ (bmc_runs && expires self.old.bmc n) }
+        ensures pch_due { result.1 ≡ (pch_runs && expires self.old.pch n) }
+    {
+        let bmc = tick(&mut self.bmc, n, bmc_runs);
+        let pch = tick(&mut self.pch, n, pch_runs);
+        (bmc, pch)
     }
 }
