@@ -89,14 +89,14 @@ module _ (accepts : Acceptance) where
 
 -- ---- an event that is ignored, and one that is taken
 pub at_idle : (accepts : Acceptance) (e : Event) (idle : Bool) (old new : World) → idle ≡ is_idle e (story_of old) → idle ≡ true → Follows ignored old new → Follows (course accepts e (story_of old)) old new
-at_idle accepts e idle old new is yes p = rw (← is, yes) p
+at_idle accepts e idle old new is idles p = rw (← is, idles) p
 
 pub at_taken : (accepts : Acceptance) (e : Event) (idle : Bool) (old new : World) → idle ≡ is_idle e (story_of old) → idle ≡ false → Follows (taken accepts e (story_of old)) old new
     → Follows (course accepts e (story_of old)) old new
-at_taken accepts e idle old new is no p = rw (← is, no) p
+at_taken accepts e idle old new is takes p = rw (← is, takes) p
 
 pub not_both : {b : Bool} → b ≡ true → b ≡ false → ⊥
-not_both yes no = let never : true ≡ false = sym yes ∙ no in cc
+not_both holds fails = let never : true ≡ false = sym holds ∙ fails in cc
 
 off_only : (s : Standing) → is_off s ≡ true → s ≡ Off
 off_only Off e = refl

@@ -9,7 +9,7 @@ pub returns-then-is_idle-clause-dark : goal.returns-then-is_idle-clause-dark
 returns-then-is_idle-clause-dark g c = λ taken. absurd (not_both (sym c.is_idle.ensures ∙ c.if-is_idle.true) taken)
 
 pub returns-then-is_idle-clause-spelled : goal.returns-then-is_idle-clause-spelled
-returns-then-is_idle-clause-spelled g c = λ some. idle_known c.args.event.now _ (sym c.is_idle.ensures ∙ c.if-is_idle.true) some
+returns-then-is_idle-clause-spelled g c = λ some. idle_known c.args.event.now c.args.self (sym c.is_idle.ensures ∙ c.if-is_idle.true) some
 
 pub returns-else-is_idle-clause-untouched : goal.returns-else-is_idle-clause-untouched
 returns-else-is_idle-clause-untouched g c = λ idle. absurd (not_both idle (sym c.is_idle.ensures ∙ c.if-is_idle.false))
