@@ -159,32 +159,44 @@ module _ (accepts : Acceptance) (which : Bank) where
   abbrev InWork : Rule
   InWork = Both (KeepsSpans accepts which) LeavesNv
 
-  -- Bank b is in work: no span of this bank is open, or it is the other one; and the store is settled.
-  record AtWork (b : Bank) (story : Story) : Type 0 where
-    pub idle : (opens_from which [] story.notes ≡ []) ⊎ (same_bank which b ≡ false)
-    pub settled : IsSettled (store story)
+  -- no span of this bank is open, or another bank is in work and the store is settled
+  abbrev IsIdle : Bank → Bank → Story → Type 0
+  IsIdle w b story = (opens_from w [] story.notes ≡ []) ⊎ ((same_bank w b ≡ false) × IsSettled (store story))
 
-  held_idle : (w b : Bank) (story : Story) → (opens_from w [] (noted (what.Held b) story).notes ≡ []) ⊎ (same_bank w b ≡ false)
-  held_idle bank.Bmc bank.Bmc story = inl (opens_push bank.Bmc [] story.notes (record { item = story.item; what = what.Held bank.Bmc (counts_of story) }))
-  held_idle bank.Bmc bank.Pch story = inr refl
-  held_idle bank.Pch bank.Bmc story = inr refl
-  held_idle bank.Pch bank.Pch story = inl (opens_push bank.Pch [] story.notes (record { item = story.item; what = what.Held bank.Pch (counts_of story) }))
+  -- Bank b is in work; where it is this bank, the store is settled.
+  record AtWork (b : Bank) (story : Story) : Type 0 where
+    pub idle : IsIdle which b story
+    pub settled : same_bank which b ≡ true → IsSettled (store story)
+
+  opens_told : (w : Bank) (that : Counts → What) (story : Story) → opens_from w [] (noted that story).notes ≡ opens_after w (that (counts_of story)) (opens_from w [] story.notes)
+  opens_told w that story = opens_push w [] story.notes (record { item = story.item; what = that (counts_of story) })
+
+  held_aside : (w b : Bank) (story : Story) → same_bank w b ≡ false → (opens_from w [] story.notes ≡ []) ⊎ IsSettled (store story) → IsIdle w b (noted (what.Held b) story)
+  held_aside bank.Bmc bank.Bmc story other p = absurd cc
+  held_aside bank.Bmc bank.Pch story other p = elim p [ | inl none ↦ inl (opens_told bank.Bmc (what.Held bank.Pch) story ∙ none) | inr q ↦ inr (refl, q) ]
+  held_aside bank.Pch bank.Bmc story other p = elim p [ | inl none ↦ inl (opens_told bank.Pch (what.Held bank.Bmc) story ∙ none) | inr q ↦ inr (refl, q) ]
+  held_aside bank.Pch bank.Pch story other p = absurd cc
+
+  held_idle : (w b : Bank) (story : Story) → (opens_from w [] story.notes ≡ []) ⊎ IsSettled (store story) → IsIdle w b (noted (what.Held b) story)
+  held_idle bank.Bmc bank.Bmc story p = inl (opens_told bank.Bmc (what.Held bank.Bmc) story)
+  held_idle bank.Bmc bank.Pch story p = held_aside bank.Bmc bank.Pch story refl p
+  held_idle bank.Pch bank.Bmc story p = held_aside bank.Pch bank.Bmc story refl p
+  held_idle bank.Pch bank.Pch story p = inl (opens_told bank.Pch (what.Held bank.Pch) story)
 
   -- an operation of the bank in work
-  spared_at : (w b : Bank) (op : Operation) (story : Story) → (opens_from w [] story.notes ≡ []) ⊎ (same_bank w b ≡ false) → IsSettled (store story)
-      → KeepsSpans accepts w (Does (device_of b) op) story
-  spared_at w b op story (inl e) q = open_none (SparesOpen accepts w (device_of b) op story) (opens_from w [] story.notes) e
-  spared_at bank.Bmc bank.Bmc op story (inr other) q = absurd cc
-  spared_at bank.Bmc bank.Pch op story (inr other) q = open_any (SparesOpen accepts bank.Bmc device.Pch op story) (λ begin. record { spares = λ t. tt; settled = q }) (opens_from bank.Bmc [] story.notes)
-  spared_at bank.Pch bank.Bmc op story (inr other) q = open_any (SparesOpen accepts bank.Pch device.Bmc op story) (λ begin. record { spares = λ t. tt; settled = q }) (opens_from bank.Pch [] story.notes)
-  spared_at bank.Pch bank.Pch op story (inr other) q = absurd cc
+  spared_at : (w b : Bank) (op : Operation) (story : Story) → IsIdle w b story → KeepsSpans accepts w (Does (device_of b) op) story
+  spared_at w b op story (inl e) = open_none (SparesOpen accepts w (device_of b) op story) (opens_from w [] story.notes) e
+  spared_at bank.Bmc bank.Bmc op story (inr other) = absurd (let e = other.0 in cc)
+  spared_at bank.Bmc bank.Pch op story (inr other) = open_any (SparesOpen accepts bank.Bmc device.Pch op story) (λ begin. record { spares = λ t. tt; settled = other.1 }) (opens_from bank.Bmc [] story.notes)
+  spared_at bank.Pch bank.Bmc op story (inr other) = open_any (SparesOpen accepts bank.Pch device.Bmc op story) (λ begin. record { spares = λ t. tt; settled = other.1 }) (opens_from bank.Pch [] story.notes)
+  spared_at bank.Pch bank.Pch op story (inr other) = absurd (let e = other.0 in cc)
 
   leaves_nv : (b : Bank) (op : Operation) (story : Story) → LeavesNv (Does (device_of b) op) story
   leaves_nv bank.Bmc op story = tt
   leaves_nv bank.Pch op story = tt
 
   op_safe : (b : Bank) (op : Operation) (story : Story) → AtWork b story → InWork (Does (device_of b) op) story
-  op_safe b op story w = (spared_at which b op story w.idle w.settled, leaves_nv b op story)
+  op_safe b op story w = (spared_at which b op story w.idle, leaves_nv b op story)
 
   op_work : (b : Bank) (op : Operation) (story : Story) → AtWork b story → AtWork b (operated (device_of b) op story)
   op_work bank.Bmc op story w = record { idle = w.idle; settled = w.settled }
@@ -201,34 +213,44 @@ module _ (accepts : Acceptance) (which : Bank) where
   -- a note that neither opens nor ends a span
   still_work : (b : Bank) (w : Counts → What) (story : Story) → ((opens : List Counts) → opens_after which (w (counts_of story)) opens ≡ opens) → AtWork b story → AtWork b (noted w story)
   still_work b w story still p =
-      let note : Note = record { item = story.item; what = w (counts_of story) } in
       record {
-        idle = elim p.idle [
-          | inl e ↦ inl (opens_push which [] story.notes note ∙ still (opens_from which [] story.notes) ∙ e)
-          | inr other ↦ inr other
-        ];
+        idle = elim p.idle [ | inl e ↦ inl (opens_told which w story ∙ still (opens_from which [] story.notes) ∙ e) | inr other ↦ inr other ];
         settled = p.settled;
       }
 
   module _ (b : Bank) where
-    restored_leads : (level : ℕ) (fuses : FusesState) (capsule : CapsuleState) → Leads InWork (AtWork b) (restored b level fuses capsule) (AtWork b)
-    restored_leads level fuses capsule =
-        Leads-then InWork (AtWork b) (AtWork b) (AtWork b) (copied b level fuses capsule) (says (λ _. what.Restored b level))
+    -- a job, and what is noted of it
+    job_told : (kind : JobKind) (fuses : FusesState) (capsule : CapsuleState) (that : What) → ((counts : Counts) → IsStamped that counts) → ((nv : List ℕ) → IsSettledWhere which that nv)
+        → ((opens : List Counts) → opens_after which that opens ≡ opens) → Leads InWork (AtWork b) (then (copied b kind fuses capsule) (says (λ _. that))) (AtWork b)
+    job_told kind fuses capsule that stamped settled still =
+        Leads-then InWork (AtWork b) (AtWork b) (AtWork b) (copied b kind fuses capsule) (says (λ _. that))
         (record {
-          safe = λ story w. ops_safe b (restore_ops level (mine b story) capsule (layout_of fuses.provision b)) story w;
-          ends = λ story w. ops_work b (restore_ops level (mine b story) capsule (layout_of fuses.provision b)) story w;
+          safe = λ story w. ops_safe b (job_ops kind (mine b story) capsule (layout_of fuses.provision b)) story w;
+          ends = λ story w. ops_work b (job_ops kind (mine b story) capsule (layout_of fuses.provision b)) story w;
         })
-        (record { safe = λ story w. (((tt, tt), tt), tt); ends = λ story w. still_work b (λ _. what.Restored b level) story (λ opens. refl) w })
+        (record { safe = λ story w. (((stamped (counts_of story), settled (store story)), tt), tt); ends = λ story w. still_work b (λ _. that) story still w })
+
+    restored_leads : (level : ℕ) (fuses : FusesState) (capsule : CapsuleState) → Leads InWork (AtWork b) (restored b level fuses capsule) (AtWork b)
+    restored_leads level fuses capsule = job_told (ActiveFromRecovery level) fuses capsule (what.Restored b level) (λ counts. tt) (λ nv. tt) (λ opens. refl)
+
+    updated_leads : (dynamic : Bool) (fuses : FusesState) (capsule : CapsuleState) → Leads InWork (AtWork b) (updated b dynamic fuses capsule) (AtWork b)
+    updated_leads dynamic fuses capsule = job_told (ActiveFromStaging dynamic) fuses capsule (what.Updated b dynamic capsule.manifest.svn) (λ counts. tt) (λ nv. tt) (λ opens. refl)
 
     -- behind Held
-    abbrev IsIdle : Story → Type 0
-    IsIdle story = ((opens_from which [] story.notes ≡ []) ⊎ (same_bank which b ≡ false)) × NotOne (store story)
+    abbrev IsHeld : Story → Type 0
+    IsHeld story = IsIdle which b story × (same_bank which b ≡ true → NotOne (store story))
 
-    span_walks : Walks InWork accepts b IsIdle (λ fuses story. AtWork b story) (λ fuses cause story. AtWork b story) (λ fuses story. AtWork b story)
+    abbrev Ready : FusesState → Story → Type 0
+    Ready fuses story = AtWork b story
+
+    abbrev Told : FusesState → ActiveFail → Story → Type 0
+    Told fuses cause story = AtWork b story
+
+    span_walks : Walks InWork accepts b IsHeld Ready Told Ready
     span_walks = record {
       asks = λ at story own. (tt, tt);
       ready = λ fuses story q e.
-          let f = (ready_found b fuses story e).provisioned in record { idle = q.0; settled = record { fuses = fuses; provisioned = f; two = q.1 fuses f } };
+          let f = (ready_found b fuses story e).provisioned in record { idle = q.0; settled = λ same. record { fuses = fuses; provisioned = f; two = q.1 same fuses f } };
       unready = λ cause story q e. ((refl, tt), tt);
       released = λ fuses m story w j. ((refl, w.settled), tt);
       untrusted = λ fuses cause story w j. (((tt, tt), tt), still_work b (λ _. what.Untrusted b cause) story (λ opens. refl) w);
@@ -237,9 +259,46 @@ module _ (accepts : Acceptance) (which : Bank) where
       again = λ fuses m story w j. ((refl, w.settled), tt);
     }
 
-    brought_safe : (story : Story) → NotOne (store story) → AllSafe InWork (brought_up accepts b story) story
-    brought_safe story two =
-        walk_safe InWork accepts b IsIdle (λ fuses there. AtWork b there) (λ fuses cause there. AtWork b there) (λ fuses there. AtWork b there) span_walks story ((refl, tt), tt) (held_idle which b story, two)
+    span_back : (level : ℕ) → WalksBack InWork accepts b level IsHeld Ready Ready
+    span_back level = record {
+      spent = λ story few q. ((refl, tt), tt);
+      no_recovery = λ fuses cause story few w j. ((refl, tt), tt);
+      restores = λ fuses capsule story few w j. ((restored_leads level fuses capsule).safe story w, (restored_leads level fuses capsule).ends story w);
+    }
+
+    span_anew : (dynamic : Bool) → WalksAnew InWork accepts b dynamic Ready Ready
+    span_anew dynamic = record {
+      staged = λ fuses capsule story w j. ((updated_leads dynamic fuses capsule).safe story w, (updated_leads dynamic fuses capsule).ends story w);
+      refused = λ fuses cause story w j. (((tt, tt), tt), still_work b (λ _. what.Refused b (refusing.Capsule cause)) story (λ opens. refl) w);
+    }
+
+    -- No span of this bank is open, or the store is settled, before bank b is held; where b is this bank, a store that can be read is
+    -- of profile 2.
+    record CanBegin (story : Story) : Type 0 where
+      pub none : (opens_from which [] story.notes ≡ []) ⊎ IsSettled (store story)
+      pub two : same_bank which b ≡ true → NotOne (store story)
+
+    begin_held : (story : Story) → CanBegin story → IsHeld (noted (what.Held b) story)
+    begin_held story c = (held_idle which b story c.none, c.two)
+
+    brought_safe : (story : Story) → CanBegin story → AllSafe InWork (brought_up accepts b story) story
+    brought_safe story c = walk_safe InWork accepts b IsHeld Ready Told Ready span_walks story ((refl, tt), tt) (begin_held story c)
+
+    begin_told : (that : What) (story : Story) → ((opens : List Counts) → opens_after which that opens ≡ opens) → CanBegin story → CanBegin (noted (λ _. that) story)
+    begin_told that story still c = record {
+      none = elim c.none [ | inl e ↦ inl (opens_told which (λ _. that) story ∙ still (opens_from which [] story.notes) ∙ e) | inr q ↦ inr q ];
+      two = c.two;
+    }
+
+    expired_kept : (story : Story) → CanBegin story → AllSafe InWork (expired accepts b story) story
+    expired_kept story c =
+        let told : Story = noted (λ _. what.Expired b (level_at b story)) story in
+        expired_safe InWork accepts b IsHeld Ready Told Ready span_walks story (span_back (level_at b story)) ((tt, tt), tt) ((refl, tt), tt)
+        (begin_held told (begin_told (what.Expired b (level_at b story)) story (λ opens. refl) c))
+
+    updating_kept : (intent : Intent) (story : Story) → CanBegin story → AllSafe InWork (updating accepts b intent story) story
+    updating_kept intent story c =
+        updating_safe InWork accepts b IsHeld Ready Told Ready span_walks intent story (span_anew (is_dynamic intent)) ((refl, tt), tt) (begin_held story c)
 
   -- ---- a frame on the SPI bus of a bank
   -- what passes on the bank's own bus is judged by what each open span that began with trust is trusted by
