@@ -1,5 +1,5 @@
 -- A step leaves a bank one that can be recovered, from each of its moments to the next.
-use Rattle.std.proofs.Common.{◌≡◌, ◌∙◌, refl, sym, ap, subst, ℕ, ◌%◌, true, List, [], ◌∷◌, ◌++◌, length, All, ◌⊎◌, inl, inr, Some, Result, Ok, Err}
+use Rattle.std.proofs.Common.{◌≡◌, ◌∙◌, refl, sym, ap, subst, ℕ, ◌%◌, Bool, true, false, List, [], ◌∷◌, ◌++◌, length, All, ◌⊎◌, inl, inr, Some, Result, Ok, Err}
 use Rattle.pfr_flash.specs.Bytes.{AreBytes}
 use Rattle.pfr_flash.specs.FlashState.{size_of}
 use Rattle.pfr_flash.specs.Layout.{IsBankSize, IsValidLayout}
@@ -35,6 +35,8 @@ use Rattle.pfr_recoverable.proofs.StaysLaw.{fuses_one}
 use Rattle.pfr_script.specs.declared.event.Event.{Event}
 use Rattle.pfr_script.specs.declared.event.Event.TheVariants as event
 use Rattle.pfr_script.specs.declared.event.Intent.{Intent}
+use Rattle.pfr_watch.specs.Stages.{next_stage}
+use Rattle.pfr_watch.specs.declared.stage.Stage.{Stage}
 use Rattle.pfr_report.specs.declared.note.Refusal.TheVariants as refusing
 use Rattle.pfr_report.specs.declared.note.What.{What}
 use Rattle.pfr_report.specs.declared.note.What.TheVariants as what
@@ -43,7 +45,7 @@ use Rattle.pfr_story.specs.World.{World, story_of, AllMoved}
 use Rattle.pfr_story.specs.Safety.{Rule, AllGood, AllSafe}
 use Rattle.pfr_story.specs.Course.{Stretch, Steps, Follows}
 use Rattle.pfr_story.specs.Plans.{mine, store, judged_recovery, judged_staging, job_ops, copied, restored, brought_up, expired, updated, is_dynamic, updating, migrated, provisioned, provisioned_in, Ruling, ruling, filtered, smbus_judged}
-use Rattle.pfr_story.specs.Turn.{bank_stretch, fuse_stretch, provision_stretch, spi_stretch, expiry_stretch, update_stretch, ignored, power_course, off_course, provision_course, is_idle, taken, begun, Turn}
+use Rattle.pfr_story.specs.Turn.{bank_stretch, fuse_stretch, provision_stretch, spi_stretch, expiry_stretch, update_stretch, ignored, power_course, off_course, provision_course, pass_note, stage_at, is_idle, taken, begun, Turn}
 use Rattle.pfr_story.specs.Recovery.{HoldsIn, LeavesTrue, StaysRecoverable}
 use Rattle.pfr_story.proofs.WorldLaws.{AllMoved-refl}
 use Rattle.pfr_story.proofs.SafetyLaws.{AllSafe-append, safe_whole, image_noted}
@@ -54,7 +56,7 @@ use Rattle.pfr_story.proofs.RestoreLaws.{stand_for, found_good}
 use Rattle.pfr_story.proofs.BringRules.{Any, IsReady, ready_noted, ready_found, Walks, WalksBack, WalksAnew, walk_safe, level_at, expired_safe, updating_safe}
 use Rattle.pfr_story.proofs.Turns.{Turn-moved}
 use Rattle.pfr_story.proofs.Traces.{IsStamped, call_says, Traced, Traced-then, Traced-ran, Traced-whole, Traced-cut, precedes_moved, AreImages}
-use Rattle.pfr_story.proofs.StepTraces.{Between, AllowsLosses, IsGoodStretch, noted_along, power_along, single_along}
+use Rattle.pfr_story.proofs.StepTraces.{Between, AllowsLosses, IsGoodStretch, noted_along, power_along, single_along, tick_along, pass_noted}
 use Rattle.pfr_story.proofs.Bytes.{HaveBytes, images_then, mine_sized, bank_sized}
 use Rattle.pfr_story.proofs.RecoverableLaws.{other_safe}
 use Rattle.pfr_story.proofs.MomentLaws.{StaysTrue, IsUnstamped, NoMoments, Stays, call_stays, stays_along, stays_behind}
@@ -361,6 +363,17 @@ module _ (accepts : Acceptance) (b : Bank) (old new : World) (held : HaveBytes n
       let moves : List Move = smbus_judged accepts c frame story in
       noted_kept moves t (safe_whole (Keeping accepts b) moves (story_of old)
       (smbus_safe (Keeping accepts b) accepts c frame (record { passed = λ here. tt; blocked = λ cause here. tt }) story (story_of old)))
+  taken_kept (event.Tick n) story t =
+      kept (tick_along (Keeping accepts b) old new IsSized known allows old new within accepts n story Any Any Any
+      (λ due. expiry_keeps accepts b old new bank.Bmc) (λ there p. tt) (λ due. expiry_keeps accepts b old new bank.Pch) (λ there p. tt) tt t)
+  taken_kept (event.Boot c true) story t =
+      let stage : Stage = stage_at c story in
+      noted_kept (Says (λ _. pass_note c stage (next_stage stage)) ∷ []) t
+      (pass_noted (λ that. Keeping accepts b (Says (λ _. that)) (story_of old)) c stage (next_stage stage) (λ done. tt) (λ on. tt), tt)
+  taken_kept (event.Boot c false) story t =
+      kept (single_along (Keeping accepts b) old new IsSized known allows old new within (expiry_stretch accepts c) Any Any (expiry_keeps accepts b old new c) tt t)
+  taken_kept (event.Update c intent) story t =
+      kept (single_along (Keeping accepts b) old new IsSized known allows old new within (update_stretch accepts c intent) Any Any (update_keeps accepts b old new c intent) tt t)
 
 -- What says that a good capsule stands in a bank's recovery area stays true from each moment of a step to the next.
 pub Turn-recoverable : (accepts : Acceptance) (e : Event) (old new : World) → Turn accepts e old new → HaveBytes new → IsBankSize (size_of old.bmc) → IsBankSize (size_of old.pch) → size_of old.nv ≡ 32768

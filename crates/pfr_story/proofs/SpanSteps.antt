@@ -1,5 +1,5 @@
 -- Each step keeps the spans.
-use Rattle.std.proofs.Common.{◌≡◌, ◌∙◌, ℕ, ◌+◌, ◌≤◌, refl, sym, ap, subst, arith, List, [], ◌∷◌, length, length-append, All, ◌⊎◌, inl, inr, Some, Result, Ok, Err, true, false, Bool}
+use Rattle.std.proofs.Common.{◌≡◌, ◌∙◌, ℕ, ◌+◌, ◌≤◌, refl, sym, ap, subst, arith, List, [], ◌∷◌, length, length-append, All, ◌⊎◌, inl, inr, Some, Result, Ok, Err, true, false, Bool, ◌&&◌}
 use Rattle.std.proofs.lemmas.Bool.{false≢true}
 use Rattle.std.proofs.lemmas.List.Elements.{All-head, All-tail}
 use Rattle.pfr_flash.specs.Operation.{Operation, play, IsTorn}
@@ -24,6 +24,9 @@ use Rattle.pfr_fuses.specs.declared.root_slot.RootSlot.{RootSlot}
 use Rattle.pfr_manifest.specs.declared.manifest.Manifest.{Manifest}
 use Rattle.pfr_manifest.proofs.ApartLaw.{LeavesTrusted}
 use Rattle.pfr_auth.specs.Trusted.{IsTrusted}
+use Rattle.pfr_auth.specs.declared.fail.ActiveFail.{ActiveFail}
+use Rattle.pfr_jobs.specs.declared.job.JobKind.{JobKind}
+use Rattle.pfr_jobs.specs.declared.job.JobKind.TheVariants.{ActiveFromRecovery, ActiveFromStaging}
 use Rattle.pfr_capsule.specs.CapsuleState.{CapsuleState}
 use Rattle.pfr_filter.specs.Asking.{bus_ops}
 use Rattle.pfr_filter.specs.declared.verdict.BusOp.{BusOp}
@@ -31,33 +34,43 @@ use Rattle.pfr_filter.specs.declared.verdict.Verdict.TheVariants.{Pass}
 use Rattle.pfr_filter.proofs.SafeLaws.{torn_leaves}
 use Rattle.pfr_script.specs.declared.event.Event.{Event}
 use Rattle.pfr_script.specs.declared.event.Event.TheVariants as event
+use Rattle.pfr_script.specs.declared.event.Intent.{Intent}
+use Rattle.pfr_watch.specs.Stages.{next_stage}
+use Rattle.pfr_watch.specs.declared.stage.Stage.{Stage}
+use Rattle.pfr_report.specs.declared.note.Refusal.TheVariants as refusing
 use Rattle.pfr_report.specs.declared.note.Note.{Note}
 use Rattle.pfr_report.specs.declared.note.What.{What}
 use Rattle.pfr_report.specs.declared.note.What.TheVariants as what
-use Rattle.pfr_story.specs.Guards.{same_bank}
-use Rattle.pfr_story.specs.Story.{Past, Story, Move, Says, Does, Asks, after, moved_by, noted, with_op, operated, counts_of, past_at, image_of, device_of, called, says}
+use Rattle.pfr_story.specs.Guards.{Guards, same_bank}
+use Rattle.pfr_story.specs.Story.{Past, Story, Move, Says, Does, Asks, after, moved_by, noted, with_op, operated, counts_of, past_at, image_of, device_of, called, says, Plan, then}
 use Rattle.pfr_story.specs.World.{World, story_of}
+use Rattle.pfr_story.specs.Standing.{Standing, Off, Held, Running, Locked, is_running, standing_of}
 use Rattle.pfr_story.specs.Safety.{Rule, AllGood, AllSafe, Keeps, Both, Leads}
 use Rattle.pfr_story.specs.Spans.{opens_after, opens_from}
 use Rattle.pfr_story.specs.Promises.{count_at}
-use Rattle.pfr_story.specs.Plans.{mine, store, restore_ops, copied, restored, brought_up, migration_by, migration_in, migrated, provisioned_in, provisioned, Ruling, ruling, filtered, smbus_judged}
+use Rattle.pfr_story.specs.Plans.{mine, store, job_ops, copied, restored, brought_up, expired, updated, is_dynamic, updating, migration_by, migration_in, migrated, provisioned_in, provisioned, Ruling, ruling, filtered, smbus_judged}
 use Rattle.pfr_story.specs.Course.{Stretch, Follows}
-use Rattle.pfr_story.specs.Turn.{fault_of, bank_stretch, fuse_stretch, provision_stretch, spi_stretch, ignored, off_course, power_course, taken, begun, Turn}
+use Rattle.pfr_story.specs.Turn.{fault_of, bank_stretch, fuse_stretch, provision_stretch, spi_stretch, expiry_stretch, update_stretch, ignored, off_course, power_course, tick_course, boot_course, update_course, pass_note, stage_at, is_due, is_idle, taken, guards_at, begun, Turn}
 use Rattle.pfr_story.proofs.WorldLaws.{AllMoved-refl}
 use Rattle.pfr_story.proofs.SafetyLaws.{AllSafe-append, Leads-then, safe_whole, safe_cut, kept_by, notes_operated, image_called}
-use Rattle.pfr_story.proofs.Traces.{Traced, Traced-keeps}
-use Rattle.pfr_story.proofs.StepTraces.{Between, AllowsLosses, IsGoodStretch, noted_along, power_along, single_along}
-use Rattle.pfr_story.proofs.Courses.{Turn-cases}
+use Rattle.pfr_story.proofs.Traces.{IsStamped, Traced, Traced-keeps}
+use Rattle.pfr_story.proofs.StepTraces.{Between, AllowsLosses, IsGoodStretch, noted_along, power_along, single_along, tick_along, pass_noted}
+use Rattle.pfr_story.proofs.Courses.{Turn-cases, taken_runs, taken_boots}
 use Rattle.pfr_story.proofs.BusRules.{ruled, filtered_safe, calls_safe, smbus_safe}
 use Rattle.pfr_story.proofs.Rulings.{ruled_leaves}
-use Rattle.pfr_story.proofs.BringRules.{Any, ready_found, Walks, walk_safe}
+use Rattle.pfr_story.proofs.BringRules.{Any, ready_found, Walks, WalksBack, WalksAnew, walk_safe, level_at, expired_safe, updating_safe}
 use Rattle.pfr_story.proofs.FuseLaws.{profile_migrated, profile_kept, provisioned_refused}
 use Rattle.pfr_story.specs.Keeping.{IsSettled}
-use Rattle.pfr_story.proofs.SpanLaws.{past_upto, LeavesBank, IsTrustedAt, AllOpen, open_none, open_any, open_map, opens_push, same_one, longer_upto, IsOpen, Kept, SparesOpen, KeepsSpans, Kept-moves, none_or_settled, IsTrustedStill, still_trusted}
+use Rattle.pfr_story.proofs.SpanLaws.{past_upto, LeavesBank, IsTrustedAt, AllOpen, open_none, open_any, open_map, opens_push, same_one, longer_upto, IsOpen, Kept, SparesOpen, KeepsSpans, Kept-moves, none_or_settled, settled_running, IsSettledWhere, IsTrustedStill, still_trusted}
 
 -- a store that can be read is of profile 2
 abbrev pub NotOne : List ℕ → Type 0
 NotOne nv = (fuses : FusesState) → fuses_of nv ≡ Ok fuses → fuses.profile ≡ Two
+
+settled_two : (nv : List ℕ) → IsSettled nv → NotOne nv
+settled_two nv q fuses f =
+    let same : q.fuses ≡ fuses = (let both : Ok q.fuses ≡ Ok fuses = sym q.provisioned ∙ f in cc) in
+    subst (λ (x : FusesState). x.profile ≡ Two) same q.two
 
 -- ---- the fuses are migrated
 settled_none : (nv : List ℕ) → IsSettled nv → migration_in (fuses_of nv) ≡ []
@@ -92,6 +105,16 @@ safe_first G H [] story p = tt
 safe_first G H (Says w ∷ moves) story p = (p.0.0, safe_first G H moves (moved_by (Says w) story) p.1)
 safe_first G H (Does at op ∷ moves) story p = ((p.0.0.0, λ done t. (p.0.1 done t).0), safe_first G H moves (moved_by (Does at op) story) p.1)
 safe_first G H (Asks at ∷ moves) story p = (p.0.0, safe_first G H moves (moved_by (Asks at) story) p.1)
+
+-- ---- a bank whose watch expires by ticks runs
+due_by : (s : Standing) (expires : Bool) → (is_running s && expires) ≡ true → s ≡ Running
+due_by Running expires e = refl
+due_by Off expires e = absurd (let never : false ≡ true = e in cc)
+due_by Held expires e = absurd (let never : false ≡ true = e in cc)
+due_by Locked expires e = absurd (let never : false ≡ true = e in cc)
+
+due_runs : (b : Bank) (n : ℕ) (story : Story) → is_due b n story ≡ true → standing_of b story.notes ≡ Running
+due_runs b n story e = due_by (standing_of b story.notes) _ e
 
 -- ---- a bank's own operations leave its open spans
 -- each of these operations leaves what the trust at the span's begin stands on
@@ -327,7 +350,7 @@ module _ (accepts : Acceptance) (which : Bank) where
       subst (λ (x : Bank). AllSafe (KeepsSpans accepts which) (called (device_of x) (bus_ops op)) story) (sym is) (own_safe accepts which (bus_ops op) story leaves)
   frame_safe b frame r op story k found passed false e = elim (none_or_settled accepts which story k) [
     | inl none ↦ idle_safe (device_of b) (bus_ops op) story none
-    | inr q ↦ safe_first (KeepsSpans accepts which) LeavesNv (called (device_of b) (bus_ops op)) story (ops_safe b (bus_ops op) story (record { idle = inr e; settled = q }))
+    | inr q ↦ safe_first (KeepsSpans accepts which) LeavesNv (called (device_of b) (bus_ops op)) story (ops_safe b (bus_ops op) story (record { idle = inr (e, q); settled = λ same. q }))
   ]
 
   passing_safe : (b : Bank) (frame : List ℕ) (story : Story) → Kept accepts which story → AllSafe (KeepsSpans accepts which) (filtered accepts b frame story) story
@@ -343,29 +366,49 @@ module _ (accepts : Acceptance) (which : Bank) where
     pub kept : Kept accepts which story
     pub size : length story.nv.start ≡ 32768
 
-  record Late (story : Story) : Type 0 where
+  -- here where this is so, which needs not be of work on the other bank
+  record Late (R : Type 0) (story : Story) : Type 0 where
     pub kept : Kept accepts which story
-    pub two : NotOne (store story)
+    pub two : R → NotOne (store story)
 
-  late_moves : Keeps InWork Late
-  late_moves (Says w) story g p = record { kept = Kept-moves accepts which (Says w) story g.0 p.kept; two = p.two }
-  late_moves (Does device.Bmc op) story g p = record { kept = Kept-moves accepts which (Does device.Bmc op) story g.0 p.kept; two = p.two }
-  late_moves (Does device.Pch op) story g p = record { kept = Kept-moves accepts which (Does device.Pch op) story g.0 p.kept; two = p.two }
-  late_moves (Does device.Nv op) story g p = absurd g.1
-  late_moves (Asks at) story g p = p
+  can_begin : (R : Type 0) (b : Bank) (story : Story) → (same_bank which b ≡ true → R) → Late R story → CanBegin b story
+  can_begin R b story f p = record { none = none_or_settled accepts which story p.kept; two = λ same. p.two (f same) }
+
+  late_moves : (R : Type 0) → Keeps InWork (Late R)
+  late_moves R (Says w) story g p = record { kept = Kept-moves accepts which (Says w) story g.0 p.kept; two = p.two }
+  late_moves R (Does device.Bmc op) story g p = record { kept = Kept-moves accepts which (Does device.Bmc op) story g.0 p.kept; two = p.two }
+  late_moves R (Does device.Pch op) story g p = record { kept = Kept-moves accepts which (Does device.Pch op) story g.0 p.kept; two = p.two }
+  late_moves R (Does device.Nv op) story g p = absurd g.1
+  late_moves R (Asks at) story g p = p
 
   module _ (first last : World) where
-    bank_kept : (b : Bank) → IsGoodStretch (KeepsSpans accepts which) first last Any Late (bank_stretch accepts b) Late
-    bank_kept b = record {
+    -- work on a bank, which is locked where a call fails
+    abbrev locking : Bank → Plan → Bool → Stretch
+    locking b plan on = record { plan = plan; on_fault = λ device. Says (what.Locked b (fault_of device)) ∷ []; goes_on = on }
+
+    work_kept : (R : Type 0) (b : Bank) (plan : Plan) (on : Bool) → ((story : Story) → Late R story → AllSafe InWork (plan story) story)
+        → IsGoodStretch (KeepsSpans accepts which) first last Any (Late R) (locking b plan on) (Late R)
+    work_kept R b plan on work = record {
       plan = record {
-        safe = λ story p. safe_first (KeepsSpans accepts which) LeavesNv (brought_up accepts b story) story (brought_safe b story p.1.two);
-        ends = λ story p. kept_by InWork Late late_moves (brought_up accepts b story) story (safe_whole InWork (brought_up accepts b story) story (brought_safe b story p.1.two)) p.1;
+        safe = λ story p. safe_first (KeepsSpans accepts which) LeavesNv (plan story) story (work story p.1);
+        ends = λ story p. kept_by InWork (Late R) (late_moves R) (plan story) story (safe_whole InWork (plan story) story (work story p.1)) p.1;
       };
       noted = λ at story trace p cut rose. ((refl, tt), tt);
       on = λ at story trace p cut e.
-          let there = kept_by InWork Late late_moves trace story (safe_cut InWork at (brought_up accepts b story) trace story (brought_safe b story p.1.two) cut) p.1 in
-          late_moves (Says (what.Locked b (fault_of at))) (after trace story) ((refl, tt), tt) there;
+          let there = kept_by InWork (Late R) (late_moves R) trace story (safe_cut InWork at (plan story) trace story (work story p.1) cut) p.1 in
+          late_moves R (Says (what.Locked b (fault_of at))) (after trace story) ((refl, tt), tt) there;
     }
+
+    -- once the fuses were read
+    bank_kept : (b : Bank) → IsGoodStretch (KeepsSpans accepts which) first last Any (Late (Unit {0})) (bank_stretch accepts b) (Late (Unit {0}))
+    bank_kept b = work_kept (Unit {0}) b (brought_up accepts b) true (λ story p. brought_safe b story (can_begin (Unit {0}) b story (λ same. tt) p))
+
+    expiry_kept : (R : Type 0) (b : Bank) → (same_bank which b ≡ true → R) → IsGoodStretch (KeepsSpans accepts which) first last Any (Late R) (expiry_stretch accepts b) (Late R)
+    expiry_kept R b f = work_kept R b (expired accepts b) true (λ story p. expired_kept b story (can_begin R b story f p))
+
+    update_kept : (R : Type 0) (b : Bank) (intent : Intent) → (same_bank which b ≡ true → R)
+        → IsGoodStretch (KeepsSpans accepts which) first last Any (Late R) (update_stretch accepts b intent) (Late R)
+    update_kept R b intent f = work_kept R b (updating accepts b intent) false (λ story p. updating_kept b intent story (can_begin R b story f p))
 
     migrated_safe : (story : Story) → Kept accepts which story → AllSafe (KeepsSpans accepts which) (migrated story) story
     migrated_safe story k = (
@@ -376,14 +419,14 @@ module _ (accepts : Acceptance) (which : Bank) where
       ],
     )
 
-    fuse_kept : IsGoodStretch (KeepsSpans accepts which) first last Any Early fuse_stretch Late
+    fuse_kept : IsGoodStretch (KeepsSpans accepts which) first last Any Early fuse_stretch (Late (Unit {0}))
     fuse_kept = record {
       plan = record {
         safe = λ story p. migrated_safe story p.1.kept;
         ends = λ story p. record {
           kept = kept_by (KeepsSpans accepts which) (Kept accepts which) (Kept-moves accepts which) (migrated story) story
               (safe_whole (KeepsSpans accepts which) (migrated story) story (migrated_safe story p.1.kept)) p.1.kept;
-          two = not_one_then story p.1.size;
+          two = λ any. not_one_then story p.1.size;
         };
       };
       noted = λ at story trace p cut rose. ((refl, tt), ((refl, tt), ((refl, tt), ((refl, tt), tt))));
@@ -422,58 +465,92 @@ module _ (accepts : Acceptance) (which : Bank) where
     }
 
   -- ---- a whole step
-  module _ (old new : World) where
-    within : Between (begun old) new (begun old) new
-    within = record { before = AllMoved-refl (begun old); behind = AllMoved-refl new }
+  module _ (e : Event) (old new : World) where
+    abbrev first : World
+    first = begun e old
 
-    allows : AllowsLosses (KeepsSpans accepts which) (begun old) new
+    within : Between first new first new
+    within = record { before = AllMoved-refl first; behind = AllMoved-refl new }
+
+    allows : AllowsLosses (KeepsSpans accepts which) first new
     allows at story fell = ((refl, tt), tt)
 
-    noted_kept : (moves : List Move) → Follows (record { first = moves; stretches = [] }) (begun old) new → AllGood (KeepsSpans accepts which) moves (story_of (begun old))
-        → Traced (KeepsSpans accepts which) (begun old) new
-    noted_kept moves t good = noted_along (KeepsSpans accepts which) (begun old) new Any (λ w moved. tt) allows (begun old) new within moves t good
+    noted_kept : (moves : List Move) → Follows (record { first = moves; stretches = [] }) first new → AllGood (KeepsSpans accepts which) moves (story_of first)
+        → Traced (KeepsSpans accepts which) first new
+    noted_kept moves t good = noted_along (KeepsSpans accepts which) first new Any (λ w moved. tt) allows first new within moves t good
 
-    single_kept : (stretch : Stretch) → IsGoodStretch (KeepsSpans accepts which) (begun old) new Any Early stretch Any → Early (story_of (begun old))
-        → Follows (record { first = []; stretches = stretch ∷ [] }) (begun old) new → Traced (KeepsSpans accepts which) (begun old) new
-    single_kept stretch good p t = single_along (KeepsSpans accepts which) (begun old) new Any (λ w moved. tt) allows (begun old) new within stretch Early Any good p t
+    single_kept : (stretch : Stretch) (P Q : Story → Type 0) → IsGoodStretch (KeepsSpans accepts which) first new Any P stretch Q → P (story_of first)
+        → Follows (record { first = []; stretches = stretch ∷ [] }) first new → Traced (KeepsSpans accepts which) first new
+    single_kept stretch P Q good p t = single_along (KeepsSpans accepts which) first new Any (λ w moved. tt) allows first new within stretch P Q good p t
 
-    power_kept : Early (story_of (begun old)) → Follows (power_course accepts) (begun old) new → Traced (KeepsSpans accepts which) (begun old) new
+    power_kept : Early (story_of first) → Follows (power_course accepts) first new → Traced (KeepsSpans accepts which) first new
     power_kept p t =
-        power_along (KeepsSpans accepts which) (begun old) new Any (λ w moved. tt) allows (begun old) new within accepts Early Late Late Late
-        (fuse_kept (begun old) new) (bank_kept (begun old) new bank.Bmc) (bank_kept (begun old) new bank.Pch) (tt, tt)
-        (record { kept = Kept-moves accepts which (Says (λ _. what.Power)) (story_of (begun old)) (tt, tt) p.kept; size = p.size }) t
+        power_along (KeepsSpans accepts which) first new Any (λ w moved. tt) allows first new within accepts Early (Late (Unit {0})) (Late (Unit {0})) (Late (Unit {0}))
+        (fuse_kept first new) (bank_kept first new bank.Bmc) (bank_kept first new bank.Pch) (tt, tt)
+        (record { kept = Kept-moves accepts which (Says (λ _. what.Power)) (story_of first) (tt, tt) p.kept; size = p.size }) t
 
-    taken_kept : (e : Event) → Early (story_of (begun old)) → Follows (taken accepts e (story_of old)) (begun old) new → Traced (KeepsSpans accepts which) (begun old) new
-    taken_kept event.Power p t = power_kept p t
-    taken_kept event.Off p t = noted_kept off_course.first t ((refl, tt), tt)
-    taken_kept (event.Provision root) p t = single_kept (provision_stretch root) (provision_kept (begun old) new root) p t
-    taken_kept (event.Spi b frame) p t = single_kept (spi_stretch accepts b frame) (spi_kept (begun old) new b frame) p t
-    taken_kept (event.Smbus b frame) p t =
+    -- where the bank runs at first, the store is settled
+    abbrev RunsAtFirst : Type 0
+    RunsAtFirst = standing_of which old.notes.list ≡ Running
+
+    late_first : Early (story_of first) → Late RunsAtFirst (story_of first)
+    late_first p = record { kept = p.kept; two = λ runs. settled_two (store (story_of first)) (settled_running accepts which (story_of first) p.kept runs) }
+
+    runs_same : (b : Bank) → standing_of b old.notes.list ≡ Running → same_bank which b ≡ true → RunsAtFirst
+    runs_same b runs same = subst (λ (x : Bank). standing_of x old.notes.list ≡ Running) (same_one which b same) runs
+
+    expiry_first : (b : Bank) → standing_of b old.notes.list ≡ Running → IsGoodStretch (KeepsSpans accepts which) first new Any (Late RunsAtFirst) (expiry_stretch accepts b) (Late RunsAtFirst)
+    expiry_first b runs = expiry_kept first new RunsAtFirst b (runs_same b runs)
+
+    tick_kept : (n : ℕ) → Early (story_of first) → Follows (tick_course accepts n (story_of old)) first new → Traced (KeepsSpans accepts which) first new
+    tick_kept n p t =
+        tick_along (KeepsSpans accepts which) first new Any (λ w moved. tt) allows first new within accepts n (story_of old) (Late RunsAtFirst) (Late RunsAtFirst) (Late RunsAtFirst)
+        (λ due. expiry_first bank.Bmc (due_runs bank.Bmc n (story_of old) due)) (λ there q. q) (λ due. expiry_first bank.Pch (due_runs bank.Pch n (story_of old) due)) (λ there q. q) (late_first p) t
+
+    boot_kept : (b : Bank) (pass : Bool) → standing_of b old.notes.list ≡ Running → Early (story_of first) → Follows (boot_course accepts b pass (story_of old)) first new
+        → Traced (KeepsSpans accepts which) first new
+    boot_kept b true runs p t = let stage : Stage = stage_at b (story_of old) in noted_kept (Says (λ _. pass_note b stage (next_stage stage)) ∷ []) t (pass_noted (λ that. KeepsSpans accepts which (Says (λ _. that)) (story_of first)) b stage (next_stage stage) (λ done. (tt, tt)) (λ on. (tt, tt)), tt)
+    boot_kept b false runs p t = single_kept (expiry_stretch accepts b) (Late RunsAtFirst) (Late RunsAtFirst) (expiry_first b runs) (late_first p) t
+
+    update_kept_first : (b : Bank) (intent : Intent) → standing_of b old.notes.list ≡ Running → Early (story_of first) → Follows (update_course accepts b intent) first new → Traced (KeepsSpans accepts which) first new
+    update_kept_first b intent runs p t =
+        single_kept (update_stretch accepts b intent) (Late RunsAtFirst) (Late RunsAtFirst) (update_kept first new RunsAtFirst b intent (runs_same b runs)) (late_first p) t
+
+  module _ (old new : World) where
+    taken_kept : (e : Event) → is_idle e (story_of old) ≡ false → Early (story_of (begun e old)) → Follows (taken accepts e (story_of old)) (begun e old) new → Traced (KeepsSpans accepts which) (begun e old) new
+    taken_kept event.Power on p t = power_kept event.Power old new p t
+    taken_kept event.Off on p t = noted_kept event.Off old new off_course.first t ((refl, tt), tt)
+    taken_kept (event.Provision root) on p t = single_kept (event.Provision root) old new (provision_stretch root) Early Any (provision_kept (begun (event.Provision root) old) new root) p t
+    taken_kept (event.Spi b frame) on p t = single_kept (event.Spi b frame) old new (spi_stretch accepts b frame) Early Any (spi_kept (begun (event.Spi b frame) old) new b frame) p t
+    taken_kept (event.Smbus b frame) on p t =
         let moves : List Move = smbus_judged accepts b frame (story_of old) in
-        noted_kept moves t (safe_whole (KeepsSpans accepts which) moves (story_of (begun old))
-        (smbus_safe (KeepsSpans accepts which) accepts b frame (record { passed = λ story. (tt, tt); blocked = λ cause story. (tt, tt) }) (story_of old) (story_of (begun old))))
+        noted_kept (event.Smbus b frame) old new moves t (safe_whole (KeepsSpans accepts which) moves (story_of (begun (event.Smbus b frame) old))
+        (smbus_safe (KeepsSpans accepts which) accepts b frame (record { passed = λ story. (tt, tt); blocked = λ cause story. (tt, tt) }) (story_of old) (story_of (begun (event.Smbus b frame) old))))
+    taken_kept (event.Tick n) on p t = tick_kept (event.Tick n) old new n p t
+    taken_kept (event.Boot b pass) on p t = boot_kept (event.Boot b pass) old new b pass (taken_boots (standing_of b old.notes.list) (stage_at b (story_of old)) on).0 p t
+    taken_kept (event.Update b intent) on p t = update_kept_first (event.Update b intent) old new b intent (taken_runs (standing_of b old.notes.list) on) p t
 
-    Turn-early : (e : Event) → Early (story_of (begun old)) → Turn accepts e old new → Traced (KeepsSpans accepts which) (begun old) new
+    Turn-early : (e : Event) → Early (story_of (begun e old)) → Turn accepts e old new → Traced (KeepsSpans accepts which) (begun e old) new
     Turn-early e p t = elim (Turn-cases accepts e old new t) [
-      | inl idle ↦ noted_kept ignored.first idle.1 ((tt, tt), tt)
-      | inr on ↦ taken_kept e p on.1
+      | inl idle ↦ noted_kept e old new ignored.first idle.1 ((tt, tt), tt)
+      | inr on ↦ taken_kept e on.0 p on.1
     ]
 
--- the number of the item says nothing of spans
-pub Kept-item : (accepts : Acceptance) (which : Bank) (n : ℕ) (story : Story) → Kept accepts which story → Kept accepts which (record story { item = n })
-Kept-item accepts bank.Bmc n story k = record {
+-- neither the number of the item nor what guards the banks says anything of spans
+pub Kept-item : (accepts : Acceptance) (which : Bank) (n : ℕ) (guards : Guards) (story : Story) → Kept accepts which story → Kept accepts which (record story { item = n; guards = guards })
+Kept-item accepts bank.Bmc n guards story k = record {
   closed = k.closed;
-  opened = open_map (IsOpen accepts bank.Bmc story) (IsOpen accepts bank.Bmc (record story { item = n })) (λ begin o. record { kept = o.kept; settled = o.settled }) (opens_from bank.Bmc [] story.notes) k.opened;
+  opened = open_map (IsOpen accepts bank.Bmc story) (IsOpen accepts bank.Bmc (record story { item = n; guards = guards })) (λ begin o. record { kept = o.kept; settled = o.settled }) (opens_from bank.Bmc [] story.notes) k.opened;
 }
-Kept-item accepts bank.Pch n story k = record {
+Kept-item accepts bank.Pch n guards story k = record {
   closed = k.closed;
-  opened = open_map (IsOpen accepts bank.Pch story) (IsOpen accepts bank.Pch (record story { item = n })) (λ begin o. record { kept = o.kept; settled = o.settled }) (opens_from bank.Pch [] story.notes) k.opened;
+  opened = open_map (IsOpen accepts bank.Pch story) (IsOpen accepts bank.Pch (record story { item = n; guards = guards })) (λ begin o. record { kept = o.kept; settled = o.settled }) (opens_from bank.Pch [] story.notes) k.opened;
 }
 
 -- Each step keeps the spans of each bank.
 pub Turn-spans : (accepts : Acceptance) (which : Bank) (e : Event) (old new : World) → Turn accepts e old new → length old.nv.start ≡ 32768
     → Kept accepts which (story_of old) → Kept accepts which (story_of new)
 Turn-spans accepts which e old new t size k =
-    let here : Kept accepts which (story_of (begun old)) = Kept-item accepts which (old.item + 1) (story_of old) k in
-    Traced-keeps (KeepsSpans accepts which) (Kept accepts which) (Kept-moves accepts which) (begun old) new
+    let here : Kept accepts which (story_of (begun e old)) = Kept-item accepts which (old.item + 1) (guards_at e old.notes.list old.guards) (story_of old) k in
+    Traced-keeps (KeepsSpans accepts which) (Kept accepts which) (Kept-moves accepts which) (begun e old) new
     (Turn-early accepts which old new e (record { kept = here; size = size }) t) here
