@@ -31,7 +31,7 @@ use Rattle.pfr_story.specs.Spans.{ReleasedSpans}
 use Rattle.pfr_story.specs.Turn.{Turn, course, next_item, begun}
 use Rattle.pfr_story.specs.Run.{with_arm, with_arm_at, armed, Did, Reached, CanRun}
 use Rattle.pfr_story.specs.Causes.{IsTrustedWith, IsDue}
-use Rattle.pfr_story.specs.Promises.{AtCounts, IsFaultLock, IsUndisturbed, ReleasesTrusted, LocksHaveCauses, FaultsHaveCauses, FaultsAreNoted}
+use Rattle.pfr_story.specs.Promises.{AtCounts, IsFaultLock, IsWatchLock, IsUndisturbed, ReleasesTrusted, LocksHaveCauses, FaultsHaveCauses, FaultsAreNoted}
 use Rattle.pfr_story.proofs.WorldLaws.{faults_moved, losses_moved, NoneLost-at, NoneFailed-at, NoneFailed-refl, NoneFailed-trans}
 use Rattle.pfr_story.proofs.Courses.{opening}
 use Rattle.pfr_story.proofs.Made.{Made, Steps-made, notes_after}
@@ -175,7 +175,7 @@ noted_left (x ∷ xs) ys that (inr n) = inr (noted_left xs ys that n)
 
 -- ---- what holds of a run so far
 unfoldable pub running : Acceptance → World → World → Setting
-running accepts first last = record { accepts = accepts; first = first; last = last; IsSwitched = Unit {0} }
+running accepts first last = record { accepts = accepts; first = first; last = last; IsSwitched = Unit {0}; HasExpired = λ b level notes. Unit {0} }
 
 -- what is known of a note of a step is known of it in the run
 fact_later : (accepts : Acceptance) (e : Event) (old new first last : World) → IsLater first old → IsLater new last → (that : What) (at : Story)
@@ -191,18 +191,17 @@ fact_later accepts e old new first last before behind (what.Locked b why.Unprovi
 fact_later accepts e old new first last before behind (what.Locked b why.SlotsSpent counts) at f = f
 fact_later accepts e old new first last before behind (what.Locked b (why.Layout rule) counts) at f = f
 fact_later accepts e old new first last before behind (what.Locked b (why.NoGoodImage active recovery) counts) at f = f
+fact_later accepts e old new first last before behind (what.Locked b why.WatchdogSpent counts) at f = f
+fact_later accepts e old new first last before behind (what.Locked b (why.NoRecovery recovery) counts) at f = f
 fact_later accepts e old new first last before behind (what.Lost (Some which) counts) at f = (f.0, omega (arith, before.losses which, behind.losses which, f.1))
 fact_later accepts e old new first last before behind (what.Lost None counts) at f = (f.0, tt)
 fact_later accepts e old new first last before behind (what.Untrusted b cause) at f = f
-fact_later accepts e old new first last before behind (what.Restored b level) at f = (
-  f.0,
-  record {
-    at = f.1.at;
-    since = Precedes-trans (story_of first) (story_of old) f.1.at before.precedes f.1.since;
-    before = f.1.before;
-    was = f.1.was;
-  },
-)
+fact_later accepts e old new first last before behind (what.Restored b level) at f = record {
+  at = f.at;
+  since = Precedes-trans (story_of first) (story_of old) f.at before.precedes f.since;
+  before = f.before;
+  was = λ bytes. elim (f.was bytes) [ | inl here ↦ inl here | inr back ↦ inr (tt, back.1) ];
+}
 fact_later accepts e old new first last before behind _ at f = tt
 
 pub record IsSafe (accepts : Acceptance) (first last : World) (story : Story) : Type 0 where
@@ -286,14 +285,14 @@ module _ (accepts : Acceptance) (tears : List (List ℕ)) (items : List Item) (s
   Reached-spans which =
       ReleasedSpans-kept accepts which (story_of end) (run_safe.kept which) (λ svn at n. trusted_at accepts which svn at end (Reached-released which svn at n))
 
-  -- A bank was locked, but for a fault, only with a cause in its contents.
-  pub Reached-locks : (which : Bank) (cause : LockWhy) (at : Counts) → IsNoted end.notes.list (what.Locked which cause at) → ¬ IsFaultLock cause
+  -- A bank was locked, but for a fault or by its watch, only with a cause in its contents.
+  pub Reached-locks : (which : Bank) (cause : LockWhy) (at : Counts) → IsNoted end.notes.list (what.Locked which cause at) → ¬ IsFaultLock cause → ¬ IsWatchLock cause
       → AtCounts (λ image nv. IsDue cause which image nv accepts) which at end
   unfolding running
-  Reached-locks which cause at n no_fault =
+  Reached-locks which cause at n no_fault no_watch =
       let k = run_known (what.Locked which cause at) n in
       at_moment (λ image nv. IsDue cause which image nv accepts) which k.0 at end k.1.0 k.2
-      (lock_due (running accepts start end) cause which k.0 no_fault (images_then k.0 end k.2 held (device_of which)) k.1.1)
+      (lock_due (running accepts start end) cause which k.0 no_fault no_watch (images_then k.0 end k.2 held (device_of which)) k.1.1)
 
   -- A bank was locked for a fault only where a count of faults rose.
   pub Reached-flash_faults : (which : Bank) (at : Counts) → IsNoted end.notes.list (what.Locked which why.FlashFault at)
@@ -313,7 +312,7 @@ module _ (accepts : Acceptance) (tears : List (List ℕ)) (items : List Item) (s
   Reached-releases which svn at n = Reached-released which svn at (all_added (what.Released which svn at) n)
 
   pub Reached-causes : LocksHaveCauses accepts start end
-  Reached-causes which cause at n no_fault = Reached-locks which cause at (all_added (what.Locked which cause at) n) no_fault
+  Reached-causes which cause at n no_fault no_watch = Reached-locks which cause at (all_added (what.Locked which cause at) n) no_fault no_watch
 
   pub Reached-faults : FaultsHaveCauses start end
   Reached-faults = record {
