@@ -1,29 +1,17 @@
 // What watches over the boots of the banks' processors.
 ghost use Rattle.std.specs.Prelude.{◌≡◌, ◌&&◌, if◌then◌else◌};
 ghost use Rattle.pfr_story.specs.Guards.{first_watches, watch_after, watches_after};
-ghost use Rattle.pfr_watch.specs.Watching.{expires, passed, ticked};
+ghost use Rattle.pfr_watch.specs.Watching.{expires, ticked};
 
 use pfr_flash::Bank;
 use pfr_report::What;
-use pfr_watch::{Stage, Watch};
+use pfr_watch::Watch;
 
 /// The watches over the boots of both banks' processors.
 #[derive(Clone, Copy, Debug, PartialEq, Eq)]
 pub struct Watches {
     pub bmc: Watch,
     pub pch: Watch,
-}
-
-// The stage was passed. A boot that is done stays so.
-fn pass(watch: &mut Watch)
-    ensures { watch.new ≡ passed watch.old }
-{
-    if watch.stage == Stage::Done {
-        watch.left = 0;
-        watch.recoveries = 0;
-    } else {
-        watch.pass();
-    }
 }
 
 // What a note does to the watch of this bank.
@@ -38,7 +26,7 @@ fn note(watch: &mut Watch, which: Bank, what: &What)
         }
         What::Passed { bank, .. } | What::Booted { bank } => {
             if *bank == which {
-                pass(watch);
+                watch.pass();
             }
         }
         What::Expired { bank, level } => {
