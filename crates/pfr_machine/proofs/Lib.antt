@@ -10,6 +10,8 @@ pub mod TurnLemmas
 pub mod SoundLemmas
 pub mod JudgeLemmas
 pub mod CheckLemmas
+pub mod EndsLemmas
 pub mod BringLemmas
+pub mod WorkLemmas
 pub mod BusLemmas
 mod VerdictLaw

@@ -1,5 +1,5 @@
 // The platform.
-ghost use Rattle.std.specs.Prelude.{◌≡◌, ◌+◌, ◌<◌, ◌≤◌, false, [], OnOk, OnErr};
+ghost use Rattle.std.specs.Prelude.{◌≡◌, ◌≢◌, ◌+◌, ◌<◌, ◌≤◌, false, [], OnOk, OnErr};
 ghost use Rattle.pfr_auth.specs.Trusted.{IsTrusted};
 ghost use Rattle.pfr_flash.specs.FlashState.{now, size_of};
 ghost use Rattle.pfr_flash.specs.Layout.{IsBankSize};
@@ -18,7 +18,7 @@ ghost use Rattle.pfr_story.specs.Spans.{ReleasedSpans};
 ghost use Rattle.pfr_story.specs.Standing.{standing_of, standing_by};
 ghost use Rattle.pfr_story.specs.Story.{device_of};
 ghost use Rattle.pfr_story.specs.Turn.{Turn, begun, course, is_idle};
-ghost use Rattle.pfr_story.specs.World.{AllMoved, AreDevices, IsDark, NoneLost, NoneRose, state_at, story_of};
+ghost use Rattle.pfr_story.specs.World.{AllMoved, AreDevices, IsDark, NoneLost, NoneRose, added, state_at, story_of};
 ghost use Rattle.pfr_story.specs.declared.line.Line.TheVariants as line;
 ghost use Rattle.pfr_machine.specs.Inside.{HasSizes};
 
@@ -107,7 +107,7 @@ impl<F: Flash, E: Engine + Drop> Platform<F, E> {
         // What is done is what the contents call for, unless a call of a device fails.
         ensures turn { OnOk result (Turn (E.accepts self.old.engine) event.now self.old.world self.new.world) }
         ensures calm { OnOk result (NoneLost self.old.world self.new.world → NoneRose self.old.world self.new.world →
-            Calm (course (E.accepts self.old.engine) event.now (story_of self.old.world)) (begun self.old.world) self.new.world) }
+            Calm (course (E.accepts self.old.engine) event.now (story_of self.old.world)) (begun event.now self.old.world) self.new.world) }
         ensures engine { self.new.engine ≡ self.old.engine }
         ensures err { OnErr result (SameButRoom self.old self.new) }
 
@@ -146,7 +146,7 @@ impl<F: Flash, E: Engine + Drop> Platform<F, E> {
         ensures quiet { OnOk result (StaysQuiet event.now self.old.world self.new.world) }
         ensures untouched { OnOk result (CallsNone event.now self.old.world self.new.world) }
         ensures on { OnOk result (HasPower self.new.world) }
-        ensures moved { OnOk result (AllMoved (begun self.old.world) self.new.world) }
+        ensures moved { OnOk result (AllMoved (begun event.now self.old.world) self.new.world) }
         // The counts that notes carry rise from the step's begin to its end.
         ensures counted { OnOk result (CountsRise self.old.world self.new.world) }
 
@@ -190,7 +190,7 @@ impl<F: Flash, E: Engine + Drop> Platform<F, E> {
         ensures spelled { OnOk result (¬ AreOff self.old.world → IsKnownSlot event.now) }
         ensures untouched { OnOk result (CallsNone event.now self.old.world self.new.world) }
         ensures dark { OnOk result
-            (is_idle event.now (story_of self.old.world) ≡ false → AreOff self.new.world → IsDark self.new.world) }
+            (is_idle event.now (story_of self.old.world) ≡ false → added self.old.world self.new.world ≢ [] → AreOff self.new.world → IsDark self.new.world) }
         ensures err { OnErr result (SameButRoom self.old self.new) }
     {
         match self.inner.take() {
