@@ -366,14 +366,17 @@ pub record IsDone (b : Bank) (verdict : Verdict) (old new : World) : Type 0 wher
   pub leaves : LeavesWhole 3 old new
   pub dark : standing_of bank.Bmc new.notes.list ≡ standing.Off → IsDark new
 
+pub bus_spare : {F : Type 0} (dev : F → FlashState) (bus : Bus F) → 3 ≤ bus.board.notes.spare → 3 ≤ (bus_world dev bus).notes.spare
+bus_spare dev bus room =
+    let same = desk_notes bus.bank (dev bus.running.flash) (dev (flash_in bus.other)) (dev bus.board.nv) (latches_by bus.bank bus.running.latch (latch_in bus.other)) bus.board in
+    subst (λ (n : NotesState). 3 ≤ n.spare) (sym same) room
+
 module _ {F : Type 0} (dev : F → FlashState) (bus : Bus F) (seated : IsBus dev bus) (whole : IsWhole (bus_world dev bus)) (room : 3 ≤ bus.board.notes.spare) where
   abbrev old : World
   old = bus_world dev bus
 
   spare : 1 ≤ old.notes.spare
-  spare =
-      let same : old.notes ≡ bus.board.notes = desk_notes bus.bank (dev bus.running.flash) (dev (flash_in bus.other)) (dev bus.board.nv) (latches_by bus.bank bus.running.latch (latch_in bus.other)) bus.board in
-      subst (λ (n : NotesState). 1 ≤ n.spare) (sym same) (omega arith)
+  spare = let three : 3 ≤ old.notes.spare = bus_spare dev bus room in omega arith
 
   pub is_blocked : (why : BlockCause) (new : World) → new ≡ bus_world dev (record bus { board = pushed (BusBlocked bus.bank why) bus.board }) → IsDone bus.bank (Block why) old new
   is_blocked why new e =
