@@ -283,11 +283,11 @@ module _ {F : Type 0} (dev : F → FlashState) (bus : Bus F) (running : RunningS
         (later_size latches)
         (subst (λ (d : FlashState). d.powered ≡ true) (sym (state_mine bus.bank (dev running.flash) (dev (flash_in bus.other)) (dev bus.board.nv) latches bus.board)) on)
         (state_other bus.bank (dev running.flash) (dev (flash_in bus.other)) (dev bus.board.nv) latches bus.board
-            ∙ sym (state_other bus.bank (dev bus.running.flash) (dev (flash_in bus.other)) (dev bus.board.nv) latches_then bus.board))
+        ∙ sym (state_other bus.bank (dev bus.running.flash) (dev (flash_in bus.other)) (dev bus.board.nv) latches_then bus.board))
         (state_store bus.bank (dev running.flash) (dev (flash_in bus.other)) (dev bus.board.nv) latches bus.board
-            ∙ sym (state_store bus.bank (dev bus.running.flash) (dev (flash_in bus.other)) (dev bus.board.nv) latches_then bus.board))
+        ∙ sym (state_store bus.bank (dev bus.running.flash) (dev (flash_in bus.other)) (dev bus.board.nv) latches_then bus.board))
         (ap (λ (n : NotesState). n.list) (desk_notes bus.bank (dev running.flash) (dev (flash_in bus.other)) (dev bus.board.nv) latches bus.board
-            ∙ sym (desk_notes bus.bank (dev bus.running.flash) (dev (flash_in bus.other)) (dev bus.board.nv) latches_then bus.board)))
+        ∙ sym (desk_notes bus.bank (dev bus.running.flash) (dev (flash_in bus.other)) (dev bus.board.nv) latches_then bus.board)))
         seated
 
   -- whether its device has power or not
