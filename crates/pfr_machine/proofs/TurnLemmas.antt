@@ -115,14 +115,6 @@ idle_known (event.Provision what) old idle some = absurd (some (off_only (standi
 idle_known (event.Spi which frame) old idle some = tt
 idle_known (event.Smbus which frame) old idle some = tt
 
--- whether it is taken rests on how the banks stand
-pub idle_same : (e : Event) (s t : Story) → s.notes ≡ t.notes → is_idle e s ≡ is_idle e t
-idle_same event.Power s t same = refl
-idle_same event.Off s t same = ap (λ (list : List Note). is_off (standing_of bank.Bmc list)) same
-idle_same (event.Provision what) s t same = ap (λ (list : List Note). is_off (standing_of bank.Bmc list)) same
-idle_same (event.Spi which frame) s t same = ap (λ (list : List Note). not (is_running (standing_of which list))) same
-idle_same (event.Smbus which frame) s t same = ap (λ (list : List Note). not (is_running (standing_of which list))) same
-
 -- the bank of a frame that is taken runs
 pub running_only : (s : Standing) → not (is_running s) ≡ false → s ≡ Running
 running_only Off e = absurd (let never : true ≡ false = e in cc)

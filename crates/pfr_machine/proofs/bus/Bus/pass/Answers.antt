@@ -1,14 +1,7 @@
 use Rattle.std.proofs.Common.{◌≡◌, ◌∙◌, ◌≤◌, ap, subst, arith, Ok, Err}
-use Rattle.pfr_flash.specs.declared.names.Device.{Device}
 use Rattle.pfr_filter.specs.declared.verdict.Verdict.{Verdict}
-use Rattle.pfr_filter.specs.declared.verdict.Verdict.TheVariants.{Pass}
-use Rattle.pfr_story.specs.World.{World}
-use Rattle.pfr_machine.specs.Buses.{IsBus, bus_sides, bus_world}
-use Rattle.pfr_machine.specs.Inside.{AreOwned, AreSides}
-use Rattle.pfr_machine.specs.Worlds.{sides_world, sits_in}
-use Rattle.pfr_machine.specs.declared.bus.Bus.{Bus}
-use Rattle.pfr_machine.specs.declared.sides.Sides.{Sides}
-use Rattle.pfr_machine.proofs.SeatLemmas.{IsLost}
+use Rattle.pfr_machine.specs.Buses.{bus_world}
+use Rattle.pfr_machine.specs.Worlds.{sides_world}
 use Rattle.pfr_machine.proofs.BusLemmas.{Handed, bus_spare, fault_on, handed_bus, handed_owned, is_dark, is_locked, is_passed, ok_on}
 use Rattle.pfr_machine.proofs.bus.Bus.pass.Goals as goal
 
