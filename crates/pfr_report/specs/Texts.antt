@@ -124,11 +124,15 @@ HasLockText (NoGoodImage active recovery) = AreFound active recovery
 HasLockText (NoRecovery recovery) = IsFound capsule_failure recovery
 HasLockText why = Unit {0}
 
+-- the same of a refusal
+abbrev pub HasRefusalText : Refusal → Type 0
+HasRefusalText (Capsule cause) = IsFound capsule_failure cause
+
 -- a note's cause is no failed device, and its stage has a word
 abbrev pub HasText : What → Type 0
 HasText (Untrusted bank why) = IsFound active_failure why
 HasText (Locked bank why counts) = HasLockText why
-HasText (Refused bank (Capsule cause)) = IsFound capsule_failure cause
+HasText (Refused bank why) = HasRefusalText why
 HasText (Passed bank stage) = HasStageWord stage
 HasText what = Unit {0}
 

@@ -5,7 +5,7 @@ ghost use Rattle.pfr_auth.specs.Answer.{active_failure};
 ghost use Rattle.pfr_shelf.specs.Pieces.{Writes};
 ghost use Rattle.pfr_capsule.specs.Answer.{capsule_failure};
 ghost use Rattle.pfr_report.specs.Words.{active_text, block_text, capsule_text, AreFound};
-ghost use Rattle.pfr_report.specs.Texts.{bank_word, lock_word, note_text, update_word, HasLockText, HasText};
+ghost use Rattle.pfr_report.specs.Texts.{bank_word, lock_word, note_text, refusal_text, update_word, HasLockText, HasRefusalText, HasText};
 ghost use Rattle.pfr_report.specs.declared.note.LockWhy.TheVariants.{NoGoodImage};
 
 use crate::cause::{active_cause, block_cause, capsule_cause};
@@ -192,6 +192,17 @@ fn write_locked<K: Sink>(item: u32, bank: Bank, why: LockWhy, out: &mut K) -> Re
     }
 }
 
+// The line of a bank whose update is refused.
+fn write_refused<K: Sink>(item: u32, bank: Bank, why: Refusal, out: &mut K) -> Result<(), SinkFail>
+    requires { HasRefusalText why }
+    ensures { Writes K.tells K.written K.faults out.old out.new
+        (decimal item ++ (codes " " ++ ((bank_word bank ++ (codes " refused " ++ refusal_text why)) ++ codes "\n"))) result }
+{
+    match why {
+        Refusal::Capsule(cause) => write_capsule_cause(item, bank, b" refused ", cause, out),
+    }
+}
+
 // The line of a bank whose active image was updated.
 fn write_updated<K: Sink>(
     item: u32,
@@ -260,10 +271,7 @@ pub fn write_note<K: Sink>(note: &Note, out: &mut K) -> Result<(), SinkFail>
             write_number(item, bank, b" restored level ", level, out)
         }
         What::Updated { bank, dynamic, svn } => write_updated(item, bank, dynamic, svn, out),
-        What::Refused {
-            bank,
-            why: Refusal::Capsule(why),
-        } => write_capsule_cause(item, bank, b" refused ", why, out),
+        What::Refused { bank, why } => write_refused(item, bank, why, out),
         What::Expired { bank, level } => write_number(item, bank, b" watchdog ", level, out),
         What::Passed { bank, stage } => {
             write_bank(item, bank, b" passed ", stage_word(stage), out)

@@ -4,4 +4,4 @@ use Rattle.pfr_report.proofs.lines.write_number.Goals as goal
 pub returns : goal.returns
 returns g c =
     let h = rw (c.as_bytes-item.ensures.value, c.format.ensures.text, c.bank_word.ensures, c.as_bytes-number.ensures.value, c.format-2.ensures.text) at c.write_pieces.ensures in
-    rw append_assoc h
+    rw (append_assoc, append_assoc) h
