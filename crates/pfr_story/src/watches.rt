@@ -23,6 +23,16 @@ fn note(watch: &mut Watch, which: Bank, what: &What)
                 watch.restart(which);
             }
         }
+        What::Passed { bank, .. } | What::Booted { bank } => {
+            if *bank == which {
+                watch.pass();
+            }
+        }
+        What::Expired { bank, level } => {
+            if *bank == which {
+                watch.recoveries = *level;
+            }
+        }
         What::Power => watch.recoveries = 0,
         _ => {}
     }
