@@ -22,7 +22,7 @@ use Rattle.pfr_story.specs.Story.{Story, Move, Says, Does, Asks, after, noted, o
 use Rattle.pfr_story.specs.Turn.{fault_of, fuse_stretch, bank_stretch, provision_stretch, spi_stretch, expiry_stretch, update_stretch, is_due, stretch_if, pass_note, power_course, provision_course, spi_course, smbus_course, tick_course, update_course}
 use Rattle.pfr_story.specs.World.{World, story_of, state_at, AllMoved}
 use Rattle.pfr_story.specs.Safety.{Rule, AllGood, AllSafe, AllMake, Leads}
-use Rattle.pfr_story.specs.Plans.{migrated, provisioned, filtered, smbus_judged, level_after, expired, is_dynamic, updating}
+use Rattle.pfr_story.specs.Plans.{migrated, provisioned, filtered, smbus_judged, level_after, expired, is_dynamic}
 use Rattle.pfr_story.specs.Course.{Stretch, Steps, lost, Course, Follows}
 use Rattle.pfr_story.proofs.WorldLaws.{AllMoved-refl, AllMoved-trans, faults_moved, losses_moved}
 use Rattle.pfr_story.proofs.Courses.{went_on, Steps-moved, moved_behind, fault_rose}
