@@ -173,9 +173,9 @@ Turn-quiet accepts e old new t idle = is_ignored e old new (subst (λ (b : Bool)
 only_ignored : (old : World) (notes : List Note) (device : Option Device) (at : Counts) → notes ≡ record { item = old.item + 1; what = what.Ignored } ∷ [] → ¬ IsNoted notes (what.Lost device at)
 only_ignored old notes device at e n = elim (subst (λ (ns : List Note). IsNoted ns (what.Lost device at)) e n) [ inl same ↦ absurd cc | inr none ↦ none ]
 
--- No device has power once a loss of power is noted, where none has once an event was taken and the banks went off.
-pub Turn-dark : (accepts : Acceptance) (e : Event) (old new : World) → Turn accepts e old new → LostEnds old new → (is_idle e (story_of old) ≡ false → AreOff new → IsDark new) → LostIsDark old new
+-- No device has power once a loss of power is noted, where none has once an event was taken and the banks are off by what was noted.
+pub Turn-dark : (accepts : Acceptance) (e : Event) (old new : World) → Turn accepts e old new → LostEnds old new → (is_idle e (story_of old) ≡ false → added old new ≢ [] → AreOff new → IsDark new) → LostIsDark old new
 Turn-dark accepts e old new t ends dark device at n = elim (Turn-cases accepts e old new t) [
   | inl idle ↦ absurd (only_ignored old (added old new) device at (is_ignored e old new idle.1).notes n)
-  | inr on ↦ dark on.0 (ap is_off (ends device at n).bmc)
+  | inr on ↦ dark on.0 (λ none. subst (λ (ns : List Note). IsNoted ns (what.Lost device at)) none n) (ap is_off (ends device at n).bmc)
 ]
