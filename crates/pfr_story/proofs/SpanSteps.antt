@@ -361,12 +361,12 @@ module _ (accepts : Acceptance) (which : Bank) where
   })
 
   -- ---- the stretches
-  -- the spans are kept, before the fuses are read, and behind that
+  -- the spans are kept where the step begins
   record Early (story : Story) : Type 0 where
     pub kept : Kept accepts which story
     pub size : length story.nv.start ≡ 32768
 
-  -- here where this is so, which needs not be of work on the other bank
+  -- they are kept where work on a bank begins; and where this is so, a store that can be read is of profile 2
   record Late (R : Type 0) (story : Story) : Type 0 where
     pub kept : Kept accepts which story
     pub two : R → NotOne (store story)
