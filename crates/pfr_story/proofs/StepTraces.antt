@@ -284,7 +284,7 @@ module _ (G : Rule) (h : AllowsBanks G) where
       let Q : Story → Type 0 = λ there. level_at bank.Pch there ≡ level_at bank.Pch (story_of old) in
       tick_along G old new Any (λ w moved. tt) (allows old new) old new (within old new) accepts n story P Q Any
       (λ due. expiry_good old new P Q accepts bank.Bmc (λ there p. expires bank.Bmc there due (p bank.Bmc))
-          (λ moves there all p. ap (λ (guard : Guard). level_after guard.watch) (other_guard bank.Bmc moves there all) ∙ p bank.Pch))
+      (λ moves there all p. ap (λ (guard : Guard). level_after guard.watch) (other_guard bank.Bmc moves there all) ∙ p bank.Pch))
       (λ there p. p bank.Pch)
       (λ due. expiry_good old new Q Any accepts bank.Pch (λ there q. expires bank.Pch there due q) (λ moves there all q. tt))
       (λ there q. tt) (λ b. refl) t

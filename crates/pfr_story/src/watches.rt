@@ -75,6 +75,9 @@ impl Watches {
         ensures bmc { self.new.bmc ≡ (if bmc_runs then ticked self.old.bmc n else self.old.bmc) }
         ensures pch { self.new.pch ≡ (if pch_runs then ticked self.old.pch n else self.old.pch) }
     {
-        (tick(&mut self.bmc, n, bmc_runs), tick(&mut self.pch, n, pch_runs))
+        (
+            tick(&mut self.bmc, n, bmc_runs),
+            tick(&mut self.pch, n, pch_runs),
+        )
     }
 }
