@@ -1,12 +1,15 @@
 -- One stretch after another.
-use Rattle.std.proofs.Common.{◌≡◌, ◌∙◌, ◌≤◌, refl, sym, subst, arith, ℕ, Bool, true, false, List, [], ◌∷◌, ◌⊎◌, inl, inr}
-use Rattle.std.specs.Prelude.{not}
+use Rattle.std.proofs.Common.{◌≡◌, ◌≢◌, ◌∙◌, ◌≤◌, refl, sym, subst, arith, ℕ, Bool, true, false, List, [], ◌∷◌, ◌⊎◌, inl, inr}
+use Rattle.std.specs.Prelude.{not, ◌||◌}
 use Rattle.pfr_flash.specs.FlashState.{Rose}
 use Rattle.pfr_story.specs.Story.{Story, after}
 use Rattle.pfr_story.specs.World.{World, story_of, state_at, AllMoved, NoneLost, NoneRose}
 use Rattle.pfr_story.specs.Goes.{Ran}
 use Rattle.pfr_engine.specs.Acceptance.{Acceptance}
 use Rattle.pfr_script.specs.declared.event.Event.{Event}
+use Rattle.pfr_watch.specs.Watching.{unless_done}
+use Rattle.pfr_watch.specs.declared.stage.Stage.{Stage}
+use Rattle.pfr_watch.specs.declared.stage.Stage.TheVariants as stage
 use Rattle.pfr_story.specs.Standing.{Standing, Off, Held, Running, Locked, is_running}
 use Rattle.pfr_story.specs.Turn.{ignored, ignored_if, is_idle, taken, begun, Turn}
 use Rattle.pfr_story.specs.Course.{Stretch, Faults, CrossesOrFaults, Ends, goes_on_if, Steps, lost, calm_of, Course, Follows, Calm}
@@ -76,15 +79,15 @@ Follows-calm c old new (mid, first, rest) none_lost none_rose =
 
 -- ---- an event that is ignored, and one that is taken
 abbrev pub IsTakenBy : Acceptance → Event → World → World → Type 0
-IsTakenBy accepts e old new = (is_idle e (story_of old) ≡ false) × Follows (taken accepts e (story_of old)) (begun old) new
+IsTakenBy accepts e old new = (is_idle e (story_of old) ≡ false) × Follows (taken accepts e (story_of old)) (begun e old) new
 
-by_idle : (accepts : Acceptance) (e : Event) (old new : World) (idle : Bool) → is_idle e (story_of old) ≡ idle → Follows (ignored_if idle (taken accepts e (story_of old))) (begun old) new
-    → ((is_idle e (story_of old) ≡ true) × Follows ignored (begun old) new) ⊎ IsTakenBy accepts e old new
+by_idle : (accepts : Acceptance) (e : Event) (old new : World) (idle : Bool) → is_idle e (story_of old) ≡ idle → Follows (ignored_if idle (taken accepts e (story_of old))) (begun e old) new
+    → ((is_idle e (story_of old) ≡ true) × Follows ignored (begun e old) new) ⊎ IsTakenBy accepts e old new
 by_idle accepts e old new true is t = inl (is, t)
 by_idle accepts e old new false is t = inr (is, t)
 
 pub Turn-cases : (accepts : Acceptance) (e : Event) (old new : World) → Turn accepts e old new
-    → ((is_idle e (story_of old) ≡ true) × Follows ignored (begun old) new) ⊎ IsTakenBy accepts e old new
+    → ((is_idle e (story_of old) ≡ true) × Follows ignored (begun e old) new) ⊎ IsTakenBy accepts e old new
 Turn-cases accepts e old new t = by_idle accepts e old new (is_idle e (story_of old)) refl t
 
 -- a bank whose frames are taken runs
@@ -93,3 +96,18 @@ taken_runs Running e = refl
 taken_runs Off e = absurd (let never : true ≡ false = e in cc)
 taken_runs Held e = absurd (let never : true ≡ false = e in cc)
 taken_runs Locked e = absurd (let never : true ≡ false = e in cc)
+
+-- and one whose boot is taken has not booted yet
+undone_by : (at : Stage) → unless_done at false true ≡ false → at ≢ stage.Done
+undone_by stage.Done e same = let never : true ≡ false = e in absurd cc
+undone_by stage.Bmc e same = cc
+undone_by stage.Me e same = cc
+undone_by stage.Acm e same = cc
+undone_by stage.Ibb e same = cc
+undone_by stage.Obb e same = cc
+
+pub taken_boots : (s : Standing) (at : Stage) → (not (is_running s) || unless_done at false true) ≡ false → (s ≡ Running) × (at ≢ stage.Done)
+taken_boots Running at e = (refl, undone_by at e)
+taken_boots Off at e = absurd (let never : true ≡ false = e in cc)
+taken_boots Held at e = absurd (let never : true ≡ false = e in cc)
+taken_boots Locked at e = absurd (let never : true ≡ false = e in cc)

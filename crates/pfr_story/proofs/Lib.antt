@@ -33,5 +33,8 @@ pub mod ProvisionLaws
 pub mod FilterLaws
 pub mod GrowthLaws
 pub mod ContentsLaws
+pub mod GuardLaws
+pub mod Endings
+pub mod AnewLaws
 pub mod RunLaws
 pub mod KeepingLaws

@@ -1,24 +1,34 @@
 -- Of a step along stretches each move is good.
-use Rattle.std.proofs.Common.{◌≡◌, ◌<◌, sym, subst, arith, ℕ, true, List, [], ◌∷◌, inl, inr, Some}
+use Rattle.std.proofs.Common.{◌≡◌, ◌≢◌, ◌∙◌, ◌<◌, refl, sym, ap, subst, arith, ℕ, Bool, true, false, List, [], ◌∷◌, ◌++◌, inl, inr, Some}
 use Rattle.pfr_flash.specs.FlashState.{Rose}
 use Rattle.pfr_flash.specs.declared.flash.FlashFail.TheVariants.{Fault, Lost as Loses}
+use Rattle.pfr_flash.specs.Operation.{Operation}
+use Rattle.pfr_flash.specs.declared.names.Counts.{Counts}
 use Rattle.pfr_flash.specs.declared.names.Device.{Device}
+use Rattle.pfr_flash.specs.declared.names.Device.TheVariants as device
 use Rattle.pfr_flash.specs.declared.names.Bank.{Bank}
 use Rattle.pfr_flash.specs.declared.names.Bank.TheVariants as bank
 use Rattle.pfr_engine.specs.Acceptance.{Acceptance}
 use Rattle.pfr_fuses.specs.declared.root_slot.RootSlot.{RootSlot}
+use Rattle.pfr_script.specs.declared.event.Intent.{Intent}
+use Rattle.pfr_watch.specs.declared.stage.Stage.{Stage}
+use Rattle.pfr_watch.specs.declared.stage.Stage.TheVariants as stage
+use Rattle.pfr_report.specs.declared.note.LockWhy.{LockWhy}
 use Rattle.pfr_report.specs.declared.note.LockWhy.TheVariants as why
+use Rattle.pfr_report.specs.declared.note.What.{What}
 use Rattle.pfr_report.specs.declared.note.What.TheVariants as what
-use Rattle.pfr_story.specs.Story.{Story, Move, Says, after, noted, IsCut}
-use Rattle.pfr_story.specs.Turn.{fault_of, fuse_stretch, bank_stretch, provision_stretch, spi_stretch, power_course, provision_course, spi_course, smbus_course}
+use Rattle.pfr_story.specs.Guards.{Guard, Guards, guard_at, guard_after}
+use Rattle.pfr_story.specs.Story.{Story, Move, Says, Does, Asks, after, noted, operated, counts_of, other_bank, IsCut}
+use Rattle.pfr_story.specs.Turn.{fault_of, fuse_stretch, bank_stretch, provision_stretch, spi_stretch, expiry_stretch, update_stretch, is_due, stretch_if, pass_note, power_course, provision_course, spi_course, smbus_course, tick_course, update_course}
 use Rattle.pfr_story.specs.World.{World, story_of, state_at, AllMoved}
-use Rattle.pfr_story.specs.Safety.{Rule, AllGood, AllSafe, Leads}
-use Rattle.pfr_story.specs.Plans.{migrated, provisioned, filtered, smbus_judged}
+use Rattle.pfr_story.specs.Safety.{Rule, AllGood, AllSafe, AllMake, Leads}
+use Rattle.pfr_story.specs.Plans.{migrated, provisioned, filtered, smbus_judged, level_after, expired, is_dynamic}
 use Rattle.pfr_story.specs.Course.{Stretch, Steps, lost, Course, Follows}
 use Rattle.pfr_story.proofs.WorldLaws.{AllMoved-refl, AllMoved-trans, faults_moved, losses_moved}
 use Rattle.pfr_story.proofs.Courses.{went_on, Steps-moved, moved_behind, fault_rose}
-use Rattle.pfr_story.proofs.BringRules.{Any, AllowsBank, allowed_safe}
-use Rattle.pfr_story.proofs.SafetyLaws.{safe_whole}
+use Rattle.pfr_story.proofs.Sequence.{after-append}
+use Rattle.pfr_story.proofs.BringRules.{Any, IsOwn, level_at, AllowsBank, allowed_safe, expired_allowed, AllowsUpdate, updating_allowed, Making, safe_made}
+use Rattle.pfr_story.proofs.SafetyLaws.{AllMake-append, cut_makes, safe_whole}
 use Rattle.pfr_story.proofs.Traces.{Traced, Traced-then, Traced-ran, Traced-whole, Traced-cut}
 
 -- The worlds of a part of a step lie between the two ends that are looked at.
@@ -71,6 +81,12 @@ module _ (G : Rule) (first last : World) (K : Story → Type 0) (known : (w : Wo
       Traced-then G old l.at new (Traced-cut G (s.plan (story_of old)) l.which Loses old l.at l.stopped (good.plan.safe (story_of old) here))
       (Traced-ran G (lost l.which) l.at new l.noted (allows l.which (story_of l.at) fell))
 
+  -- the first stretch is there only where it is called for
+  AreGood-if : (due : Bool) (P Q : Story → Type 0) (s : Stretch) (ss : List Stretch) → (due ≡ true → IsGoodStretch G first last K P s Q) → ((story : Story) → P story → Q story)
+      → AreGood G first last Q ss → AreGood G first last P (stretch_if due s ss)
+  AreGood-if true P Q s ss good more next = AreGood-next P Q s ss (good refl) next
+  AreGood-if false P Q s ss good more next = λ old new within p t. next old new within (more (story_of old) p) t
+
   -- ---- Each move of a step is good, from where what it notes first is, and its stretches from there.
   module _ (old new : World) (within : Between first last old new) where
     along : (P : Story → Type 0) (c : Course) → Follows c old new → AllGood G c.first (story_of old) → P (after c.first (story_of old)) → AreGood G first last P c.stretches → Traced G old new
@@ -92,6 +108,79 @@ module _ (G : Rule) (first last : World) (K : Story → Type 0) (known : (w : Wo
     -- of one of a single stretch
     pub single_along : (s : Stretch) (P Q : Story → Type 0) → IsGoodStretch G first last K P s Q → P (story_of old) → Follows (record { first = []; stretches = s ∷ [] }) old new → Traced G old new
     single_along s P Q good p t = along P (record { first = []; stretches = s ∷ [] }) t tt p (AreGood-next P Q s [] good (AreGood-none Q))
+
+    -- of a tick: of each bank whose watch expires by it
+    pub tick_along : (accepts : Acceptance) (n : ℕ) (story : Story) (P Q R : Story → Type 0)
+        → (is_due bank.Bmc n story ≡ true → IsGoodStretch G first last K P (expiry_stretch accepts bank.Bmc) Q) → ((there : Story) → P there → Q there)
+        → (is_due bank.Pch n story ≡ true → IsGoodStretch G first last K Q (expiry_stretch accepts bank.Pch) R) → ((there : Story) → Q there → R there)
+        → P (story_of old) → Follows (tick_course accepts n story) old new → Traced G old new
+    tick_along accepts n story P Q R bmc past_bmc pch past_pch p t =
+        let last_one = AreGood-if (is_due bank.Pch n story) Q R (expiry_stretch accepts bank.Pch) [] pch past_pch (AreGood-none R) in
+        along P (tick_course accepts n story) t tt p
+        (AreGood-if (is_due bank.Bmc n story) P Q (expiry_stretch accepts bank.Bmc) (stretch_if (is_due bank.Pch n story) (expiry_stretch accepts bank.Pch) []) bmc past_bmc last_one)
+
+-- what is true of both notes of a stage that was passed is true of the one that is made
+pub pass_noted : (P : What → Type 0) (b : Bank) (at next : Stage) → (next ≡ stage.Done → P (what.Booted b)) → (next ≢ stage.Done → P (what.Passed b at)) → P (pass_note b at next)
+pass_noted P b at stage.Done booted passed = booted refl
+pass_noted P b at stage.Bmc booted passed = passed (λ e. cc)
+pass_noted P b at stage.Me booted passed = passed (λ e. cc)
+pass_noted P b at stage.Acm booted passed = passed (λ e. cc)
+pass_noted P b at stage.Ibb booted passed = passed (λ e. cc)
+pass_noted P b at stage.Obb booted passed = passed (λ e. cc)
+
+-- ---- the work on a bank leaves what guards the other one
+abbrev pub LeavesOther : Bank → (Counts → What) → Type 0
+LeavesOther b w = (at : Counts) (guard : Guard) → guard_after (other_bank b) (w at) guard ≡ guard
+
+leaves_other : (b : Bank) → AllowsBank (Making (IsOwn b) (LeavesOther b)) b
+leaves_other bank.Bmc = record {
+  released = λ svn story at guard. refl;
+  locked = λ cause story at guard. refl;
+  untrusted = λ cause story at guard. refl;
+  restored = λ level story at guard. refl;
+  asks = λ which story own. own;
+  works = λ op story. inl refl;
+}
+leaves_other bank.Pch = record {
+  released = λ svn story at guard. refl;
+  locked = λ cause story at guard. refl;
+  untrusted = λ cause story at guard. refl;
+  restored = λ level story at guard. refl;
+  asks = λ which story own. own;
+  works = λ op story. inl refl;
+}
+
+locked_apart : (b : Bank) (cause : LockWhy) → LeavesOther b (what.Locked b cause)
+locked_apart bank.Bmc cause at guard = refl
+locked_apart bank.Pch cause at guard = refl
+
+held_apart : (b : Bank) → LeavesOther b (what.Held b)
+held_apart bank.Bmc at guard = refl
+held_apart bank.Pch at guard = refl
+
+expired_apart : (b : Bank) (level : ℕ) → LeavesOther b (λ _. what.Expired b level)
+expired_apart bank.Bmc level at guard = refl
+expired_apart bank.Pch level at guard = refl
+
+pub expired_leaves : (accepts : Acceptance) (b : Bank) (story : Story) → AllMake (IsOwn b) (LeavesOther b) (expired accepts b story)
+expired_leaves accepts b story =
+    safe_made (IsOwn b) (LeavesOther b) (expired accepts b story) story
+    (expired_allowed (Making (IsOwn b) (LeavesOther b)) accepts b (leaves_other b) story (expired_apart b (level_at b story)) (held_apart b))
+
+guard_noted : (c : Bank) (w : Counts → What) (story : Story) → guard_at c (noted w story).guards ≡ guard_after c (w (counts_of story)) (guard_at c story.guards)
+guard_noted bank.Bmc w story = refl
+guard_noted bank.Pch w story = refl
+
+guards_operated : (which : Device) (op : Operation) (story : Story) → (operated which op story).guards ≡ story.guards
+guards_operated device.Bmc op story = refl
+guards_operated device.Pch op story = refl
+guards_operated device.Nv op story = refl
+
+pub other_guard : (b : Bank) (moves : List Move) (story : Story) → AllMake (IsOwn b) (LeavesOther b) moves → guard_at (other_bank b) (after moves story).guards ≡ guard_at (other_bank b) story.guards
+other_guard b [] story all = refl
+other_guard b (Says w ∷ moves) story all = other_guard b moves (noted w story) all.1 ∙ guard_noted (other_bank b) w story ∙ all.0 (counts_of story) (guard_at (other_bank b) story.guards)
+other_guard b (Does which op ∷ moves) story all = other_guard b moves (operated which op story) all.1 ∙ ap (λ (guards : Guards). guard_at (other_bank b) guards) (guards_operated which op story)
+other_guard b (Asks which ∷ moves) story all = other_guard b moves story all.1
 
 -- ---- a rule that allows what is noted of banks, and calls of their devices
 -- all that is noted of banks and of losses of power, and all that banks' devices do, is good
@@ -131,6 +220,28 @@ module _ (G : Rule) (h : AllowsBanks G) where
       on = λ which story trace p cut e. tt;
     }
 
+    -- an expiry, from where it may be noted: what holds behind it is what the work on the bank leaves true
+    expiry_good : (P Q : Story → Type 0) (accepts : Acceptance) (b : Bank) → ((story : Story) → P story → G (Says (λ _. what.Expired b (level_at b story))) story)
+        → ((moves : List Move) (story : Story) → AllMake (IsOwn b) (LeavesOther b) moves → P story → Q (after moves story)) → IsGoodStretch G first last Any P (expiry_stretch accepts b) Q
+    expiry_good P Q accepts b expires keeps = record {
+      plan = record {
+        safe = λ story p. expired_allowed G accepts b (h.bank b) story (expires story p.1) (h.held b _);
+        ends = λ story p. keeps (expired accepts b story) story (expired_leaves accepts b story) p.1;
+      };
+      noted = λ which story trace p cut rose. ((h.bank b).locked (fault_of which) (after trace story), tt);
+      on = λ which story trace p cut e.
+          let lock : List Move = Says (what.Locked b (fault_of which)) ∷ [] in
+          let made = (cut_makes (IsOwn b) (LeavesOther b) which (expired accepts b story) trace story (expired_leaves accepts b story) cut).1 in
+          subst Q (after-append trace lock story) (keeps (trace ++ lock) story (AllMake-append (IsOwn b) (LeavesOther b) trace lock made (locked_apart b (fault_of which), tt)) p.1);
+    }
+
+    update_good : (P : Story → Type 0) (accepts : Acceptance) (b : Bank) (intent : Intent) → AllowsUpdate G b (is_dynamic intent) → IsGoodStretch G first last Any P (update_stretch accepts b intent) Any
+    update_good P accepts b intent u = record {
+      plan = record { safe = λ story p. updating_allowed G accepts b (h.bank b) intent story u (h.held b story); ends = λ story p. tt };
+      noted = λ which story trace p cut rose. ((h.bank b).locked (fault_of which) (after trace story), tt);
+      on = λ which story trace p cut e. tt;
+    }
+
   module _ (old new : World) where
     within : Between old new old new
     within = record { before = AllMoved-refl old; behind = AllMoved-refl new }
@@ -163,3 +274,30 @@ module _ (G : Rule) (h : AllowsBanks G) where
       → Follows (smbus_course accepts b frame story) old new → Traced G old new
   smbus_traced accepts b frame story old new safe t =
       noted_good old new (smbus_judged accepts b frame story) t (safe_whole G (smbus_judged accepts b frame story) (story_of old) safe)
+
+  -- of a tick, by the story that it is judged by: an expiry is noted at the level that its bank has where the step begins
+  pub tick_traced : (accepts : Acceptance) (n : ℕ) (story : Story) (old new : World)
+      → ((b : Bank) (there : Story) → is_due b n story ≡ true → level_at b there ≡ level_at b (story_of old) → G (Says (λ _. what.Expired b (level_at b there))) there)
+      → Follows (tick_course accepts n story) old new → Traced G old new
+  tick_traced accepts n story old new expires t =
+      let P : Story → Type 0 = λ there. (b : Bank) → level_at b there ≡ level_at b (story_of old) in
+      let Q : Story → Type 0 = λ there. level_at bank.Pch there ≡ level_at bank.Pch (story_of old) in
+      tick_along G old new Any (λ w moved. tt) (allows old new) old new (within old new) accepts n story P Q Any
+      (λ due. expiry_good old new P Q accepts bank.Bmc (λ there p. expires bank.Bmc there due (p bank.Bmc))
+      (λ moves there all p. ap (λ (guard : Guard). level_after guard.watch) (other_guard bank.Bmc moves there all) ∙ p bank.Pch))
+      (λ there p. p bank.Pch)
+      (λ due. expiry_good old new Q Any accepts bank.Pch (λ there q. expires bank.Pch there due q) (λ moves there all q. tt))
+      (λ there q. tt) (λ b. refl) t
+
+  -- of a boot that failed
+  pub failed_traced : (accepts : Acceptance) (b : Bank) (old new : World) → G (Says (λ _. what.Expired b (level_at b (story_of old)))) (story_of old)
+      → Follows (record { first = []; stretches = expiry_stretch accepts b ∷ [] }) old new → Traced G old new
+  failed_traced accepts b old new expires t =
+      let P : Story → Type 0 = λ there. story_of old ≡ there in
+      single_along G old new Any (λ w moved. tt) (allows old new) old new (within old new) (expiry_stretch accepts b) P Any
+      (expiry_good old new P Any accepts b (λ there e. subst (λ (s : Story). G (Says (λ _. what.Expired b (level_at b s))) s) e expires) (λ moves there all e. tt)) refl t
+
+  -- of an update
+  pub update_traced : (accepts : Acceptance) (b : Bank) (intent : Intent) (old new : World) → AllowsUpdate G b (is_dynamic intent) → Follows (update_course accepts b intent) old new → Traced G old new
+  update_traced accepts b intent old new u t =
+      single_along G old new Any (λ w moved. tt) (allows old new) old new (within old new) (update_stretch accepts b intent) Any Any (update_good old new Any accepts b intent u) tt t

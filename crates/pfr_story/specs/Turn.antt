@@ -9,8 +9,8 @@ use Rattle.pfr_fuses.specs.declared.root_slot.RootSlot.{RootSlot}
 use Rattle.pfr_script.specs.declared.event.Event.{Event}
 use Rattle.pfr_script.specs.declared.event.Event.TheVariants as event
 use Rattle.pfr_script.specs.declared.event.Intent.{Intent}
-use Rattle.pfr_watch.specs.Stages.{next_stage, is_done}
-use Rattle.pfr_watch.specs.Watching.{expires, ticked}
+use Rattle.pfr_watch.specs.Stages.{next_stage}
+use Rattle.pfr_watch.specs.Watching.{unless_done, expires, ticked}
 use Rattle.pfr_watch.specs.declared.stage.Stage.{Stage}
 use Rattle.pfr_watch.specs.declared.stage.Stage.TheVariants.{Done}
 use Rattle.pfr_report.specs.declared.note.LockWhy.{LockWhy}
@@ -126,7 +126,7 @@ is_idle (event.Provision what) story = is_off (standing_of bank.Bmc story.notes)
 is_idle (event.Spi which frame) story = not (is_running (standing_of which story.notes))
 is_idle (event.Smbus which frame) story = not (is_running (standing_of which story.notes))
 is_idle (event.Tick n) story = false
-is_idle (event.Boot which pass) story = not (is_running (standing_of which story.notes)) || is_done (stage_at which story)
+is_idle (event.Boot which pass) story = not (is_running (standing_of which story.notes)) || unless_done (stage_at which story) false true
 is_idle (event.Update which intent) story = not (is_running (standing_of which story.notes))
 
 -- what an event calls for that is taken

@@ -60,9 +60,8 @@ impl Watch {
     }
 
     /// The stage was passed: goes on to the next one with its length, and answers it. A boot that is done has no
-    /// recoveries; else they stay. The boot must not be done before.
+    /// recoveries; else they stay. One that was done before stays so.
     pub fn pass(&mut self) -> Stage
-        requires { self.old.stage ≢ Done }
         ensures stage { result ≡ next_stage self.old.stage }
         ensures passed { self.new ≡ passed self.old }
     {
