@@ -2,7 +2,6 @@
 use Rattle.std.proofs.Common.{◌≡◌, ◌≢◌, ◌∙◌, refl, sym, ap, subst, ℕ, ◌≤◌, Bool, true, List, [], ◌∷◌, length, arith, inl, inr, Option, Some, Result, Ok, Err}
 use Rattle.pfr_flash.specs.FlashState.{FlashState, now, size_of}
 use Rattle.pfr_flash.specs.Layout.{IsBankSize}
-use Rattle.pfr_flash.specs.Operation.{Operation}
 use Rattle.pfr_flash.specs.Plan.{Follows as FollowsPlan}
 use Rattle.pfr_flash.specs.declared.flash.FlashFail.{FlashFail}
 use Rattle.pfr_flash.specs.declared.flash.FlashFail.TheVariants.{Fault, Lost as Loses}
@@ -29,7 +28,7 @@ use Rattle.pfr_report.specs.Texts.{HasText}
 use Rattle.pfr_report.specs.declared.note.LockWhy.TheVariants.{FlashFault}
 use Rattle.pfr_report.specs.declared.note.Note.{Note}
 use Rattle.pfr_report.specs.declared.note.What.{What}
-use Rattle.pfr_report.specs.declared.note.What.TheVariants.{Held, Locked, Lost, BusPassed, BusBlocked}
+use Rattle.pfr_report.specs.declared.note.What.TheVariants.{Held, Locked, BusPassed, BusBlocked}
 use Rattle.pfr_story.specs.Course.{Follows, Steps, lost}
 use Rattle.pfr_story.specs.Goes.{Goes, Ran, Stopped}
 use Rattle.pfr_story.specs.Guards.{guard_at}
@@ -38,7 +37,7 @@ use Rattle.pfr_story.specs.Standing as standing
 use Rattle.pfr_story.specs.Standing.{Standing, standing_after, standing_by, standing_of}
 use Rattle.pfr_story.specs.Story.{Move, Says, device_of, other_bank, says}
 use Rattle.pfr_story.specs.Turn.{spi_course, spi_stretch}
-use Rattle.pfr_story.specs.World.{World, IsDark, counts_in, state_at, story_of}
+use Rattle.pfr_story.specs.World.{World, IsDark, state_at, story_of}
 use Rattle.pfr_story.specs.declared.line.Line.{Line}
 use Rattle.pfr_story.specs.declared.line.Line.TheVariants as line
 use Rattle.pfr_story.proofs.Courses.{Steps-ended}
@@ -46,7 +45,7 @@ use Rattle.pfr_story.proofs.Lift.{at_device}
 use Rattle.pfr_story.proofs.Rulings.{trusted_ruling}
 use Rattle.pfr_story.proofs.Sequence.{Ran-append, Ran-refl, Stopped-first}
 use Rattle.pfr_machine.specs.Buses.{IsBus, bus_sides, bus_world, verdict_stretch}
-use Rattle.pfr_machine.specs.Inside.{AreBeside, AreOwned, AreSides, IsLaid, IsSeat, IsWhole, darkened}
+use Rattle.pfr_machine.specs.Inside.{AreBeside, AreOwned, AreSides, IsLaid, IsSeat, IsWhole}
 use Rattle.pfr_machine.specs.Ready.{LeavesSeated, LeavesWhole}
 use Rattle.pfr_machine.specs.Worlds.{AddsNotes, DeskState, Latches, Sitting, desk_world, flash_in, latch_in, latches_after, latches_by, line_in, pushed, ruling_in, sides_world, sits_in, with_note}
 use Rattle.pfr_machine.specs.declared.board.Board.{Board}
@@ -283,11 +282,11 @@ module _ {F : Type 0} (dev : F → FlashState) (bus : Bus F) (running : RunningS
         (later_size latches)
         (subst (λ (d : FlashState). d.powered ≡ true) (sym (state_mine bus.bank (dev running.flash) (dev (flash_in bus.other)) (dev bus.board.nv) latches bus.board)) on)
         (state_other bus.bank (dev running.flash) (dev (flash_in bus.other)) (dev bus.board.nv) latches bus.board
-            ∙ sym (state_other bus.bank (dev bus.running.flash) (dev (flash_in bus.other)) (dev bus.board.nv) latches_then bus.board))
+        ∙ sym (state_other bus.bank (dev bus.running.flash) (dev (flash_in bus.other)) (dev bus.board.nv) latches_then bus.board))
         (state_store bus.bank (dev running.flash) (dev (flash_in bus.other)) (dev bus.board.nv) latches bus.board
-            ∙ sym (state_store bus.bank (dev bus.running.flash) (dev (flash_in bus.other)) (dev bus.board.nv) latches_then bus.board))
+        ∙ sym (state_store bus.bank (dev bus.running.flash) (dev (flash_in bus.other)) (dev bus.board.nv) latches_then bus.board))
         (ap (λ (n : NotesState). n.list) (desk_notes bus.bank (dev running.flash) (dev (flash_in bus.other)) (dev bus.board.nv) latches bus.board
-            ∙ sym (desk_notes bus.bank (dev bus.running.flash) (dev (flash_in bus.other)) (dev bus.board.nv) latches_then bus.board)))
+        ∙ sym (desk_notes bus.bank (dev bus.running.flash) (dev (flash_in bus.other)) (dev bus.board.nv) latches_then bus.board)))
         seated
 
   -- whether its device has power or not
@@ -366,14 +365,17 @@ pub record IsDone (b : Bank) (verdict : Verdict) (old new : World) : Type 0 wher
   pub leaves : LeavesWhole 3 old new
   pub dark : standing_of bank.Bmc new.notes.list ≡ standing.Off → IsDark new
 
+pub bus_spare : {F : Type 0} (dev : F → FlashState) (bus : Bus F) → 3 ≤ bus.board.notes.spare → 3 ≤ (bus_world dev bus).notes.spare
+bus_spare dev bus room =
+    let same = desk_notes bus.bank (dev bus.running.flash) (dev (flash_in bus.other)) (dev bus.board.nv) (latches_by bus.bank bus.running.latch (latch_in bus.other)) bus.board in
+    subst (λ (n : NotesState). 3 ≤ n.spare) (sym same) room
+
 module _ {F : Type 0} (dev : F → FlashState) (bus : Bus F) (seated : IsBus dev bus) (whole : IsWhole (bus_world dev bus)) (room : 3 ≤ bus.board.notes.spare) where
   abbrev old : World
   old = bus_world dev bus
 
   spare : 1 ≤ old.notes.spare
-  spare =
-      let same : old.notes ≡ bus.board.notes = desk_notes bus.bank (dev bus.running.flash) (dev (flash_in bus.other)) (dev bus.board.nv) (latches_by bus.bank bus.running.latch (latch_in bus.other)) bus.board in
-      subst (λ (n : NotesState). 1 ≤ n.spare) (sym same) (omega arith)
+  spare = let three : 3 ≤ old.notes.spare = bus_spare dev bus room in omega arith
 
   pub is_blocked : (why : BlockCause) (new : World) → new ≡ bus_world dev (record bus { board = pushed (BusBlocked bus.bank why) bus.board }) → IsDone bus.bank (Block why) old new
   is_blocked why new e =

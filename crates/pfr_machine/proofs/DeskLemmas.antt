@@ -293,15 +293,3 @@ stays_here {T} {F} b how mine later other nv latches board answer on fed = recor
   notes = AddsNotes-same (desk_world b mine other nv latches board).notes (desk_world b later other nv latches board).notes (desk_notes b later other nv latches board ∙ sym (desk_notes b mine other nv latches board));
   awake = awake_still b (desk_world b later other nv latches board) answer (awake_at b later other nv latches board on fed);
 }
-
--- ---- sizes
-module _ {F : Type 0} (b whose : Bank) (seat : Sitting) (mine other nv : FlashState) (latches : Latches) (board : Board F) (h : IsDesk b whose seat (desk_world b mine other nv latches board)) where
-  pub my_size : IsBankSize (size_of mine)
-  my_size = subst (λ (d : FlashState). IsBankSize (size_of d)) (state_mine b mine other nv latches board) h.size
-
-  pub other_size : IsBankSize (size_of other)
-  other_size = subst (λ (d : FlashState). IsBankSize (size_of d)) (state_other b mine other nv latches board) h.other.size
-
--- as the BMC sees its seat and the other one
-pub beside_seated : (bmc pch : Sitting) (w : World) → AreBeside bank.Bmc bmc pch w → AreSeated bmc pch w
-beside_seated bmc pch w h = record { bmc = h.mine; pch = h.other; board = h.board }

@@ -103,4 +103,3 @@ neither_off Bmc w h e Bmc = runs_on _ e
 neither_off Bmc w h e Pch = λ off. runs_on _ e (h.apart off)
 neither_off Pch w h e Bmc = λ off. runs_on _ e (h.together off)
 neither_off Pch w h e Pch = runs_on _ e
-

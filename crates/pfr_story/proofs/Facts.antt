@@ -1,5 +1,5 @@
 -- What is true of a note where it is made, and that the work on a bank makes only such notes.
-use Rattle.std.proofs.Common.{◌≡◌, ◌∙◌, refl, sym, ap, subst, ℕ, ◌<◌, Bool, List, [], ◌∷◌, length, ◌⊎◌, inl, inr, Some, None, Result, Ok, Err}
+use Rattle.std.proofs.Common.{◌≡◌, ◌∙◌, refl, sym, ap, subst, ℕ, ◌<◌, Bool, List, length, ◌⊎◌, inl, inr, Some, None, Result, Ok, Err}
 use Rattle.pfr_flash.specs.Bytes.{AreBytes}
 use Rattle.pfr_flash.specs.FlashState.{Rose}
 use Rattle.pfr_flash.specs.Judging.{◌>>◌, told_as}

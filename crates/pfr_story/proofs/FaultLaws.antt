@@ -116,7 +116,6 @@ taken_tells accepts event.Off story = tt
 taken_tells accepts (event.Provision root) story = ((λ which. inl (bank.Bmc, why.StoreFault, tt, refl)), tt)
 taken_tells accepts (event.Spi b frame) story = ((λ which. inr (inl (b, why.FlashFault, tt, refl))), tt)
 taken_tells accepts (event.Smbus b frame) story = tt
-
 taken_tells accepts (event.Tick n) story =
     let pch : Stretch = expiry_stretch accepts bank.Pch in
     tell_if (is_due bank.Bmc n story) (expiry_stretch accepts bank.Bmc) (stretch_if (is_due bank.Pch n story) pch []) (λ which. bank_tells accepts bank.Bmc which)

@@ -1,5 +1,5 @@
 -- What a platform carries of its banks' spans, from step to step.
-use Rattle.std.proofs.Common.{◌≡◌, ◌∙◌, ℕ, ◌≤◌, refl, sym, ap, subst, arith, List, [], ◌∷◌, ◌++◌, length, take, Bool, true, false, cond, ◌⊎◌, inl, inr, append_assoc}
+use Rattle.std.proofs.Common.{◌≡◌, ◌∙◌, ℕ, ◌≤◌, refl, sym, ap, subst, arith, List, [], ◌∷◌, ◌++◌, length, take, inl, inr, append_assoc}
 use Rattle.std.proofs.lemmas.List.{take-append-le}
 use Rattle.pfr_flash.specs.FlashState.{now}
 use Rattle.pfr_flash.specs.Operation.{Operation, play}
@@ -17,7 +17,6 @@ use Rattle.pfr_report.specs.Texts.{IsNoted}
 use Rattle.pfr_report.specs.declared.note.Note.{Note}
 use Rattle.pfr_report.specs.declared.note.What.{What}
 use Rattle.pfr_report.specs.declared.note.What.TheVariants as what
-use Rattle.pfr_story.specs.Guards.{same_bank}
 use Rattle.pfr_story.specs.Story.{Past, Story, counts_of, past_at, device_of, image_at}
 use Rattle.pfr_story.specs.World.{World, story_of, state_at, added}
 use Rattle.pfr_story.specs.Standing as standing

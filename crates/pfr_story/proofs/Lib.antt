@@ -33,5 +33,11 @@ pub mod ProvisionLaws
 pub mod FilterLaws
 pub mod GrowthLaws
 pub mod ContentsLaws
+pub mod GuardLaws
+pub mod Endings
+pub mod AnewLaws
+pub mod Entry
+pub mod ExpiryLaws
+pub mod UpdateLaws
 pub mod RunLaws
 pub mod KeepingLaws

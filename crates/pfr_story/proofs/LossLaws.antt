@@ -172,7 +172,6 @@ taken_ends accepts (event.Spi b frame) story old new t = along (spi_course accep
 taken_ends accepts (event.Smbus b frame) story old new t =
     let moves : List Move = smbus_judged accepts b frame story in
     along (smbus_course accepts b frame story) old new (AllMake-more NoDevice Whichever IsNoLoss (λ which none. tt) moves (smbus_makes accepts b frame story)) tt t
-
 taken_ends accepts (event.Tick n) story old new t =
     let pch : Stretch = expiry_stretch accepts bank.Pch in
     along (tick_course accepts n story) old new tt

@@ -116,10 +116,9 @@ module _ (accepts : Acceptance) (e : Event) (old new : World) (t : Turn accepts 
   Turn-restores held which level n =
       let k = known_within (what.Restored which level) n in
       let r = k.1.0 in
-      let before : Precedes r.at (story_of new) = Precedes-trans r.at k.0 (story_of new) r.before k.2 in
-      (
+      let before : Precedes r.at (story_of new) = Precedes-trans r.at k.0 (story_of new) r.before k.2 in (
         counts_of r.at,
         record { behind = not_before (story_of old) r.at r.since; before = not_before r.at (story_of new) before },
         at_moment (CallsForRestore accepts which level (added old new)) which r.at (counts_of r.at) new refl before
-        (called_for which level k.0.notes (mine which r.at) (store r.at) k.1.1 (r.was (images_then r.at new before held (device_of which)))),
+            (called_for which level k.0.notes (mine which r.at) (store r.at) k.1.1 (r.was (images_then r.at new before held (device_of which)))),
       )

@@ -200,7 +200,7 @@ fact_later accepts e old new first last before behind (what.Restored b level) at
   at = f.at;
   since = Precedes-trans (story_of first) (story_of old) f.at before.precedes f.since;
   before = f.before;
-  was = λ bytes. elim (f.was bytes) [ | inl here ↦ inl here | inr back ↦ inr (tt, back.1) ];
+  was = λ bytes. elim (f.was bytes) [ inl here ↦ inl here | inr back ↦ inr (tt, back.1) ];
 }
 fact_later accepts e old new first last before behind _ at f = tt
 

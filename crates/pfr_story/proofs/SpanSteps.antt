@@ -196,8 +196,8 @@ module _ (accepts : Acceptance) (which : Bank) where
 
   held_aside : (w b : Bank) (story : Story) → same_bank w b ≡ false → (opens_from w [] story.notes ≡ []) ⊎ IsSettled (store story) → IsIdle w b (noted (what.Held b) story)
   held_aside bank.Bmc bank.Bmc story other p = absurd cc
-  held_aside bank.Bmc bank.Pch story other p = elim p [ | inl none ↦ inl (opens_told bank.Bmc (what.Held bank.Pch) story ∙ none) | inr q ↦ inr (refl, q) ]
-  held_aside bank.Pch bank.Bmc story other p = elim p [ | inl none ↦ inl (opens_told bank.Pch (what.Held bank.Bmc) story ∙ none) | inr q ↦ inr (refl, q) ]
+  held_aside bank.Bmc bank.Pch story other p = elim p [ inl none ↦ inl (opens_told bank.Bmc (what.Held bank.Pch) story ∙ none) | inr q ↦ inr (refl, q) ]
+  held_aside bank.Pch bank.Bmc story other p = elim p [ inl none ↦ inl (opens_told bank.Pch (what.Held bank.Bmc) story ∙ none) | inr q ↦ inr (refl, q) ]
   held_aside bank.Pch bank.Pch story other p = absurd cc
 
   held_idle : (w b : Bank) (story : Story) → (opens_from w [] story.notes ≡ []) ⊎ IsSettled (store story) → IsIdle w b (noted (what.Held b) story)
@@ -237,7 +237,7 @@ module _ (accepts : Acceptance) (which : Bank) where
   still_work : (b : Bank) (w : Counts → What) (story : Story) → ((opens : List Counts) → opens_after which (w (counts_of story)) opens ≡ opens) → AtWork b story → AtWork b (noted w story)
   still_work b w story still p =
       record {
-        idle = elim p.idle [ | inl e ↦ inl (opens_told which w story ∙ still (opens_from which [] story.notes) ∙ e) | inr other ↦ inr other ];
+        idle = elim p.idle [ inl e ↦ inl (opens_told which w story ∙ still (opens_from which [] story.notes) ∙ e) | inr other ↦ inr other ];
         settled = p.settled;
       }
 
@@ -309,7 +309,7 @@ module _ (accepts : Acceptance) (which : Bank) where
 
     begin_told : (that : What) (story : Story) → ((opens : List Counts) → opens_after which that opens ≡ opens) → CanBegin story → CanBegin (noted (λ _. that) story)
     begin_told that story still c = record {
-      none = elim c.none [ | inl e ↦ inl (opens_told which (λ _. that) story ∙ still (opens_from which [] story.notes) ∙ e) | inr q ↦ inr q ];
+      none = elim c.none [ inl e ↦ inl (opens_told which (λ _. that) story ∙ still (opens_from which [] story.notes) ∙ e) | inr q ↦ inr q ];
       two = c.two;
     }
 
@@ -361,12 +361,12 @@ module _ (accepts : Acceptance) (which : Bank) where
   })
 
   -- ---- the stretches
-  -- the spans are kept, before the fuses are read, and behind that
+  -- the spans are kept where the step begins
   record Early (story : Story) : Type 0 where
     pub kept : Kept accepts which story
     pub size : length story.nv.start ≡ 32768
 
-  -- here where this is so, which needs not be of work on the other bank
+  -- they are kept where work on a bank begins; and where this is so, a store that can be read is of profile 2
   record Late (R : Type 0) (story : Story) : Type 0 where
     pub kept : Kept accepts which story
     pub two : R → NotOne (store story)

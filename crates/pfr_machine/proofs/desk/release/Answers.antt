@@ -1,15 +1,14 @@
-use Rattle.std.proofs.Common.{◌≡◌, ◌∙◌, ap, Bool, false, subst, sym, Some}
+use Rattle.std.proofs.Common.{ap, Bool, false, subst, sym, Some}
 use Rattle.pfr_flash.specs.FlashState.{FlashState, now}
 use Rattle.pfr_flash.specs.declared.layout.Layout.{Layout}
 use Rattle.pfr_report.specs.declared.note.What.TheVariants.{Released}
-use Rattle.pfr_story.specs.World.{World}
 use Rattle.pfr_story.specs.declared.line.Line.TheVariants as line
 use Rattle.pfr_machine.specs.Inside.{AreBeside, IsLaid}
-use Rattle.pfr_machine.specs.Worlds.{Latches, desk_world, flash_in, latch_in, latches_by, sits_in, with_note}
+use Rattle.pfr_machine.specs.Worlds.{Latches, desk_world, flash_in, latch_in, latches_by, sits_in}
 use Rattle.pfr_machine.specs.declared.seat.Seat.TheVariants as seat
 use Rattle.pfr_machine.proofs.DeskLemmas.{state_store}
 use Rattle.pfr_machine.proofs.LaidLemmas.{ruled_laid}
-use Rattle.pfr_machine.proofs.SeatLemmas.{desk_beside, desk_noted_is}
+use Rattle.pfr_machine.proofs.SeatLemmas.{desk_beside}
 use Rattle.pfr_machine.proofs.WorldLemmas.{after_released, other_released, released_latches}
 use Rattle.pfr_machine.proofs.desk.release.Goals as goal
 

@@ -1,4 +1,4 @@
-use Rattle.std.proofs.Common.{◌≡◌, ◌∙◌, sym}
+use Rattle.std.proofs.Common.{◌∙◌, sym}
 use Rattle.pfr_machine.proofs.BusLemmas.{is_blocked}
 use Rattle.pfr_machine.proofs.bus.Bus.filter.Goals as goal
 

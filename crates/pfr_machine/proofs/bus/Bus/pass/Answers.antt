@@ -1,15 +1,8 @@
-use Rattle.std.proofs.Common.{◌≡◌, ◌∙◌, ap, subst, sym, arith, Ok, Err, Some}
-use Rattle.pfr_flash.specs.declared.names.Device.{Device}
+use Rattle.std.proofs.Common.{◌≡◌, ◌∙◌, ◌≤◌, ap, subst, arith, Ok, Err}
 use Rattle.pfr_filter.specs.declared.verdict.Verdict.{Verdict}
-use Rattle.pfr_filter.specs.declared.verdict.Verdict.TheVariants.{Pass}
-use Rattle.pfr_story.specs.World.{World}
-use Rattle.pfr_machine.specs.Buses.{IsBus, bus_sides, bus_world}
-use Rattle.pfr_machine.specs.Inside.{AreOwned, AreSides}
-use Rattle.pfr_machine.specs.Worlds.{sides_world, sits_in}
-use Rattle.pfr_machine.specs.declared.bus.Bus.{Bus}
-use Rattle.pfr_machine.specs.declared.sides.Sides.{Sides}
-use Rattle.pfr_machine.proofs.SeatLemmas.{IsLost}
-use Rattle.pfr_machine.proofs.BusLemmas.{Handed, IsDone, fault_on, handed_bus, handed_owned, is_dark, is_locked, is_passed, ok_on}
+use Rattle.pfr_machine.specs.Buses.{bus_world}
+use Rattle.pfr_machine.specs.Worlds.{sides_world}
+use Rattle.pfr_machine.proofs.BusLemmas.{Handed, bus_spare, fault_on, handed_bus, handed_owned, is_dark, is_locked, is_passed, ok_on}
 use Rattle.pfr_machine.proofs.bus.Bus.pass.Goals as goal
 
 pub bus-requires : goal.bus-requires
@@ -32,10 +25,16 @@ inner-requires g c =
     }
 
 pub hold-requires : goal.hold-requires
-hold-requires g c = ?
+hold-requires g c =
+    let same : c.inner.result ≡ bus_world g.F.Flash.device (record c.args.self { running = c.bus.new.self }) = c.inner.ensures ∙ ap (λ s. sides_world g.F.Flash.device s) c.sides.ensures in
+    let three : 3 ≤ c.inner.result.notes.spare = rw same (bus_spare g.F.Flash.device (record c.args.self { running = c.bus.new.self }) c.requires.room) in
+    record { room = omega arith }
 
 pub lock-requires-clause-room : goal.lock-requires-clause-room
-lock-requires-clause-room g c = ?
+lock-requires-clause-room g c =
+    let same : c.inner.result ≡ bus_world g.F.Flash.device (record c.args.self { running = c.bus.new.self }) = c.inner.ensures ∙ ap (λ s. sides_world g.F.Flash.device s) c.sides.ensures in
+    let three : 3 ≤ c.inner.result.notes.spare = rw same (bus_spare g.F.Flash.device (record c.args.self { running = c.bus.new.self }) c.requires.room) in
+    omega (arith, c.hold.ensures.notes.spare)
 
 pub lose-requires-clause-owned : goal.lose-requires-clause-owned
 lose-requires-clause-owned g c =

@@ -1,7 +1,7 @@
-use Rattle.std.proofs.Common.{◌≡◌, ap, subst, sym}
+use Rattle.std.proofs.Common.{subst, sym}
 use Rattle.pfr_script.specs.declared.event.Event.{Event}
 use Rattle.pfr_story.specs.Course.{Follows}
-use Rattle.pfr_story.specs.Turn.{is_idle, taken}
+use Rattle.pfr_story.specs.Turn.{taken}
 use Rattle.pfr_story.specs.World.{story_of}
 use Rattle.pfr_machine.proofs.TurnLemmas.{not_off, running_only}
 use Rattle.pfr_machine.proofs.inner.Inner.take.Goals as goal

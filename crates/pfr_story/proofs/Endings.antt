@@ -1,0 +1,188 @@
+-- How a stretch of one bank ends: all of it was done, or a call failed, which is noted.
+use Rattle.std.proofs.Common.{◌≡◌, ◌∙◌, refl, sym, ap, subst, List, [], ◌∷◌, ◌++◌, ◌⊎◌, inl, inr, Some}
+use Rattle.pfr_flash.specs.Operation.{Operation, IsTorn}
+use Rattle.pfr_flash.specs.declared.names.Bank.{Bank}
+use Rattle.pfr_flash.specs.declared.names.Bank.TheVariants as bank
+use Rattle.pfr_flash.specs.declared.names.Counts.{Counts}
+use Rattle.pfr_flash.specs.declared.names.Device.{Device}
+use Rattle.pfr_flash.specs.declared.names.Device.TheVariants as device
+use Rattle.pfr_report.specs.Texts.{IsNoted}
+use Rattle.pfr_report.specs.declared.note.Note.{Note}
+use Rattle.pfr_report.specs.declared.note.What.{What}
+use Rattle.pfr_report.specs.declared.note.What.TheVariants as what
+use Rattle.pfr_story.specs.Story.{Story, Move, Says, Does, Asks, after, noted, counts_of, FailedAt, asking, unbegun, torn, IsCut}
+use Rattle.pfr_story.specs.World.{World, story_of, AllMoved}
+use Rattle.pfr_story.specs.Course.{Stretch, Crosses, Faults, LosesPower, Steps, lost, Follows}
+use Rattle.pfr_story.specs.Safety.{Rule, AllGood, AllSafe}
+use Rattle.pfr_story.specs.Bringing.{IsOver, IsCalm}
+use Rattle.pfr_story.specs.Turn.{fault_of}
+use Rattle.pfr_story.proofs.WorldLaws.{AllMoved-trans}
+use Rattle.pfr_story.proofs.Sequence.{after-append}
+use Rattle.pfr_story.proofs.SafetyLaws.{AllGood-append, safe_whole, safe_cut}
+use Rattle.pfr_story.proofs.Courses.{went_on}
+use Rattle.pfr_story.proofs.Made.{said, noted_next, AllSay, Wrote, wrote_then, wrote_by, wrote_cut}
+use Rattle.pfr_flash.specs.declared.flash.FlashFail.TheVariants.{Fault, Lost as Loses}
+
+-- ---- how it ends
+-- what is noted where a call of this device failed: that the bank is locked for it, or the loss of power
+abbrev pub IsTrouble : Bank → Device → (Counts → What) → Type 0
+IsTrouble b which w = (w ≡ what.Locked b (fault_of which)) ⊎ (w ≡ what.Lost (Some which))
+
+-- a call failed on the way, and that was noted
+pub record IsBroken (b : Bank) (moves : List Move) (from to : Story) : Type 0 where
+  pub which : Device
+  pub trace : List Move
+  pub cut : IsCut which moves from trace
+  pub last : Counts → What
+  pub trouble : IsTrouble b which last
+  pub is : to ≡ noted last (after trace from)
+
+abbrev pub Ending : Bank → List Move → Story → Story → Type 0
+Ending b moves from to = (to ≡ after moves from) ⊎ IsBroken b moves from to
+
+module _ (s : Stretch) (b : Bank) (locks : (d : Device) → s.on_fault d ≡ Says (what.Locked b (fault_of d)) ∷ []) (old : World) where
+  pub faulted_ends : (mid : World) → Faults s old mid → Ending b (s.plan (story_of old)) (story_of old) (story_of mid)
+  faulted_ends mid f = inr (record {
+    which = f.which;
+    trace = f.stopped.trace;
+    cut = f.stopped.cut;
+    last = what.Locked b (fault_of f.which);
+    trouble = inl refl;
+    is = f.noted.is ∙ ap (λ (moves : List Move). after moves (story_of f.at)) (locks f.which) ∙ ap (λ (t : Story). noted (what.Locked b (fault_of f.which)) t) f.stopped.is;
+  })
+
+  pub lost_ends : (new : World) → LosesPower s old new → Ending b (s.plan (story_of old)) (story_of old) (story_of new)
+  lost_ends new l = inr (record {
+    which = l.which;
+    trace = l.stopped.trace;
+    cut = l.stopped.cut;
+    last = what.Lost (Some l.which);
+    trouble = inr refl;
+    is = l.noted.is ∙ ap (λ (t : Story). noted (what.Lost (Some l.which)) t) l.stopped.is;
+  })
+
+  -- the last stretch of a step
+  pub last_ends : (new : World) → Steps (s ∷ []) old new → Ending b (s.plan (story_of old)) (story_of old) (story_of new)
+  last_ends new (inl (mid, c, ends)) = inl (ends.is ∙ c.is)
+  last_ends new (inr (inl (mid, f, rest))) =
+      let same : story_of new ≡ story_of mid = went_on s.goes_on (Steps []) mid new (story_of new ≡ story_of mid) (λ e r. r.is) (λ r. r.is) rest in
+      subst (λ (t : Story). Ending b (s.plan (story_of old)) (story_of old) t) (sym same) (faulted_ends mid f)
+  last_ends new (inr (inr l)) = lost_ends new l
+
+-- a step of one stretch
+pub single_ends : (s : Stretch) (b : Bank) → ((d : Device) → s.on_fault d ≡ Says (what.Locked b (fault_of d)) ∷ []) → (first new : World) → Follows (record { first = []; stretches = s ∷ [] }) first new
+    → Ending b (s.plan (story_of first)) (story_of first) (story_of new)
+single_ends s b locks first new (mid, start, rest) = subst (λ (t : Story). Ending b (s.plan t) t (story_of new)) start.is (last_ends s b locks mid new rest)
+
+-- ---- what is noted first is noted however it ends
+fails_saying : (which : Device) (story : Story) (next : Move) (last : List Move) (w : Counts → What) → FailedAt which story next last → ¬ (next ≡ Says w)
+fails_saying which story _ _ w asking e = absurd cc
+fails_saying which story _ _ w (unbegun op) e = absurd cc
+fails_saying which story _ _ w (torn op done t) e = absurd cc
+
+-- the rest was cut short, behind what is noted first
+pub record IsCutBehind (w : Counts → What) (which : Device) (moves : List Move) (from : Story) (trace : List Move) : Type 0 where
+  pub more : List Move
+  pub is : trace ≡ Says w ∷ more
+  pub cut : IsCut which moves (noted w from) more
+
+cut_behind : (w : Counts → What) (which : Device) (moves : List Move) (from : Story) (trace front : List Move) (next : Move) (rest last : List Move)
+    → Says w ∷ moves ≡ front ++ (next ∷ rest) → trace ≡ front ++ last → FailedAt which (after front from) next last → IsCutBehind w which moves from trace
+cut_behind w which moves from trace [] next rest last plan is failed = absurd (let same : next ≡ Says w = cc in fails_saying which from next last w failed same)
+cut_behind w which moves from trace (first ∷ front) next rest last plan is failed =
+    let one : first ≡ Says w = cc in
+    let more : moves ≡ front ++ (next ∷ rest) = cc in
+    record {
+      more = front ++ last;
+      is = is ∙ ap (λ (m : Move). m ∷ (front ++ last)) one;
+      cut = record { front = front; next = next; rest = rest; last = last; plan = more; is = refl; failed = subst (λ (m : Move). FailedAt which (after (m ∷ front) from) next last) one failed };
+    }
+
+pub ends_behind : (b : Bank) (w : Counts → What) (moves : List Move) (from to : Story) → Ending b (Says w ∷ moves) from to → Ending b moves (noted w from) to
+ends_behind b w moves from to (inl e) = inl e
+ends_behind b w moves from to (inr p) =
+    let k = cut_behind w p.which moves from p.trace p.cut.front p.cut.next p.cut.rest p.cut.last p.cut.plan p.cut.is p.cut.failed in
+    inr (record { which = p.which; trace = k.more; cut = k.cut; last = p.last; trouble = p.trouble; is = p.is ∙ ap (λ (trace : List Move). noted p.last (after trace from)) k.is })
+
+no_cut : (front rest : List Move) (next : Move) → ¬ (front ++ (next ∷ rest) ≡ [])
+no_cut [] rest next e = absurd cc
+no_cut (first ∷ front) rest next e = absurd cc
+
+-- nothing that was left to do was cut short
+pub ends_done : (b : Bank) (from to : Story) → Ending b [] from to → to ≡ from
+ends_done b from to (inl e) = e
+ends_done b from to (inr p) = absurd (no_cut p.cut.front p.cut.rest p.cut.next (sym p.cut.plan))
+
+-- ---- what was made
+module _ (b : Bank) (moves : List Move) (from to : Story) where
+  abbrev pub ended_trace : Ending b moves from to → List Move
+  ended_trace (inl e) = moves
+  ended_trace (inr p) = p.trace ++ Says p.last ∷ []
+
+  pub ended_is : (e : Ending b moves from to) → to ≡ after (ended_trace e) from
+  ended_is (inl e) = e
+  ended_is (inr p) = p.is ∙ sym (after-append p.trace (Says p.last ∷ []) from)
+
+  -- each move is good where each of the plan is, and what is noted of trouble
+  pub ended_good : (G : Rule) → AllSafe G moves from → ((which : Device) (w : Counts → What) (story : Story) → IsTrouble b which w → G (Says w) story) → (e : Ending b moves from to) → AllGood G (ended_trace e) from
+  ended_good G safe told (inl e) = safe_whole G moves from safe
+  ended_good G safe told (inr p) =
+      AllGood-append G p.trace (Says p.last ∷ []) from (safe_cut G p.which moves p.trace from safe p.cut) (told p.which p.last (after p.trace from) p.trouble, tt)
+
+  -- ---- where it is calm all of it was done
+  trouble_last : (p : IsBroken b moves from to) → IsNoted (said (ended_trace (inr p)) from) (p.last (counts_of (after p.trace from)))
+  trouble_last p = noted_next p.trace (Says p.last ∷ []) from (p.last (counts_of (after p.trace from))) (inl refl)
+
+fault_noted : (b : Bank) (d : Device) (notes : List Note) (at : Counts) → IsCalm b notes → ¬ IsNoted notes (what.Locked b (fault_of d) at)
+fault_noted b device.Bmc notes at calm n = calm.flash at n
+fault_noted b device.Pch notes at calm n = calm.flash at n
+fault_noted b device.Nv notes at calm n = calm.store at n
+
+-- a call that failed was noted, which isn't calm where the work on the bank isn't over
+trouble_calm : (b : Bank) (which : Device) (w : Counts → What) (notes : List Note) (at : Counts) → IsTrouble b which w → IsCalm b notes → ¬ IsOver b notes → ¬ IsNoted notes (w at)
+trouble_calm b which w notes at (inl e) calm over n = fault_noted b which notes at calm (subst (λ (v : Counts → What). IsNoted notes (v at)) e n)
+trouble_calm b which w notes at (inr e) calm over n = over (calm.on (Some which) at (subst (λ (v : Counts → What). IsNoted notes (v at)) e n))
+
+pub ends_whole : (b : Bank) (moves : List Move) (from to : Story) (notes : List Note) (e : Ending b moves from to) → ((that : What) → IsNoted (said (ended_trace b moves from to e) from) that → IsNoted notes that)
+    → IsCalm b notes → ¬ IsOver b notes → to ≡ after moves from
+ends_whole b moves from to notes (inl e) put calm over = e
+ends_whole b moves from to notes (inr p) put calm over =
+    let at : Counts = counts_of (after p.trace from) in
+    absurd (trouble_calm b p.which p.last notes at p.trouble calm over (put (p.last at) (trouble_last b moves from to p)))
+
+-- the work on a bank isn't over where no other one is held
+pub over_alone : (b : Bank) (notes : List Note) → ((c : Bank) (at : Counts) → IsNoted notes (what.Held c at) → c ≡ b) → ¬ IsOver b notes
+over_alone bank.Bmc notes alone over = let e = alone bank.Pch over.0 over.1 in absurd (let never : bank.Pch ≡ bank.Bmc = e in cc)
+over_alone bank.Pch notes alone over = over
+
+-- ---- stretches that note only such
+-- each of its moves notes only what is so
+pub record SaysOnly (P : What → Type 0) (s : Stretch) : Type 0 where
+  pub plan : (story : Story) → AllSay P (s.plan story)
+  pub fault : (which : Device) → AllSay P (s.on_fault which)
+
+abbrev pub AllSayOnly : (What → Type 0) → List Stretch → Type 0
+AllSayOnly P [] = Unit {0}
+AllSayOnly P (s ∷ ss) = SaysOnly P s × AllSayOnly P ss
+
+module _ (P : What → Type 0) (losses : (which : Device) (at : Counts) → P (what.Lost (Some which) at)) where
+  pub crossed_wrote : (s : Stretch) → SaysOnly P s → (old mid : World) → Crosses s old mid → Wrote P old mid
+  crossed_wrote s only old mid c = wrote_by P (s.plan (story_of old)) old mid c.is (only.plan (story_of old))
+
+  pub faulted_wrote : (s : Stretch) → SaysOnly P s → (old mid : World) → Faults s old mid → Wrote P old mid
+  faulted_wrote s only old mid f =
+      wrote_then P old f.at mid (wrote_cut P (s.plan (story_of old)) f.which Fault old f.at f.stopped (only.plan (story_of old)))
+      (wrote_by P (s.on_fault f.which) f.at mid f.noted.is (only.fault f.which))
+
+  pub lost_wrote : (s : Stretch) → SaysOnly P s → (old new : World) → LosesPower s old new → Wrote P old new
+  lost_wrote s only old new l =
+      wrote_then P old l.at new (wrote_cut P (s.plan (story_of old)) l.which Loses old l.at l.stopped (only.plan (story_of old)))
+      (wrote_by P (lost l.which) l.at new l.noted.is ((λ at. losses l.which at), tt))
+
+  pub steps_wrote : (ss : List Stretch) → AllSayOnly P ss → (old new : World) → Steps ss old new → Wrote P old new
+  steps_wrote [] only old new p = wrote_by P [] old new p.is tt
+  steps_wrote (s ∷ ss) only old new (inl (mid, c, rest)) = wrote_then P old mid new (crossed_wrote s only.0 old mid c) (steps_wrote ss only.1 mid new rest)
+  steps_wrote (s ∷ ss) only old new (inr (inl (mid, f, rest))) =
+      wrote_then P old mid new (faulted_wrote s only.0 old mid f)
+      (went_on s.goes_on (Steps ss) mid new (Wrote P mid new) (λ e r. steps_wrote ss only.1 mid new r) (λ r. wrote_by P [] mid new r.is tt) rest)
+  steps_wrote (s ∷ ss) only old new (inr (inr l)) = lost_wrote s only.0 old new l
