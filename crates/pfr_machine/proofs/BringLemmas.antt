@@ -1,5 +1,5 @@
 -- How a bank is checked, and how its active image is made anew.
-use Rattle.std.proofs.Common.{◌≡◌, ◌∙◌, refl, sym, ap, subst, ℕ, ◌≤◌, Bool, List, length, arith, Result, Ok, Err, IsOk}
+use Rattle.std.proofs.Common.{◌≡◌, ◌∙◌, refl, sym, ap, subst, ℕ, ◌+◌, ◌≤◌, Bool, List, length, arith, Result, Ok, Err, IsOk}
 use Rattle.pfr_flash.specs.Bytes.{AreBytes}
 use Rattle.pfr_flash.specs.FlashState.{now, size_of}
 use Rattle.pfr_flash.specs.Holding.{HoldsBytes}
@@ -25,7 +25,7 @@ use Rattle.pfr_story.proofs.RestoreLaws.{restored_judged, updated_judged}
 use Rattle.pfr_machine.specs.Worlds.{DeskState, Stays}
 use Rattle.pfr_machine.specs.Ready.{HaltsIn, EndsSeated, DistrustedBy}
 use Rattle.pfr_machine.specs.declared.desk.Halt.{Halt}
-use Rattle.pfr_machine.proofs.EndsLemmas.{ends_as, ends_then, halts_called, halts_first, image_now, size_now}
+use Rattle.pfr_machine.proofs.EndsLemmas.{ends_as, ends_most, ends_then, halts_called, halts_first, image_now, size_now}
 
 -- ---- the first check of the active image
 module _ (accepts : Acceptance) (fuses : FusesState) where
@@ -100,9 +100,11 @@ module _ (accepts : Acceptance) (fuses : FusesState) where
         → (found : Result CapsuleState CapsuleFail) → found ≡ judged_in area old.bank (story_of old.world) → EndsSeated (next mid.bank found) m mid r → EndsSeated (by_area area next old.bank) m old r
     found_ends old mid answer r p s found is e =
         let still : judged_in area old.bank (story_of mid.world) ≡ found = ap (λ (t : Story). judged_in area old.bank t) p.is ∙ sym is in
-        ends_then (asks old.bank) (λ story. next old.bank (judged_in area old.bank story) story) 0 m old mid answer r p s
-        (ends_as (next old.bank found) (λ story. next old.bank (judged_in area old.bank story) story) m mid r (ap (λ (x : Result CapsuleState CapsuleFail). next old.bank x (story_of mid.world)) (sym still))
-        (subst (λ (b : Bank). EndsSeated (next b found) m mid r) s.bank e))
+        let by_found : Plan = λ story. next old.bank (judged_in area old.bank story) story in
+        ends_most (by_area area next old.bank) (0 + m) m old r (omega arith)
+        (ends_then (asks old.bank) by_found 0 m old mid answer r p s
+        (ends_as (next old.bank found) by_found m mid r (ap (λ (x : Result CapsuleState CapsuleFail). next old.bank x (story_of mid.world)) (sym still))
+        (subst (λ (b : Bank). EndsSeated (next b found) m mid r) s.bank e)))
 
     pub found_halted : {T : Type 0} (old : DeskState) (stop : Stop) (new : DeskState) → Goes {T = T} (asks old.bank) old.world new.world (Err stop) → Stays {T = T} 0 old new (Err stop)
         → HaltsIn (by_area area next old.bank) m old stop new
