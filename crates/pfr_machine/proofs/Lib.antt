@@ -14,4 +14,6 @@ pub mod EndsLemmas
 pub mod BringLemmas
 pub mod WorkLemmas
 pub mod BusLemmas
+pub mod StretchLemmas
+pub mod WatchLemmas
 mod VerdictLaw

@@ -101,11 +101,11 @@ idle_still (event.Boot which pass) w idle = refl
 idle_still (event.Update which intent) w idle = refl
 
 pub at_idle : (accepts : Acceptance) (e : Event) (idle : Bool) (old new : World) → idle ≡ is_idle e (story_of old) → idle ≡ true → Follows ignored old new → Follows (course accepts e (story_of old)) (clocked e old) new
-at_idle accepts e idle old new is yes p = rw (← is, yes, idle_still e old (sym is ∙ yes)) p
+at_idle accepts e idle old new is on p = rw (← is, on, idle_still e old (sym is ∙ on)) p
 
 pub at_taken : (accepts : Acceptance) (e : Event) (idle : Bool) (old new : World) → idle ≡ is_idle e (story_of old) → idle ≡ false → Follows (taken accepts e (story_of old)) (clocked e old) new
     → Follows (course accepts e (story_of old)) (clocked e old) new
-at_taken accepts e idle old new is no p = rw (← is, no) p
+at_taken accepts e idle old new is off p = rw (← is, off) p
 
 pub not_both : {b : Bool} → b ≡ true → b ≡ false → ⊥
 not_both holds fails = let never : true ≡ false = sym holds ∙ fails in cc

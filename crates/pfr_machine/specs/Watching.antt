@@ -1,10 +1,12 @@
 -- What is done where watches tick and expire.
-use Rattle.std.specs.Prelude.{◌≡◌, ◌≢◌, ℕ, ◌⊎◌, Bool, true, false, List, Result, Ok, Err}
+use Rattle.std.specs.Prelude.{◌≡◌, ◌≢◌, ℕ, ◌⊎◌, Bool, true, false, List, [], Result, Ok, Err}
 use Rattle.pfr_flash.specs.declared.names.Bank.{Bank}
+use Rattle.pfr_flash.specs.declared.names.Bank.TheVariants as bank
+use Rattle.pfr_engine.specs.Acceptance.{Acceptance}
 use Rattle.pfr_script.specs.declared.event.Event.{Event}
 use Rattle.pfr_story.specs.Course.{Stretch, Steps}
 use Rattle.pfr_story.specs.Standing.{standing_of, Off}
-use Rattle.pfr_story.specs.Turn.{guards_at}
+use Rattle.pfr_story.specs.Turn.{expiry_stretch, guards_at, stretch_if}
 use Rattle.pfr_story.specs.World.{World, IsDark}
 use Rattle.pfr_machine.specs.Ready.{AreBrought, Brings}
 use Rattle.pfr_machine.specs.Worlds.{AddsNotes}
@@ -22,6 +24,10 @@ AreUp w = (which : Bank) → standing_of which w.notes.list ≢ Off
 abbrev pub BringsDue : {F : Type 0} → Bool → Stretch → Bank → ℕ → World → Result World (Dark F) → Type 0
 BringsDue true stretch which most old r = Brings stretch which most old r
 BringsDue false stretch which most old r = r ≡ Ok old
+
+-- the banks whose watches expired, the BMC's first
+abbrev pub due_stretches : Acceptance → Bool → Bool → List Stretch
+due_stretches accepts bmc pch = stretch_if bmc (expiry_stretch accepts bank.Bmc) (stretch_if pch (expiry_stretch accepts bank.Pch) [])
 
 -- Work on the banks whose watches expired, one after the other; nothing was done where there were none.
 abbrev pub ExpiresBoth : {F : Type 0} → List Stretch → ℕ → World → Result World (Dark F) → Type 0

@@ -15,13 +15,13 @@ ghost use Rattle.pfr_story.specs.Plans.{level_after, recovered_with};
 ghost use Rattle.pfr_story.specs.Promises.{Runs};
 ghost use Rattle.pfr_story.specs.Standing.{standing_of, Off};
 ghost use Rattle.pfr_story.specs.Story.{Says, device_of};
-ghost use Rattle.pfr_story.specs.Turn.{boot_course, expiry_stretch, is_due, pass_note, stage_at, stretch_if, tick_course};
+ghost use Rattle.pfr_story.specs.Turn.{boot_course, expiry_stretch, is_due, pass_note, stage_at, tick_course};
 ghost use Rattle.pfr_story.specs.World.{IsDark, added, state_at, story_of};
 ghost use Rattle.pfr_watch.specs.Stages.{next_stage};
 ghost use Rattle.pfr_watch.specs.Watching.{unless_done};
 ghost use Rattle.pfr_machine.specs.Inside.{IsWhole};
 ghost use Rattle.pfr_machine.specs.Ready.{Brings, EndsSeated, LeavesWhole};
-ghost use Rattle.pfr_machine.specs.Watching.{AreUp, BringsDue, ExpiresBoth, clocked};
+ghost use Rattle.pfr_machine.specs.Watching.{AreUp, BringsDue, ExpiresBoth, clocked, due_stretches};
 ghost use Rattle.pfr_machine.specs.Worlds.{IsAwake, with_note};
 
 use crate::desk::{Desk, Halt};
@@ -131,8 +131,7 @@ impl<F: Flash> Inner<F> {
         requires room { 14 ≤ self.notes.spare }
         requires bmc { bmc ≡ true → AreUp self }
         requires pch { pch ≡ true → AreUp self }
-        ensures { let stretches = λ which. expiry_stretch (E.accepts engine.now) which in
-            ExpiresBoth (stretch_if bmc (stretches Bmc) (stretch_if pch (stretches Pch) [])) 14 self result }
+        ensures { ExpiresBoth (due_stretches (E.accepts engine.now) bmc pch) 14 self result }
     {
         self.expire_if(bmc, Bank::Bmc, engine)?
             .expire_if(pch, Bank::Pch, engine)
