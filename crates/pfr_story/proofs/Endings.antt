@@ -2,6 +2,7 @@
 use Rattle.std.proofs.Common.{◌≡◌, ◌∙◌, refl, sym, ap, subst, List, [], ◌∷◌, ◌++◌, ◌⊎◌, inl, inr, Some}
 use Rattle.pfr_flash.specs.Operation.{Operation, IsTorn}
 use Rattle.pfr_flash.specs.declared.names.Bank.{Bank}
+use Rattle.pfr_flash.specs.declared.names.Bank.TheVariants as bank
 use Rattle.pfr_flash.specs.declared.names.Counts.{Counts}
 use Rattle.pfr_flash.specs.declared.names.Device.{Device}
 use Rattle.pfr_flash.specs.declared.names.Device.TheVariants as device
@@ -11,7 +12,7 @@ use Rattle.pfr_report.specs.declared.note.What.{What}
 use Rattle.pfr_report.specs.declared.note.What.TheVariants as what
 use Rattle.pfr_story.specs.Story.{Story, Move, Says, Does, Asks, after, noted, counts_of, FailedAt, asking, unbegun, torn, IsCut}
 use Rattle.pfr_story.specs.World.{World, story_of, AllMoved}
-use Rattle.pfr_story.specs.Course.{Stretch, Crosses, Faults, LosesPower, Steps, lost, goes_on_if}
+use Rattle.pfr_story.specs.Course.{Stretch, Crosses, Faults, LosesPower, Steps, lost, Follows}
 use Rattle.pfr_story.specs.Safety.{Rule, AllGood, AllSafe}
 use Rattle.pfr_story.specs.Bringing.{IsOver, IsCalm}
 use Rattle.pfr_story.specs.Turn.{fault_of}
@@ -59,6 +60,19 @@ module _ (s : Stretch) (b : Bank) (locks : (d : Device) → s.on_fault d ≡ Say
     trouble = inr refl;
     is = l.noted.is ∙ ap (λ (t : Story). noted (what.Lost (Some l.which)) t) l.stopped.is;
   })
+
+  -- the last stretch of a step
+  pub last_ends : (new : World) → Steps (s ∷ []) old new → Ending b (s.plan (story_of old)) (story_of old) (story_of new)
+  last_ends new (inl (mid, c, ends)) = inl (ends.is ∙ c.is)
+  last_ends new (inr (inl (mid, f, rest))) =
+      let same : story_of new ≡ story_of mid = went_on s.goes_on (Steps []) mid new (story_of new ≡ story_of mid) (λ e r. r.is) (λ r. r.is) rest in
+      subst (λ (t : Story). Ending b (s.plan (story_of old)) (story_of old) t) (sym same) (faulted_ends mid f)
+  last_ends new (inr (inr l)) = lost_ends new l
+
+-- a step of one stretch
+pub single_ends : (s : Stretch) (b : Bank) → ((d : Device) → s.on_fault d ≡ Says (what.Locked b (fault_of d)) ∷ []) → (first new : World) → Follows (record { first = []; stretches = s ∷ [] }) first new
+    → Ending b (s.plan (story_of first)) (story_of first) (story_of new)
+single_ends s b locks first new (mid, start, rest) = subst (λ (t : Story). Ending b (s.plan t) t (story_of new)) start.is (last_ends s b locks mid new rest)
 
 -- ---- what is noted first is noted however it ends
 fails_saying : (which : Device) (story : Story) (next : Move) (last : List Move) (w : Counts → What) → FailedAt which story next last → ¬ (next ≡ Says w)
@@ -135,6 +149,11 @@ ends_whole b moves from to notes (inl e) put calm over = e
 ends_whole b moves from to notes (inr p) put calm over =
     let at : Counts = counts_of (after p.trace from) in
     absurd (trouble_calm b p.which p.last notes at p.trouble calm over (put (p.last at) (trouble_last b moves from to p)))
+
+-- the work on a bank isn't over where no other one is held
+pub over_alone : (b : Bank) (notes : List Note) → ((c : Bank) (at : Counts) → IsNoted notes (what.Held c at) → c ≡ b) → ¬ IsOver b notes
+over_alone bank.Bmc notes alone over = let e = alone bank.Pch over.0 over.1 in absurd (let never : bank.Pch ≡ bank.Bmc = e in cc)
+over_alone bank.Pch notes alone over = over
 
 -- ---- stretches that note only such
 -- each of its moves notes only what is so

@@ -36,5 +36,8 @@ pub mod ContentsLaws
 pub mod GuardLaws
 pub mod Endings
 pub mod AnewLaws
+pub mod Entry
+pub mod ExpiryLaws
+pub mod UpdateLaws
 pub mod RunLaws
 pub mod KeepingLaws

@@ -1,0 +1,300 @@
+-- An update of a bank that runs is judged before anything is written.
+use Rattle.std.proofs.Common.{◌≡◌, ◌∙◌, refl, sym, ap, subst, ℕ, Bool, true, false, List, [], ◌∷◌, ◌++◌, length, inl, inr, Result, Ok, Err}
+use Rattle.std.specs.Prelude.{not}
+use Rattle.std.proofs.lemmas.Bool.{false≢true}
+use Rattle.pfr_flash.specs.Bytes.{AreBytes}
+use Rattle.pfr_flash.specs.FlashState.{now, size_of}
+use Rattle.pfr_flash.specs.Layout.{IsBankSize}
+use Rattle.pfr_flash.specs.declared.layout.Layout.{Layout}
+use Rattle.pfr_flash.specs.declared.names.Bank.{Bank}
+use Rattle.pfr_flash.specs.declared.names.Bank.TheVariants as bank
+use Rattle.pfr_flash.specs.declared.names.Counts.{Counts}
+use Rattle.pfr_flash.specs.declared.names.Device.{Device}
+use Rattle.pfr_flash.specs.declared.names.Device.TheVariants as device
+use Rattle.pfr_engine.specs.Acceptance.{Acceptance}
+use Rattle.pfr_fuses.specs.FusesState.{FusesState}
+use Rattle.pfr_fuses.specs.FusesOf.{fuses_of}
+use Rattle.pfr_fuses.specs.RootSlot.{layout_of}
+use Rattle.pfr_manifest.specs.declared.manifest.Manifest.{Manifest}
+use Rattle.pfr_capsule.specs.CapsuleState.{CapsuleState}
+use Rattle.pfr_capsule.specs.Good.{IsGood}
+use Rattle.pfr_capsule.specs.declared.fail.CapsuleFail.{CapsuleFail}
+use Rattle.pfr_capsule.proofs.GoodLaw.{judged_good, good_found}
+use Rattle.pfr_auth.specs.Trusted.{IsTrusted}
+use Rattle.pfr_auth.specs.Judge.{judge_active}
+use Rattle.pfr_auth.specs.declared.fail.ActiveFail.{ActiveFail}
+use Rattle.pfr_auth.proofs.TrustedLaw.{trusted_judged}
+use Rattle.pfr_jobs.specs.declared.job.JobKind.TheVariants.{ActiveFromStaging, RecoveryFromStaging}
+use Rattle.pfr_recoverable.proofs.StaysLaw.{fuses_one}
+use Rattle.pfr_script.specs.declared.event.Event.{Event}
+use Rattle.pfr_script.specs.declared.event.Event.TheVariants as event
+use Rattle.pfr_script.specs.declared.event.Intent.{Intent}
+use Rattle.pfr_report.specs.Texts.{IsNoted}
+use Rattle.pfr_report.specs.declared.note.LockWhy.{LockWhy}
+use Rattle.pfr_report.specs.declared.note.Note.{Note}
+use Rattle.pfr_report.specs.declared.note.Refusal.TheVariants as refusing
+use Rattle.pfr_report.specs.declared.note.What.{What}
+use Rattle.pfr_report.specs.declared.note.What.TheVariants as what
+use Rattle.pfr_story.specs.Story.{Story, Move, Says, Does, Asks, after, noted, counts_of, device_of}
+use Rattle.pfr_story.specs.World.{World, story_of, counts_in, state_at, AllMoved, added}
+use Rattle.pfr_story.specs.Course.{Follows}
+use Rattle.pfr_story.specs.Safety.{Rule, AllGood, AllSafe, Keeps}
+use Rattle.pfr_story.specs.Plans.{mine, store, ready_of, judged_active, judged_staging, job_ops, updated, by_second, checked_again, by_active, by_staged, updated_with, is_dynamic, updating}
+use Rattle.pfr_story.specs.Standing.{Standing, Running, standing_of, is_running}
+use Rattle.pfr_story.specs.Turn.{fault_of, update_stretch, update_course, begun, Turn}
+use Rattle.pfr_story.specs.Causes.{HasBadStaging, HasGoodStaging}
+use Rattle.pfr_story.specs.Promises.{AtCounts, Runs}
+use Rattle.pfr_story.specs.Bringing.{IsOver, IsCalm, IsNotedBehind}
+use Rattle.pfr_story.specs.Updating.{UpdatesAt, UpdatesBy, Updates}
+use Rattle.pfr_story.proofs.SafetyLaws.{AllSafe-append, image_noted, kept_by}
+use Rattle.pfr_story.proofs.RestoreLaws.{stand_for}
+use Rattle.pfr_story.proofs.BringRules.{IsReady, ready_noted, ready_is}
+use Rattle.pfr_story.proofs.Courses.{Turn-cases, Steps-moved}
+use Rattle.pfr_story.proofs.Traces.{Precedes, precedes_moved, Saying, call_says, Traced, Traced-known, KnownBefore}
+use Rattle.pfr_story.proofs.Made.{said, added_said, behind_next}
+use Rattle.pfr_story.proofs.Bytes.{HaveBytes, images_then}
+use Rattle.pfr_story.proofs.NoteLaws.{at_moment}
+use Rattle.pfr_story.proofs.Entry.{TrustedRunning, trusted_here, trusted_ready, sized_here, follows_moved, takes}
+use Rattle.pfr_story.proofs.Endings.{IsTrouble, Ending, single_ends, ended_trace, ended_is, ended_good, ends_whole, over_alone, ends_behind}
+use Rattle.pfr_story.proofs.AnewLaws.{MadeFrom, anew_releases}
+
+not_staging : (dynamic : Bool) → ¬ (ActiveFromStaging dynamic ≡ RecoveryFromStaging)
+not_staging dynamic e = absurd cc
+
+-- ---- moves that do no operation
+abbrev Still : Rule
+Still (Says w) story = Unit {0}
+Still (Does which op) story = ⊥
+Still (Asks which) story = Unit {0}
+
+still_keeps : (counts : Counts) → Keeps Still (λ story. counts_of story ≡ counts)
+still_keeps counts (Says w) story g p = p
+still_keeps counts (Does which op) story g p = absurd g
+still_keeps counts (Asks which) story g p = p
+
+module _ (accepts : Acceptance) (b : Bank) (dynamic : Bool) (fuses : FusesState) (from : Story) where
+  abbrev held : Story
+  held = noted (what.Held b) from
+
+  abbrev judged : Result CapsuleState CapsuleFail
+  judged = judged_staging accepts b fuses held
+
+  -- what is known of each note, by the capsule that was staged
+  abbrev Update : What → Story → Type 0
+  Update (what.Held c at) story = c ≡ b
+  Update (what.Updated c d svn) story = (capsule : CapsuleState) × (judged ≡ Ok capsule) × (capsule.manifest.svn ≡ svn)
+  Update (what.Refused c (refusing.Capsule cause)) story = judged ≡ Err cause
+  Update that story = Unit {0}
+
+  fault_known : (which : Device) (at : Counts) (story : Story) → Update (what.Locked b (fault_of which) at) story
+  fault_known device.Bmc at story = tt
+  fault_known device.Pch at story = tt
+  fault_known device.Nv at story = tt
+
+  trouble_known : (which : Device) (w : Counts → What) (story : Story) → IsTrouble b which w → Saying Update (Says w) story
+  trouble_known which w story (inl e) = subst (λ (v : Counts → What). Saying Update (Says v) story) (sym e) (fault_known which (counts_of story) story)
+  trouble_known which w story (inr e) = subst (λ (v : Counts → What). Saying Update (Says v) story) (sym e) tt
+
+  second_known : (again : Result Manifest ActiveFail) (story : Story) → AllSafe (Saying Update) (by_second b again story) story
+  second_known (Ok m) story = (tt, tt)
+  second_known (Err cause) story = tt
+
+  module _ (ready : IsReady b fuses from) (t : IsTrusted (mine b from) (store from) b accepts) where
+    ready_held : IsReady b fuses held
+    ready_held = ready_noted b fuses (what.Held b) from ready
+
+    mine_held : mine b held ≡ mine b from
+    mine_held = image_noted (device_of b) (what.Held b) from
+
+    abbrev refused : CapsuleFail → Story
+    refused cause = noted (λ _. what.Refused b (refusing.Capsule cause)) held
+
+    -- what is done behind that it is held
+    abbrev staged : Result CapsuleState CapsuleFail → List Move
+    staged found = Asks device.Nv ∷ Asks (device_of b) ∷ by_staged accepts b dynamic fuses found held
+
+    staged_is : Asks device.Nv ∷ updated_with accepts b dynamic (ready_of b held) held ≡ staged judged
+    staged_is = ap (λ (r : Result FusesState LockWhy). Asks device.Nv ∷ updated_with accepts b dynamic r held) (ready_is b fuses held ready_held.provisioned ready_held.layout)
+
+    -- one that is refused is released as it is, since it is trusted
+    refused_is : (cause : CapsuleFail) → staged (Err cause)
+        ≡ Asks device.Nv ∷ Asks (device_of b) ∷ Says (λ _. what.Refused b (refusing.Capsule cause)) ∷ Asks (device_of b) ∷ Says (what.Released b t.manifest.svn) ∷ []
+    refused_is cause =
+        let same : mine b (refused cause) ≡ mine b from = image_noted (device_of b) (λ _. what.Refused b (refusing.Capsule cause)) held ∙ mine_held in
+        let one : t.fuses ≡ fuses = fuses_one (store from) t.fuses fuses t.provisioned ready.provisioned in
+        let again : judged_active accepts b fuses (refused cause) ≡ Ok t.manifest =
+        ap (λ (image : List ℕ). judge_active image b fuses accepts) same
+        ∙ subst (λ (f : FusesState). judge_active (mine b from) b f accepts ≡ Ok t.manifest) one (trusted_judged (mine b from) (store from) b accepts t) in
+        ap (λ (r : Result Manifest ActiveFail). Asks device.Nv ∷ Asks (device_of b) ∷ Says (λ _. what.Refused b (refusing.Capsule cause)) ∷ Asks (device_of b) ∷ by_active accepts b fuses r (refused cause)) again
+
+    -- ---- each of its notes is known
+    staged_known : (found : Result CapsuleState CapsuleFail) → judged ≡ found → AllSafe (Saying Update) (staged found) held
+    staged_known (Ok capsule) j =
+        let ops = job_ops (ActiveFromStaging dynamic) (mine b held) capsule (layout_of fuses.provision b) in
+        let made : List Move = updated b dynamic fuses capsule held in
+        let left : Story = after made held in
+        (tt, (tt, AllSafe-append (Saying Update) made (checked_again accepts b fuses left) held
+          (AllSafe-append (Saying Update) _ (Says (λ _. what.Updated b dynamic capsule.manifest.svn) ∷ []) held (call_says Update (device_of b) ops held) ((capsule, j, refl), tt))
+          (tt, second_known (judged_active accepts b fuses left) left)))
+    staged_known (Err cause) j = subst (λ (moves : List Move). AllSafe (Saying Update) moves held) (sym (refused_is cause)) (tt, (tt, (j, (tt, (tt, tt)))))
+
+-- ---- from one world to another
+module _ (accepts : Acceptance) (b : Bank) (intent : Intent) (fuses : FusesState) (first new : World) (ready : IsReady b fuses (story_of first))
+    (t : IsTrusted (mine b (story_of first)) (store (story_of first)) b accepts) (ending : Ending b (updating accepts b intent (story_of first)) (story_of first) (story_of new)) (moved : AllMoved first new) where
+  abbrev dynamic : Bool
+  dynamic = is_dynamic intent
+
+  abbrev start : Story
+  start = story_of first
+
+  abbrev there : Story
+  there = noted (what.Held b) start
+
+  abbrev found : Result CapsuleState CapsuleFail
+  found = judged_staging accepts b fuses there
+
+  abbrev work : Result CapsuleState CapsuleFail → List Move
+  work answer = Asks device.Nv ∷ Asks (device_of b) ∷ by_staged accepts b dynamic fuses answer there
+
+  behind : Ending b (work found) there (story_of new)
+  behind =
+      let moves : List Move = Asks device.Nv ∷ updated_with accepts b dynamic (ready_of b there) there in
+      subst (λ (ms : List Move). Ending b ms there (story_of new)) (staged_is accepts b dynamic fuses start ready t) (ends_behind b (what.Held b) moves start (story_of new) ending)
+
+  abbrev with_held : List Move → List Move
+  with_held moves = Says (what.Held b) ∷ moves
+
+  make_noted : (moves : List Move) → story_of new ≡ after moves there → (that : What) → IsNoted (said (with_held moves) start) that → IsNoted (added first new) that
+  make_noted moves is that n = subst (λ (notes : List Note). IsNoted notes that) (sym (added_said first new (record { trace = with_held moves; is = is }))) n
+
+  known : (that : What) → IsNoted (added first new) that → KnownBefore (Update accepts b dynamic fuses start) that (story_of new)
+  known =
+      Traced-known (Update accepts b dynamic fuses start) first new (record {
+        trace = with_held (ended_trace b (work found) there (story_of new) behind);
+        is = ended_is b (work found) there (story_of new) behind;
+        good = (refl, ended_good b (work found) there (story_of new) (Saying (Update accepts b dynamic fuses start)) (staged_known accepts b dynamic fuses start ready t found refl) (trouble_known accepts b dynamic fuses start) behind);
+        moved = moved;
+      })
+
+  -- where it is calm all of it was done
+  whole : IsCalm b (added first new) → story_of new ≡ after (work found) there
+  whole calm =
+      ends_whole b (work found) there (story_of new) (added first new) behind
+      (λ that n. make_noted (ended_trace b (work found) there (story_of new) behind) (ended_is b (work found) there (story_of new) behind) that (inr n)) calm
+      (over_alone b (added first new) (λ c at n. (known (what.Held c at) n).1))
+
+  whole_by : (answer : Result CapsuleState CapsuleFail) → found ≡ answer → IsCalm b (added first new) → story_of new ≡ after (work answer) there
+  whole_by answer j calm = whole calm ∙ ap (λ (r : Result CapsuleState CapsuleFail). after (work r) there) j
+
+  -- an update that is refused does no operation
+  nothing_done : (cause : CapsuleFail) → found ≡ Err cause → counts_of (story_of new) ≡ counts_of start
+  nothing_done cause j =
+      let plain : List Move = Asks device.Nv ∷ Asks (device_of b) ∷ Says (λ _. what.Refused b (refusing.Capsule cause)) ∷ Asks (device_of b) ∷ Says (what.Released b t.manifest.svn) ∷ [] in
+      let is : work found ≡ plain = ap (λ (r : Result CapsuleState CapsuleFail). work r) j ∙ refused_is accepts b dynamic fuses start ready t cause in
+      let e : Ending b plain there (story_of new) = subst (λ (ms : List Move). Ending b ms there (story_of new)) is behind in
+      let good = ended_good b plain there (story_of new) Still (tt, (tt, (tt, (tt, (tt, tt))))) (λ which w story trouble. tt) e in
+      ap (λ (s : Story). counts_of s) (ended_is b plain there (story_of new) e)
+      ∙ kept_by Still (λ s. counts_of s ≡ counts_of start) (still_keeps (counts_of start)) (ended_trace b plain there (story_of new) e) there good refl
+
+  -- ---- by the contents where it is held
+  module _ (have : HaveBytes new) (size : IsBankSize (length (mine b start))) where
+    precedes : Precedes there (story_of new)
+    precedes = let p = precedes_moved first new moved in record { bmc = p.bmc; pch = p.pch; nv = p.nv }
+
+    bytes : AreBytes (mine b there)
+    bytes = images_then there new precedes have (device_of b)
+
+    ready_there : IsReady b fuses there
+    ready_there = ready_held accepts b dynamic fuses start ready t
+
+    by_counts : (P : List ℕ → List ℕ → Type 0) → P (mine b there) (store there) → AtCounts P b (counts_in first) new
+    by_counts P h = at_moment P b there (counts_in first) new refl precedes h
+
+    -- what is staged well is good
+    good_staged : (capsule : CapsuleState) → found ≡ Ok capsule
+        → (g : IsGood (mine b there) (layout_of fuses.provision b).staging_at (layout_of fuses.provision b).area_len (store there) b accepts) × (g.capsule ≡ capsule)
+    good_staged capsule j =
+        let layout : Layout = layout_of fuses.provision b in
+        judged_good (mine b there) (store there) layout.staging_at layout.area_len b accepts fuses capsule (stand_for (store there) fuses b ready_there.provisioned) ready_there.layout bytes j
+
+    staged_good : (svn : ℕ) (capsule : CapsuleState) → found ≡ Ok capsule → capsule.manifest.svn ≡ svn → (g : HasGoodStaging b (mine b there) (store there) accepts) × (g.good.capsule.manifest.svn ≡ svn)
+    staged_good svn capsule j e =
+        let k = good_staged capsule j in
+        (record { fuses = fuses; provisioned = ready_there.provisioned; good = k.0 }, ap (λ (c : CapsuleState). c.manifest.svn) k.1 ∙ e)
+
+    found_bad : (cause : CapsuleFail) → HasBadStaging cause b (mine b there) (store there) accepts → found ≡ Err cause
+    found_bad cause h =
+        subst (λ (f : FusesState). judged_staging accepts b f there ≡ Err cause) (fuses_one (store there) h.fuses fuses h.provisioned ready_there.provisioned) h.judged
+
+    found_good : (g : HasGoodStaging b (mine b there) (store there) accepts) → found ≡ Ok g.good.capsule
+    found_good g =
+        let layout : Layout = layout_of g.fuses.provision b in
+        subst (λ (f : FusesState). judged_staging accepts b f there ≡ Ok g.good.capsule) (fuses_one (store there) g.fuses fuses g.provisioned ready_there.provisioned)
+        (good_found (mine b there) (store there) layout.staging_at layout.area_len b accepts g.fuses (stand_for (store there) g.fuses b g.provisioned) g.good)
+
+    made_from : (capsule : CapsuleState) → found ≡ Ok capsule → MadeFrom accepts b fuses capsule there
+    made_from capsule j =
+        let layout : Layout = layout_of fuses.provision b in
+        let k = good_staged capsule j in
+        record {
+          place = layout.staging_at;
+          len = layout.area_len;
+          good = k.0;
+          capsule_is = k.1;
+          provisioned = ready_there.provisioned;
+          inside = ready_there.layout.inside.staging;
+          size = subst (λ (image : List ℕ). IsBankSize (length image)) (sym (mine_held accepts b dynamic fuses start ready t)) size;
+          bytes = bytes;
+        }
+
+    refuses_so : (cause : CapsuleFail) → IsCalm b (added first new) → HasBadStaging cause b (mine b there) (store there) accepts → IsNoted (added first new) (what.Refused b (refusing.Capsule cause))
+    refuses_so cause calm h = make_noted (work (Err cause)) (whole_by (Err cause) (found_bad cause h) calm) (what.Refused b (refusing.Capsule cause)) (inr (inl refl))
+
+    abbrev UpdatesAndReleases : ℕ → Type 0
+    UpdatesAndReleases svn = (then : Counts) × IsNotedBehind (what.Updated b dynamic svn) (what.Released b svn then) (added first new)
+
+    updates_so : IsCalm b (added first new) → (capsule : CapsuleState) → found ≡ Ok capsule → UpdatesAndReleases capsule.manifest.svn
+    updates_so calm capsule j =
+        let svn : ℕ = capsule.manifest.svn in
+        let hold : Note = record { item = start.item; what = what.Held b (counts_of start) } in
+        let then : Counts = counts_of (after (updated b dynamic fuses capsule there) there) in
+        let anew = anew_releases accepts b (ActiveFromStaging dynamic) (not_staging dynamic) (what.Updated b dynamic svn) there fuses capsule (made_from capsule j) in
+        let notes = behind_next (what.Updated b dynamic svn) (what.Released b svn then) hold _ anew in
+        (then, subst (λ (all : List Note). IsNotedBehind (what.Updated b dynamic svn) (what.Released b svn then) all)
+          (sym (added_said first new (record { trace = with_held (work (Ok capsule)); is = whole_by (Ok capsule) j calm }))) notes)
+
+    updates_at : UpdatesAt accepts b dynamic new (added first new) (counts_in first)
+    updates_at = record {
+      held = make_noted (ended_trace b (work found) there (story_of new) behind) (ended_is b (work found) there (story_of new) behind) (what.Held b (counts_in first)) (inl refl);
+      refused = λ cause n. by_counts (λ image nv. HasBadStaging cause b image nv accepts) (record { fuses = fuses; provisioned = ready_there.provisioned; judged = (known (what.Refused b (refusing.Capsule cause)) n).1 });
+      refuses = λ cause calm. by_counts (λ image nv. HasBadStaging cause b image nv accepts → IsNoted (added first new) (what.Refused b (refusing.Capsule cause))) (λ h. refuses_so cause calm h);
+      updated = λ svn n.
+          let k = (known (what.Updated b dynamic svn) n).1 in
+          by_counts (λ image nv. (g : HasGoodStaging b image nv accepts) × (g.good.capsule.manifest.svn ≡ svn)) (staged_good svn k.0 k.1 k.2);
+      updates = λ calm. by_counts (λ image nv. (g : HasGoodStaging b image nv accepts) → UpdatesAndReleases g.good.capsule.manifest.svn) (λ g. updates_so calm g.good.capsule (found_good g));
+    }
+
+-- ---- a whole step
+updates_by : (accepts : Acceptance) (b : Bank) (intent : Intent) (old new : World) → HaveBytes new → IsBankSize (length (mine b (story_of (begun (event.Update b intent) old))))
+    → IsTrusted (mine b (story_of (begun (event.Update b intent) old))) (store (story_of (begun (event.Update b intent) old))) b accepts
+    → Follows (update_course accepts b intent) (begun (event.Update b intent) old) new → UpdatesBy accepts b (is_dynamic intent) old new
+updates_by accepts b intent old new have size t f =
+    let first : World = begun (event.Update b intent) old in
+    let ready : IsReady b t.fuses (story_of first) = trusted_ready accepts b (story_of first) t in
+    let ending = single_ends (update_stretch accepts b intent) b (λ d. refl) first new f in
+    let moved : AllMoved first new = follows_moved (update_course accepts b intent) first new f in
+    record {
+      at = counts_in old;
+      as_before = refl;
+      updates = updates_at accepts b intent t.fuses first new ready t ending moved have size;
+      writes_nothing = λ cause n. nothing_done accepts b intent t.fuses first new ready t ending moved cause (known accepts b intent t.fuses first new ready t ending moved (what.Refused b (refusing.Capsule cause)) n).1;
+    }
+
+-- An update of a bank that runs is judged before anything is written.
+pub Turn-updates : (accepts : Acceptance) (e : Event) (old new : World) → Turn accepts e old new → HaveBytes new → IsBankSize (size_of old.bmc) → IsBankSize (size_of old.pch)
+    → TrustedRunning accepts old → Updates e accepts old new
+Turn-updates accepts (event.Update b intent) old new t have bmc pch trusted = λ runs. elim (Turn-cases accepts (event.Update b intent) old new t) [
+  | inl idle ↦ absurd (takes (standing_of b old.notes.list) runs idle.0)
+  | inr on ↦ updates_by accepts b intent old new have (sized_here (event.Update b intent) old bmc pch b) (trusted_here accepts (event.Update b intent) old trusted b runs) on.1
+]
+Turn-updates accepts e old new t have bmc pch trusted = tt
