@@ -130,7 +130,6 @@ CHANGES = (
     ("foresee @then", "foresee @then\nput pch 0x5010 00"),
     ("foresee @then", "foresee @then\nput nv 0x3000 00"),
     ("foresee @then", "foresee @then\nturn @then.bmc 0x1ffff 01"),
-    ("foresee @then", "cut_restore bmc @then.bmc 1 -"),
     ("foresee @found", "foresee @found\nturn @found.report 0 01"),
     ("foresee @found", "foresee @found\nturn @found.bmc 0 01"),
     ("foresee @found", "foresee @found\nturn @found.pch 0x100 80"),

@@ -18,7 +18,7 @@ from platforms import made_platform
 SEED = "frames 1"
 SMALL_OPTIONS = (
     (),
-    ("pch.form=1", "bmc.staging_at=0x88000", "bmc.regions=0x80000-0x88000:2:none:keep,0xc8000-0xd8000:3:none:erase"),
+    ("bmc.staging_at=0x88000", "bmc.regions=0x80000-0x88000:2:none:keep,0xc8000-0xd8000:3:none:erase"),
     ("bmc.regions=0x10000-0x20000:1:sha384:copy,0x20000-0x3f000:3:none:keep,0x3f000-0x40000:1:none:keep", "bmc.smbus=3"),
 )
 # Where a bank ends, what begins or ends in it, what can be written, and its rules.

@@ -18,7 +18,6 @@ use Rattle.pfr_manifest.specs.Access.{IsWritable}
 use Rattle.pfr_manifest.specs.Stretches.{stretches_of, writable_by}
 use Rattle.pfr_manifest.specs.declared.manifest.Manifest.{Manifest}
 use Rattle.pfr_manifest.specs.declared.stretch.Stretch.{Stretch}
-use Rattle.pfr_manifest.proofs.StretchLemmas.{Decides-writable}
 use Rattle.pfr_manifest.proofs.ApartLaw.{LeavesTrusted}
 use Rattle.pfr_auth.specs.Leaving.{LeavesImage}
 use Rattle.pfr_auth.proofs.LeavingLaw.{left_image}
@@ -28,8 +27,9 @@ use Rattle.pfr_filter.specs.declared.verdict.BusOp.{BusOp}
 use Rattle.pfr_filter.specs.declared.verdict.BusOp.TheVariants.{Erase, Program}
 use Rattle.pfr_filter.specs.declared.verdict.Verdict.{Verdict}
 use Rattle.pfr_filter.specs.declared.verdict.Verdict.TheVariants.{Pass}
-use Rattle.pfr_filter.proofs.JudgeLaws.{verdict_passes}
+use Rattle.pfr_filter.proofs.JudgeLaws.{manifest_passes}
 use Rattle.pfr_filter.proofs.SafeLaws.{part_leaves, safe_leaves, safe_within}
+use Rattle.pfr_filter.proofs.WalkLemmas.{one_number}
 use Rattle.pfr_bank.specs.Seats.{RunningState}
 use Rattle.pfr_bank.specs.Spelling.{StillSpells}
 use Rattle.pfr_bank.proofs.SpellingLaw.{spells_kept}
@@ -42,7 +42,7 @@ judged_by_manifest frame m layout table count size latch verdict op tabled sized
     let found : verdict ≡ verdict_on frame m layout size latch =
     is ∙ ap (λ (t : List Stretch). verdict_of (judge_spi frame (writable_by t layout) count latch)) tabled ∙ ap (λ (n : ℕ). verdict_on frame m layout n latch) sized in
     subst (λ (v : Verdict). (v ≡ Pass op) ↔ Passes frame (IsWritable m layout) size latch op) (sym found)
-    (verdict_passes frame (writable_by (stretches_of m) layout) (IsWritable m layout) (Decides-writable m layout) size latch op)
+    (manifest_passes frame m layout size latch op)
 
 -- ---- what writes nothing
 pub follows_nothing : (op : BusOp) (d : FlashState) → ((at : ℕ) (page : List ℕ) → op ≡ Program at page → ⊥) → ((sector count : ℕ) → op ≡ Erase sector count → ⊥)
@@ -72,13 +72,9 @@ erases_add : (first a b : ℕ) → erases first (a + b) ≡ erases first a ++ er
 erases_add first a b =
     ap (λ (sectors : List ℕ). map (λ (page : ℕ). operation.Erase page) sectors) (numbers_add first a b) ∙ map-append (λ (page : ℕ). operation.Erase page) (numbers_from first a) (numbers_from (first + a) b)
 
-erases_one : (first : ℕ) → erases first 1 ≡ operation.Erase first ∷ []
-unfolding numbers_from
-erases_one first = refl
-
 -- the erases up to the next one, and those behind it
 erases_next : (sector k : ℕ) → erases sector (k + 1) ≡ erases sector k ++ operation.Erase (sector + k) ∷ []
-erases_next sector k = erases_add sector k 1 ∙ ap (λ (ops : List Operation). erases sector k ++ ops) (erases_one (sector + k))
+erases_next sector k = erases_add sector k 1 ∙ ap (λ (sectors : List ℕ). erases sector k ++ map (λ (page : ℕ). operation.Erase page) sectors) (one_number (sector + k))
 
 erases_rest : (sector count k : ℕ) → k < count → erases sector count ≡ erases sector (k + 1) ++ erases (sector + (k + 1)) (count - (k + 1))
 erases_rest sector count k less =

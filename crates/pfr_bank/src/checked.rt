@@ -1,12 +1,13 @@
 // A bank whose active image was judged and is trusted.
-ghost use Rattle.std.specs.Prelude.{◌≡◌, false};
-ghost use Rattle.pfr_flash.specs.FlashState.{now};
+ghost use Rattle.std.specs.Prelude.{◌≡◌, ◌<◌, ◌≤◌, true, false};
+ghost use Rattle.pfr_flash.specs.Flash.{with_cut, with_fault};
+ghost use Rattle.pfr_flash.specs.FlashState.{now, op_count_of};
 ghost use Rattle.pfr_bank.specs.Spelling.{StillSpells};
 
 use crate::held::Held;
 use crate::running::Running;
 use pfr_auth::ActiveFail;
-use pfr_flash::{Bank, Flash, Layout};
+use pfr_flash::{Bank, Flash, Layout, Rigged, Tear};
 use pfr_manifest::{Manifest, RegionTable};
 use std::marker::Model;
 
@@ -68,5 +69,57 @@ impl<F: Flash> Checked<F> {
         ensures spells { StillSpells (now (F.device self.now.flash)) self.now.manifest self.now.layout }
     {
         let _ = &self.bank;
+    }
+
+    /// How many erases and programs the flash has done.
+    pub fn op_count(&self) -> u32
+        ensures { result ≡ op_count_of (F.device self.now.flash) }
+    {
+        self.flash.op_count()
+    }
+
+    /// Gives the flash up as it stands.
+    pub fn into_flash(self) -> F
+        ensures { result ≡ self.flash }
+    {
+        self.flash
+    }
+}
+
+impl<F: Rigged> Checked<F> {
+    /// Lets the nth erase or program from now on lose the power, and leave the tear.
+    pub fn arm_cut(&mut self, nth: u32, tear: &Tear)
+        requires nth { 1 ≤ nth }
+        requires arms { 0 < (F.device self.old.flash).arms }
+        ensures flash { F.device self.new.flash ≡ with_cut (F.device self.old.flash) nth tear.now }
+        ensures rest { self.new ≡ record self.old { flash = self.new.flash } }
+    {
+        self.flash.arm_cut(nth, tear);
+    }
+
+    /// Lets the nth erase or program from now on fail, and leave the tear.
+    pub fn arm_fault(&mut self, nth: u32, tear: &Tear)
+        requires nth { 1 ≤ nth }
+        requires arms { 0 < (F.device self.old.flash).arms }
+        ensures flash { F.device self.new.flash ≡ with_fault (F.device self.old.flash) nth tear.now }
+        ensures rest { self.new ≡ record self.old { flash = self.new.flash } }
+    {
+        self.flash.arm_fault(nth, tear);
+    }
+
+    /// Lets the nth read from now on fail.
+    pub fn arm_read_fault(&mut self, nth: u32)
+        requires { 1 ≤ nth }
+        ensures flash { F.device self.new.flash ≡ record (F.device self.old.flash) { read_due = true } }
+        ensures rest { self.new ≡ record self.old { flash = self.new.flash } }
+    {
+        self.flash.arm_read_fault(nth);
+    }
+
+    /// How many cuts and faults can still be armed in the flash.
+    pub fn arms_left(&self) -> u32
+        ensures { result ≡ (F.device self.now.flash).arms }
+    {
+        self.flash.arms_left()
     }
 }

@@ -1,7 +1,8 @@
 // A bank that the controller holds.
-ghost use Rattle.std.specs.Prelude.{◌≡◌, ℕ, List, false, Ok, IfOk};
+ghost use Rattle.std.specs.Prelude.{◌≡◌, ◌<◌, ◌≤◌, ℕ, List, true, false, Ok, IfOk};
 ghost use Rattle.std.specs.Borrow.{sem};
 ghost use Rattle.pfr_flash.specs.Answer.{Answers};
+ghost use Rattle.pfr_flash.specs.Flash.{with_cut, with_fault};
 ghost use Rattle.pfr_flash.specs.FlashState.{now, op_count_of, size_of};
 ghost use Rattle.pfr_flash.specs.Layout.{IsBankSize, IsValidLayout};
 ghost use Rattle.pfr_flash.specs.Reading.{EndsAt, failed_by};
@@ -19,7 +20,7 @@ use crate::locked::Locked;
 use crate::off::Off;
 use pfr_auth::active;
 use pfr_engine::Engine;
-use pfr_flash::{Bank, Flash, Layout};
+use pfr_flash::{Bank, Flash, Layout, Rigged, Tear};
 use pfr_fuses::Fuses;
 
 /// A bank that the controller holds: it doesn't run. This state alone lends its flash, and so lets it be written.
@@ -118,5 +119,50 @@ impl<F: Flash> Held<F> {
         ensures { result ≡ op_count_of (F.device self.now.flash) }
     {
         self.flash.op_count()
+    }
+
+    /// Gives the flash up as it stands.
+    pub fn into_flash(self) -> F
+        ensures { result ≡ self.flash }
+    {
+        self.flash
+    }
+}
+
+impl<F: Rigged> Held<F> {
+    /// Lets the nth erase or program from now on lose the power, and leave the tear.
+    pub fn arm_cut(&mut self, nth: u32, tear: &Tear)
+        requires nth { 1 ≤ nth }
+        requires arms { 0 < (F.device self.old.flash).arms }
+        ensures flash { F.device self.new.flash ≡ with_cut (F.device self.old.flash) nth tear.now }
+        ensures rest { self.new ≡ record self.old { flash = self.new.flash } }
+    {
+        self.flash.arm_cut(nth, tear);
+    }
+
+    /// Lets the nth erase or program from now on fail, and leave the tear.
+    pub fn arm_fault(&mut self, nth: u32, tear: &Tear)
+        requires nth { 1 ≤ nth }
+        requires arms { 0 < (F.device self.old.flash).arms }
+        ensures flash { F.device self.new.flash ≡ with_fault (F.device self.old.flash) nth tear.now }
+        ensures rest { self.new ≡ record self.old { flash = self.new.flash } }
+    {
+        self.flash.arm_fault(nth, tear);
+    }
+
+    /// Lets the nth read from now on fail.
+    pub fn arm_read_fault(&mut self, nth: u32)
+        requires { 1 ≤ nth }
+        ensures flash { F.device self.new.flash ≡ record (F.device self.old.flash) { read_due = true } }
+        ensures rest { self.new ≡ record self.old { flash = self.new.flash } }
+    {
+        self.flash.arm_read_fault(nth);
+    }
+
+    /// How many cuts and faults can still be armed in the flash.
+    pub fn arms_left(&self) -> u32
+        ensures { result ≡ (F.device self.now.flash).arms }
+    {
+        self.flash.arms_left()
     }
 }

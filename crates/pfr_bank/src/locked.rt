@@ -87,4 +87,11 @@ impl<F: Rigged> Locked<F> {
     {
         self.flash.arm_read_fault(nth);
     }
+
+    /// How many cuts and faults can still be armed in the flash.
+    pub fn arms_left(&self) -> u32
+        ensures { result ≡ (F.device self.now.flash).arms }
+    {
+        self.flash.arms_left()
+    }
 }

@@ -9,9 +9,14 @@ use Rattle.std.proofs.lemmas.List.Elements.{All-nil, All-cons, All-head, All-tai
 use Rattle.pfr_flash.specs.Bytes.{bytes_at}
 use Rattle.pfr_flash.specs.Judging.{◌>>=◌, ◌>>◌, require, known, require_none}
 use Rattle.pfr_flash.proofs.JudgingLemmas.{passed, passed_known, passed_test, passed_none, goes_on, Decides-le, Decides-true}
+use Rattle.pfr_flash.specs.declared.layout.Layout.{Layout}
+use Rattle.pfr_manifest.specs.Access.{IsWritable}
+use Rattle.pfr_manifest.specs.Stretches.{stretches_of, writable_by}
+use Rattle.pfr_manifest.specs.declared.manifest.Manifest.{Manifest}
+use Rattle.pfr_manifest.proofs.StretchLemmas.{Decides-writable}
 use Rattle.pfr_filter.specs.Opcodes.{chip_erase, command_of, needs, is_addressed}
 use Rattle.pfr_filter.specs.Asking.{address_of, op_of, page_with, pages_of, changes, IsFormed}
-use Rattle.pfr_filter.specs.Frames.{Passes, IsFormedVerdict, first_without, judge_spi, verdict_of}
+use Rattle.pfr_filter.specs.Frames.{Passes, IsFormedVerdict, first_without, judge_spi, verdict_of, verdict_on}
 use Rattle.pfr_filter.specs.declared.command.Command.{Command}
 use Rattle.pfr_filter.specs.declared.command.Command.TheVariants.{Read, FastRead, ReadStatus, ReadId, WriteEnable, WriteDisable, PageProgram, SectorErase, BlockErase}
 use Rattle.pfr_filter.specs.declared.verdict.BusOp.{BusOp}
@@ -175,3 +180,8 @@ pub verdict_passes : (frame : List ℕ) (test : ℕ → Bool) (IsOpen : ℕ → 
 verdict_passes frame test IsOpen decides size latch op =
     let law = judged_passes frame test IsOpen decides size latch op in
     (λ h. law.0 (pass_well (judge_spi frame test size latch) op h), λ h. ap (λ (r : Result BusOp BlockCause). verdict_of r) (law.1 h))
+
+-- It passes by a manifest exactly where the manifest lets the bus write its pages: so what passes is safe.
+pub manifest_passes : (frame : List ℕ) (m : Manifest) (layout : Layout) (size : ℕ) (latch : Bool) (op : BusOp)
+    → (verdict_on frame m layout size latch ≡ Pass op) ↔ Passes frame (IsWritable m layout) size latch op
+manifest_passes frame m layout size latch op = verdict_passes frame (writable_by (stretches_of m) layout) (IsWritable m layout) (Decides-writable m layout) size latch op

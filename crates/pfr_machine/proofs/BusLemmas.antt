@@ -1,8 +1,7 @@
 -- Frames on the buses of a bank that runs.
-use Rattle.std.proofs.Common.{◌≡◌, ◌≢◌, ◌∙◌, refl, sym, ap, subst, ℕ, ◌≤◌, Bool, true, List, [], ◌∷◌, arith, inl, inr, Option, Some, Result, Ok, Err}
+use Rattle.std.proofs.Common.{◌≡◌, ◌≢◌, ◌∙◌, refl, sym, ap, subst, ℕ, ◌≤◌, Bool, true, List, [], ◌∷◌, length, arith, inl, inr, Option, Some, Result, Ok, Err}
 use Rattle.pfr_flash.specs.FlashState.{FlashState, now, size_of}
 use Rattle.pfr_flash.specs.Layout.{IsBankSize}
-use Rattle.pfr_flash.specs.Operation.{Operation}
 use Rattle.pfr_flash.specs.Plan.{Follows as FollowsPlan}
 use Rattle.pfr_flash.specs.declared.flash.FlashFail.{FlashFail}
 use Rattle.pfr_flash.specs.declared.flash.FlashFail.TheVariants.{Fault, Lost as Loses}
@@ -10,10 +9,7 @@ use Rattle.pfr_flash.specs.declared.layout.Layout.{Layout}
 use Rattle.pfr_flash.specs.declared.names.Bank.{Bank}
 use Rattle.pfr_flash.specs.declared.names.Bank.TheVariants as bank
 use Rattle.pfr_engine.specs.Acceptance.{Acceptance}
-use Rattle.pfr_fuses.specs.FusesOf.{fuses_of}
-use Rattle.pfr_fuses.specs.FusesState.{FusesState}
 use Rattle.pfr_fuses.specs.RootSlot.{layout_of}
-use Rattle.pfr_fuses.specs.declared.fuse_fail.FuseFail.{FuseFail}
 use Rattle.pfr_manifest.specs.declared.manifest.Manifest.{Manifest}
 use Rattle.pfr_filter.specs.Asking.{bus_ops, latched}
 use Rattle.pfr_filter.specs.Frames.{bus_plan, verdict_on}
@@ -22,82 +18,83 @@ use Rattle.pfr_filter.specs.declared.verdict.BusOp.{BusOp}
 use Rattle.pfr_filter.specs.declared.verdict.BusOp.TheVariants.{Read, Status, Id, WriteEnable, WriteDisable, Program, Erase}
 use Rattle.pfr_filter.specs.declared.verdict.Verdict.{Verdict}
 use Rattle.pfr_filter.specs.declared.verdict.Verdict.TheVariants.{Pass, Block}
-use Rattle.pfr_auth.specs.Judge.{judge_active}
 use Rattle.pfr_auth.specs.Trusted.{IsTrusted}
-use Rattle.pfr_auth.specs.declared.fail.ActiveFail.{ActiveFail}
-use Rattle.pfr_auth.proofs.TrustedLaw.{trusted_judged}
 use Rattle.pfr_bank.specs.Seats.{RunningState, latch_left}
 use Rattle.pfr_bank.specs.Spelling.{StillSpells}
 use Rattle.pfr_bank.proofs.SpellingLaw.{spells_trusted}
+use Rattle.pfr_smbus.specs.declared.cause.SmbusCause.{SmbusCause}
 use Rattle.pfr_report.specs.NotesState.{NotesState}
 use Rattle.pfr_report.specs.Texts.{HasText}
 use Rattle.pfr_report.specs.declared.note.LockWhy.TheVariants.{FlashFault}
 use Rattle.pfr_report.specs.declared.note.Note.{Note}
 use Rattle.pfr_report.specs.declared.note.What.{What}
-use Rattle.pfr_report.specs.declared.note.What.TheVariants.{Held, Locked, Lost, BusPassed, BusBlocked}
+use Rattle.pfr_report.specs.declared.note.What.TheVariants.{Held, Locked, BusPassed, BusBlocked}
 use Rattle.pfr_story.specs.Course.{Follows, Steps, lost}
 use Rattle.pfr_story.specs.Goes.{Goes, Ran, Stopped}
 use Rattle.pfr_story.specs.Guards.{guard_at}
-use Rattle.pfr_story.specs.Plans.{Ruling, bus_calls, by_ruling, by_verdict, filtered, judge_smbus, judged_active, ruling, ruling_by, ruling_with, smbus_by, smbus_judged, smbus_note}
+use Rattle.pfr_story.specs.Plans.{Ruling, bus_calls, by_ruling, by_verdict, filtered, judge_smbus, mine, ruling, smbus_by, smbus_judged, smbus_note}
 use Rattle.pfr_story.specs.Standing as standing
 use Rattle.pfr_story.specs.Standing.{Standing, standing_after, standing_by, standing_of}
 use Rattle.pfr_story.specs.Story.{Move, Says, device_of, other_bank, says}
 use Rattle.pfr_story.specs.Turn.{spi_course, spi_stretch}
-use Rattle.pfr_story.specs.World.{World, IsDark, counts_in, state_at, story_of}
+use Rattle.pfr_story.specs.World.{World, IsDark, state_at, story_of}
+use Rattle.pfr_story.specs.declared.line.Line.{Line}
 use Rattle.pfr_story.specs.declared.line.Line.TheVariants as line
 use Rattle.pfr_story.proofs.Courses.{Steps-ended}
 use Rattle.pfr_story.proofs.Lift.{at_device}
+use Rattle.pfr_story.proofs.Rulings.{trusted_ruling}
 use Rattle.pfr_story.proofs.Sequence.{Ran-append, Ran-refl, Stopped-first}
 use Rattle.pfr_machine.specs.Buses.{IsBus, bus_sides, bus_world, verdict_stretch}
-use Rattle.pfr_machine.specs.Inside.{AreBeside, AreOwned, AreSides, IsLaid, IsSeat, IsWhole, darkened}
+use Rattle.pfr_machine.specs.Inside.{AreBeside, AreOwned, AreSides, IsLaid, IsSeat, IsWhole}
 use Rattle.pfr_machine.specs.Ready.{LeavesSeated, LeavesWhole}
 use Rattle.pfr_machine.specs.Worlds.{AddsNotes, DeskState, Latches, Sitting, desk_world, flash_in, latch_in, latches_after, latches_by, line_in, pushed, ruling_in, sides_world, sits_in, with_note}
 use Rattle.pfr_machine.specs.declared.board.Board.{Board}
 use Rattle.pfr_machine.specs.declared.bus.Bus.{Bus}
 use Rattle.pfr_machine.specs.declared.seat.Seat.{Seat}
+use Rattle.pfr_machine.specs.declared.sides.Sides.{Sides}
 use Rattle.pfr_machine.specs.declared.seat.Seat.TheVariants as seat
 use Rattle.pfr_machine.proofs.BringLemmas.{image_now, size_now}
 use Rattle.pfr_machine.proofs.DeskLemmas.{desk_notes, desk_pushed_is, mine_follows, state_mine, state_other, state_store}
 use Rattle.pfr_machine.proofs.LaidLemmas.{KeepsLaid-same, fuses_laid}
-use Rattle.pfr_machine.proofs.SeatLemmas.{lost_dark, lost_notes, lost_ran}
-use Rattle.pfr_machine.proofs.StandLemmas.{leaves_on, leaves_standing, lost_leaves, neither_off, noted_adds, still_stands}
+use Rattle.pfr_machine.proofs.SeatLemmas.{IsLost, lost_dark, lost_notes, lost_ran}
+use Rattle.pfr_machine.proofs.StandLemmas.{leaves_on, leaves_standing, lost_leaves, neither_off, noted_adds, noted_leaves, still_stands}
 use Rattle.pfr_machine.proofs.WorldLemmas.{AddsNotes-most, AddsNotes-then, board_noted, board_stays, noted_ran, seat_noted, seat_stays}
 
 -- ---- what a bank that runs is ruled by
-module _ (accepts : Acceptance) (b : Bank) (w : World) (t : IsTrusted (now (state_at (device_of b) w)) (now w.nv) b accepts) where
-  judged_so : judged_active accepts b t.fuses (story_of w) ≡ Ok t.manifest
-  judged_so = ap (λ (image : List ℕ). judge_active image b t.fuses accepts) (image_now b w) ∙ trusted_judged (now (state_at (device_of b) w)) (now w.nv) b accepts t
+pub trusted_mine : (accepts : Acceptance) (b : Bank) (w : World) → IsTrusted (now (state_at (device_of b) w)) (now w.nv) b accepts → IsTrusted (mine b (story_of w)) (now w.nv) b accepts
+trusted_mine accepts bank.Bmc w t = t
+trusted_mine accepts bank.Pch w t = t
 
-  ruling_so : ruling accepts b (story_of w) ≡ Some (record { manifest = t.manifest; layout = layout_of t.fuses.provision b })
-  ruling_so =
-      ap (λ (found : Result FusesState FuseFail). ruling_with accepts b (story_of w) found) t.provisioned
-      ∙ ap (λ (judged : Result Manifest ActiveFail). ruling_by b t.fuses judged) judged_so
+-- it is what it was judged by
+module _ (accepts : Acceptance) (b : Bank) (w : World) (trusted : IsTrusted (now (state_at (device_of b) w)) (now w.nv) b accepts) where
+  abbrev here : IsTrusted (mine b (story_of w)) (now w.nv) b accepts
+  here = trusted_mine accepts b w trusted
 
-  -- it is the one that it was judged by
   module _ (m : Manifest) (layout : Layout) (spells : StillSpells (now (state_at (device_of b) w)) m layout) (laid : IsLaid b layout (now w.nv)) where
-    same_layout : layout_of t.fuses.provision b ≡ layout
-    same_layout = fuses_laid b layout (now w.nv) t.fuses t.provisioned laid
+    same_layout : layout_of here.fuses.provision b ≡ layout
+    same_layout = fuses_laid b layout (now w.nv) here.fuses here.provisioned laid
 
-    same_manifest : t.manifest ≡ m
-    same_manifest = spells_trusted (now (state_at (device_of b) w)) (now w.nv) b accepts m layout spells t same_layout
+    same_manifest : here.manifest ≡ m
+    same_manifest =
+        spells_trusted (mine b (story_of w)) (now w.nv) b accepts m layout (subst (λ (image : List ℕ). StillSpells image m layout) (sym (image_now b w)) spells) here same_layout
 
     ruled : ruling accepts b (story_of w) ≡ Some (record { manifest = m; layout = layout })
     ruled =
         let with_both : Manifest → Layout → Option Ruling = λ manifest at. Some (record { manifest = manifest; layout = at }) in
-        ruling_so ∙ (ap (λ (x : Manifest). with_both x (layout_of t.fuses.provision b)) same_manifest ∙ ap (λ (x : Layout). with_both m x) same_layout)
+        trusted_ruling accepts b (story_of w) here ∙ (ap (λ (x : Manifest). with_both x (layout_of here.fuses.provision b)) same_manifest ∙ ap (λ (x : Layout). with_both m x) same_layout)
 
-    pub filtered_so : (frame : List ℕ) (latch : Bool) → (guard_at b w.guards).latch ≡ latch
-        → filtered accepts b frame (story_of w) ≡ by_verdict b (verdict_on frame m layout (size_of (state_at (device_of b) w)) latch) (story_of w)
-    filtered_so frame latch l =
+    filtered_so : (frame : List ℕ) (size : ℕ) (latch : Bool) → size_of (state_at (device_of b) w) ≡ size → (guard_at b w.guards).latch ≡ latch
+        → filtered accepts b frame (story_of w) ≡ by_verdict b (verdict_on frame m layout size latch) (story_of w)
+    filtered_so frame size latch s l =
         ap (λ (found : Option Ruling). by_ruling b frame (guard_at b w.guards).latch found (story_of w)) ruled
-        ∙ (ap (λ (size : ℕ). by_verdict b (verdict_on frame m layout size (guard_at b w.guards).latch) (story_of w)) (size_now b w)
-        ∙ ap (λ (x : Bool). by_verdict b (verdict_on frame m layout (size_of (state_at (device_of b) w)) x) (story_of w)) l)
+        ∙ (ap (λ (n : ℕ). by_verdict b (verdict_on frame m layout n (guard_at b w.guards).latch) (story_of w)) (size_now b w ∙ s)
+        ∙ ap (λ (x : Bool). by_verdict b (verdict_on frame m layout size x) (story_of w)) l)
 
-    pub smbus_so : (frame : List ℕ) → smbus_judged accepts b frame (story_of w) ≡ Says (λ _. smbus_note b (judge_smbus m.rules frame)) ∷ []
+    smbus_so : (frame : List ℕ) → smbus_judged accepts b frame (story_of w) ≡ Says (λ _. smbus_note b (judge_smbus m.rules frame)) ∷ []
     smbus_so frame = ap (λ (found : Option Ruling). smbus_by b frame found (story_of w)) ruled
 
 -- a seat whose bank runs has a ruling
-pub runs_ruled : {F : Type 0} (s : Seat F) → line_in s ≡ line.Running → (r : Ruling) × (ruling_in s ≡ Some r)
+runs_ruled : {F : Type 0} (s : Seat F) → line_in s ≡ line.Running → (r : Ruling) × (ruling_in s ≡ Some r)
 runs_ruled (seat.Off off) e = absurd cc
 runs_ruled (seat.Locked locked) e = absurd cc
 runs_ruled (seat.Running running) e = (record { manifest = running.manifest; layout = running.layout }, refl)
@@ -285,11 +282,11 @@ module _ {F : Type 0} (dev : F → FlashState) (bus : Bus F) (running : RunningS
         (later_size latches)
         (subst (λ (d : FlashState). d.powered ≡ true) (sym (state_mine bus.bank (dev running.flash) (dev (flash_in bus.other)) (dev bus.board.nv) latches bus.board)) on)
         (state_other bus.bank (dev running.flash) (dev (flash_in bus.other)) (dev bus.board.nv) latches bus.board
-            ∙ sym (state_other bus.bank (dev bus.running.flash) (dev (flash_in bus.other)) (dev bus.board.nv) latches_then bus.board))
+        ∙ sym (state_other bus.bank (dev bus.running.flash) (dev (flash_in bus.other)) (dev bus.board.nv) latches_then bus.board))
         (state_store bus.bank (dev running.flash) (dev (flash_in bus.other)) (dev bus.board.nv) latches bus.board
-            ∙ sym (state_store bus.bank (dev bus.running.flash) (dev (flash_in bus.other)) (dev bus.board.nv) latches_then bus.board))
+        ∙ sym (state_store bus.bank (dev bus.running.flash) (dev (flash_in bus.other)) (dev bus.board.nv) latches_then bus.board))
         (ap (λ (n : NotesState). n.list) (desk_notes bus.bank (dev running.flash) (dev (flash_in bus.other)) (dev bus.board.nv) latches bus.board
-            ∙ sym (desk_notes bus.bank (dev bus.running.flash) (dev (flash_in bus.other)) (dev bus.board.nv) latches_then bus.board)))
+        ∙ sym (desk_notes bus.bank (dev bus.running.flash) (dev (flash_in bus.other)) (dev bus.board.nv) latches_then bus.board)))
         seated
 
   -- whether its device has power or not
@@ -333,18 +330,18 @@ blocked_is dev bus why =
     (blocked_latches bus.bank why bus.running.latch (latch_in bus.other)) refl
 
 -- ---- the step
-pub blocked_steps : (b : Bank) (why : BlockCause) (old new : World) → new ≡ with_note (BusBlocked b why) old → Steps (verdict_stretch b (Block why) ∷ []) old new
+blocked_steps : (b : Bank) (why : BlockCause) (old new : World) → new ≡ with_note (BusBlocked b why) old → Steps (verdict_stretch b (Block why) ∷ []) old new
 blocked_steps b why old new e = inl (new, noted_ran (λ _. BusBlocked b why) (BusBlocked b why) old new refl e, Ran-refl new)
 
 module _ (b : Bank) (op : BusOp) (old mid new : World) where
-  pub passed_steps : Ran (bus_calls b op) old mid → new ≡ with_note (BusPassed b op) mid → Steps (verdict_stretch b (Pass op) ∷ []) old new
+  passed_steps : Ran (bus_calls b op) old mid → new ≡ with_note (BusPassed b op) mid → Steps (verdict_stretch b (Pass op) ∷ []) old new
   passed_steps p e = inl (
     new,
     Ran-append (bus_calls b op) (Says (λ _. BusPassed b op) ∷ []) old mid new p (noted_ran (λ _. BusPassed b op) (BusPassed b op) mid new refl e),
     Ran-refl new,
   )
 
-  pub locked_steps : (held : World) → Stopped (bus_calls b op) (device_of b) Fault old mid → Ran (Says (Held b) ∷ []) mid held → Ran (Says (Locked b FlashFault) ∷ []) held new
+  locked_steps : (held : World) → Stopped (bus_calls b op) (device_of b) Fault old mid → Ran (Says (Held b) ∷ []) mid held → Ran (Says (Locked b FlashFault) ∷ []) held new
       → Steps (verdict_stretch b (Pass op) ∷ []) old new
   locked_steps held s p q =
       Steps-ended (verdict_stretch b (Pass op)) [] old new refl (record {
@@ -354,10 +351,158 @@ module _ (b : Bank) (op : BusOp) (old mid new : World) where
         noted = Ran-append (Says (Held b) ∷ []) (Says (Locked b FlashFault) ∷ []) mid held new p q;
       })
 
-  pub dark_steps : Stopped (bus_calls b op) (device_of b) Loses old mid → Ran (lost (device_of b)) mid new → Steps (verdict_stretch b (Pass op) ∷ []) old new
+  dark_steps : Stopped (bus_calls b op) (device_of b) Loses old mid → Ran (lost (device_of b)) mid new → Steps (verdict_stretch b (Pass op) ∷ []) old new
   dark_steps s p = inr (inr (record {
     which = device_of b;
     at = mid;
     stopped = Stopped-first (λ story. bus_calls b op) (says (λ _. BusPassed b op)) (device_of b) Loses old mid s;
     noted = p;
   }))
+
+-- what is done of a frame with this verdict
+pub record IsDone (b : Bank) (verdict : Verdict) (old new : World) : Type 0 where
+  pub steps : Steps (verdict_stretch b verdict ∷ []) old new
+  pub leaves : LeavesWhole 3 old new
+  pub dark : standing_of bank.Bmc new.notes.list ≡ standing.Off → IsDark new
+
+pub bus_spare : {F : Type 0} (dev : F → FlashState) (bus : Bus F) → 3 ≤ bus.board.notes.spare → 3 ≤ (bus_world dev bus).notes.spare
+bus_spare dev bus room =
+    let same = desk_notes bus.bank (dev bus.running.flash) (dev (flash_in bus.other)) (dev bus.board.nv) (latches_by bus.bank bus.running.latch (latch_in bus.other)) bus.board in
+    subst (λ (n : NotesState). 3 ≤ n.spare) (sym same) room
+
+module _ {F : Type 0} (dev : F → FlashState) (bus : Bus F) (seated : IsBus dev bus) (whole : IsWhole (bus_world dev bus)) (room : 3 ≤ bus.board.notes.spare) where
+  abbrev old : World
+  old = bus_world dev bus
+
+  spare : 1 ≤ old.notes.spare
+  spare = let three : 3 ≤ old.notes.spare = bus_spare dev bus room in omega arith
+
+  pub is_blocked : (why : BlockCause) (new : World) → new ≡ bus_world dev (record bus { board = pushed (BusBlocked bus.bank why) bus.board }) → IsDone bus.bank (Block why) old new
+  is_blocked why new e =
+      let is : new ≡ with_note (BusBlocked bus.bank why) old = e ∙ blocked_is dev bus why in
+      record {
+        steps = blocked_steps bus.bank why old new is;
+        leaves = said_leaves bus.bank old old whole seated.mine.stands refl refl (BusBlocked bus.bank why) new is (λ which s. refl) spare;
+        dark = said_dark bus.bank old old whole seated.mine.stands refl refl (BusBlocked bus.bank why) new is (λ which s. refl);
+      }
+
+  module _ (running : RunningState F) (op : BusOp) where
+    pub ok_on : (x : Unit {0}) → Handed dev (Pass op) bus.running running (Ok x) → (dev running.flash).powered ≡ true
+    ok_on x h = h.follows.on ∙ was_on dev bus running seated op (Ok x) h
+
+    pub fault_on : (fail : FlashFail) → fail ≡ Fault → Handed dev (Pass op) bus.running running (Err fail) → (dev running.flash).powered ≡ true
+    fault_on fail e h = h.follows.still e ∙ was_on dev bus running seated op (Err fail) h
+
+    pub is_passed : (x : Unit {0}) → Handed dev (Pass op) bus.running running (Ok x) → (new : World) → new ≡ bus_world dev (record bus { running = running; board = pushed (BusPassed bus.bank op) bus.board })
+        → IsDone bus.bank (Pass op) old new
+    is_passed x h new e =
+        let mid : World = handed_world dev bus running seated op (Ok x) h in
+        let is : new ≡ with_note (BusPassed bus.bank op) mid = e ∙ passed_is dev bus running op x h in
+        let notes : mid.notes ≡ old.notes = handed_notes dev bus running seated op (Ok x) h in
+        let store : mid.nv ≡ old.nv = handed_store dev bus running seated op (Ok x) h in
+        record {
+          steps = passed_steps bus.bank op old mid new (handed_goes dev bus running seated op (Ok x) h) is;
+          leaves = said_leaves bus.bank old mid whole seated.mine.stands notes store (BusPassed bus.bank op) new is (λ which s. refl) spare;
+          dark = said_dark bus.bank old mid whole seated.mine.stands notes store (BusPassed bus.bank op) new is (λ which s. refl);
+        }
+
+    -- the world behind a call that failed
+    module _ (fail : FlashFail) (h : Handed dev (Pass op) bus.running running (Err fail)) where
+      abbrev mid : World
+      mid = bus_world dev (record bus { running = running })
+
+      same_mid : mid ≡ handed_world dev bus running seated op (Err fail) h
+      same_mid = failed_is dev bus running op fail h
+
+      stopped_so : Stopped (bus_calls bus.bank op) (device_of bus.bank) fail old mid
+      stopped_so = subst (λ (w : World). Stopped (bus_calls bus.bank op) (device_of bus.bank) fail old w) (sym same_mid) (handed_goes dev bus running seated op (Err fail) h)
+
+      notes_so : mid.notes ≡ old.notes
+      notes_so = ap (λ (w : World). w.notes) same_mid ∙ handed_notes dev bus running seated op (Err fail) h
+
+      store_so : mid.nv ≡ old.nv
+      store_so = ap (λ (w : World). w.nv) same_mid ∙ handed_store dev bus running seated op (Err fail) h
+
+      pub is_locked : fail ≡ Fault → (held : DeskState) (new : World) → held.bank ≡ bus.bank → standing_by held.other ≡ standing_of (other_bank bus.bank) mid.notes.list → Ran (Says (Held bus.bank) ∷ []) mid held.world
+          → AddsNotes 1 mid.notes held.world.notes → Ran (Says (Locked held.bank FlashFault) ∷ []) held.world new → LeavesSeated 1 held new → IsDone bus.bank (Pass op) old new
+      is_locked e held new own other holds adds locks leaves = record {
+        steps = locked_steps bus.bank op old mid new held.world (subst (λ (f : FlashFail). Stopped (bus_calls bus.bank op) (device_of bus.bank) f old mid) e stopped_so) holds
+            (subst (λ (b : Bank). Ran (Says (Locked b FlashFault) ∷ []) held.world new) own locks);
+        leaves = locked_leaves bus.bank old mid whole seated.mine.stands notes_so store_so held new own other adds leaves;
+        dark = locked_dark bus.bank old mid whole seated.mine.stands notes_so store_so held new own other adds leaves;
+      }
+
+      pub is_dark : fail ≡ Loses → (new : World) → IsLost (Some (device_of bus.bank)) mid new → IsDone bus.bank (Pass op) old new
+      is_dark e new l =
+          let ran = lost_ran (Some (device_of bus.bank)) mid new l in
+          let adds : AddsNotes 1 mid.notes new.notes = lost_notes (Some (device_of bus.bank)) mid new l (subst (λ (n : NotesState). 1 ≤ n.spare) (sym notes_so) spare) in
+          record {
+            steps = dark_steps bus.bank op old mid new (subst (λ (f : FlashFail). Stopped (bus_calls bus.bank op) (device_of bus.bank) f old mid) e stopped_so) ran;
+            leaves = lost_leaves 3 (Some (device_of bus.bank)) old mid new ran (AddsNotes-most 1 3 old.notes new.notes (subst (λ (n : NotesState). AddsNotes 1 n new.notes) notes_so adds) (omega arith));
+            dark = λ off. lost_dark (Some (device_of bus.bank)) mid new l;
+          }
+
+-- ---- a frame on the SPI bus
+module _ {F : Type 0} (dev : F → FlashState) (sides : Sides F) (self : World) (running : RunningState F) (is : sides_world dev sides ≡ self) (seated : AreSides dev sides) (runs : sides.mine ≡ seat.Running running) where
+  abbrev pub asked : Bus F
+  asked = record { bank = sides.bank; running = running; other = sides.other; board = sides.board }
+
+  same_sides : sides ≡ bus_sides asked
+  same_sides = let with_mine : Seat F → Sides F = λ mine. record sides { mine = mine } in ap with_mine runs
+
+  pub asked_bus : IsBus dev asked
+  asked_bus = subst (λ (s : Sides F). AreSides dev s) same_sides seated
+
+  pub asked_world : bus_world dev asked ≡ self
+  asked_world = ap (λ (s : Sides F). sides_world dev s) (sym same_sides) ∙ is
+
+  abbrev asked_verdict : List ℕ → Verdict
+  asked_verdict frame = verdict_on frame running.manifest running.layout (size_of (dev running.flash)) running.latch
+
+  module _ (frame : List ℕ) (new : World) (spells : StillSpells (now (dev running.flash)) running.manifest running.layout) (steps : Steps (verdict_stretch asked.bank (asked_verdict frame) ∷ []) (bus_world dev asked) new) (accepts : Acceptance) where
+    asked_follows : IsTrusted (now (state_at (device_of asked.bank) (bus_world dev asked))) (now (bus_world dev asked).nv) asked.bank accepts → Follows (spi_course accepts asked.bank frame) (bus_world dev asked) new
+    asked_follows t =
+        let latches : Latches = latches_by asked.bank running.latch (latch_in asked.other) in
+        let at : state_at (device_of asked.bank) (bus_world dev asked) ≡ dev running.flash = state_mine asked.bank (dev running.flash) (dev (flash_in asked.other)) (dev asked.board.nv) latches asked.board in
+        spi_follows accepts asked.bank frame (asked_verdict frame) (bus_world dev asked) new
+        (filtered_so accepts asked.bank (bus_world dev asked) t running.manifest running.layout
+        (subst (λ (d : FlashState). StillSpells (now d) running.manifest running.layout) (sym at) spells)
+        (asked_bus.mine.laid (record { manifest = running.manifest; layout = running.layout }) refl)
+        frame (size_of (dev running.flash)) running.latch (ap size_of at)
+        (latch_mine asked.bank (dev running.flash) (dev (flash_in asked.other)) (dev asked.board.nv) running.latch (latch_in asked.other) asked.board))
+        steps
+
+    pub spi_done : (b : Bank) → sides.bank ≡ b → IsTrusted (now (state_at (device_of b) self)) (now self.nv) b accepts → Follows (spi_course accepts b frame) self new
+    spi_done b own t =
+        let here = subst (λ (v : World). IsTrusted (now (state_at (device_of b) v)) (now v.nv) b accepts) (sym asked_world) t in
+        subst (λ (v : World). Follows (spi_course accepts b frame) v new) asked_world
+        (subst (λ (x : Bank). Follows (spi_course accepts x frame) (bus_world dev asked) new) own
+        (asked_follows (subst (λ (x : Bank). IsTrusted (now (state_at (device_of x) (bus_world dev asked))) (now (bus_world dev asked).nv) x accepts) (sym own) here)))
+
+-- ---- a frame on the SMBus
+line_running : (how : Line) → standing_by how ≡ standing.Running → how ≡ line.Running
+line_running line.Off e = absurd cc
+line_running line.Locked e = absurd cc
+line_running line.Running e = refl
+
+pub smbus_seat : {F : Type 0} (dev : F → FlashState) (b : Bank) (s : Seat F) (w : World) (frame read : List ℕ) (r : Result (Unit {0}) SmbusCause) → state_at (device_of b) w ≡ dev (flash_in s) → standing_of b w.notes.list ≡ standing.Running
+    → IsSeat b (sits_in s) w → read ≡ frame → ((x : Ruling) → ruling_in s ≡ Some x → r ≡ judge_smbus x.manifest.rules read) → ((x : Ruling) → ruling_in s ≡ Some x → StillSpells (now (dev (flash_in s))) x.manifest x.layout)
+    → (accepts : Acceptance) → IsTrusted (now (state_at (device_of b) w)) (now w.nv) b accepts → smbus_judged accepts b frame (story_of w) ≡ Says (λ _. smbus_note b r) ∷ []
+smbus_seat dev b s w frame read r at runs seated same judged spells accepts t =
+    let found = runs_ruled s (line_running (line_in s) (sym seated.stands ∙ runs)) in
+    let x : Ruling = found.0 in
+    let answer : judge_smbus x.manifest.rules frame ≡ r = ap (λ (bytes : List ℕ). judge_smbus x.manifest.rules bytes) (sym same) ∙ sym (judged x found.1) in
+    smbus_so accepts b w t x.manifest x.layout (subst (λ (d : FlashState). StillSpells (now d) x.manifest x.layout) (sym at) (spells x found.1)) (seated.laid x found.1) frame
+    ∙ ap (λ (j : Result (Unit {0}) SmbusCause). Says (λ _. smbus_note b j) ∷ []) answer
+
+smbus_still : (b : Bank) (r : Result (Unit {0}) SmbusCause) (which : Bank) (s : Standing) → standing_after which (smbus_note b r) s ≡ s
+smbus_still b (Ok x) which s = refl
+smbus_still b (Err why) which s = refl
+
+pub smbus_done : (b : Bank) (r : Result (Unit {0}) SmbusCause) (what : What) (old new : World) → what ≡ smbus_note b r → new ≡ with_note what old → 64 ≤ old.notes.spare → IsWhole old → standing_of b old.notes.list ≡ standing.Running
+    → LeavesWhole 64 old new × (standing_of bank.Bmc new.notes.list ≡ standing.Off → IsDark new)
+smbus_done b r what old new is e room whole runs =
+    let still : (which : Bank) (s : Standing) → standing_after which what s ≡ s = subst (λ (x : What). (which : Bank) (s : Standing) → standing_after which x s ≡ s) (sym is) (smbus_still b r) in (
+      noted_leaves what old new still e (omega arith) whole,
+      λ off. absurd (neither_off b old whole runs bank.Bmc (sym (still_stands what old new still e bank.Bmc) ∙ off)),
+    )

@@ -15,10 +15,13 @@ use Rattle.pfr_fuses.specs.FusesState.{FusesState}
 use Rattle.pfr_fuses.specs.RootSlot.{layout_of}
 use Rattle.pfr_flash.specs.declared.layout.Layout.{Layout}
 use Rattle.pfr_capsule.specs.CapsuleState.{CapsuleState}
+use Rattle.pfr_script.specs.declared.arm.ArmWhat.{ArmWhat}
+use Rattle.pfr_script.specs.declared.arm.ArmWhat.TheVariants.{Cut, Fault, ReadFault}
 use Rattle.pfr_report.specs.NotesState.{NotesState}
 use Rattle.pfr_report.specs.Texts.{HasText}
 use Rattle.pfr_report.specs.declared.note.Note.{Note}
 use Rattle.pfr_report.specs.declared.note.What.{What}
+use Rattle.pfr_story.specs.Run.{with_arm}
 use Rattle.pfr_story.specs.Standing as standing
 use Rattle.pfr_story.specs.Standing.{Standing, standing_after, standing_by, standing_of}
 use Rattle.pfr_story.specs.Story.{Move, Plan, called, device_of, image_at, other_bank}
@@ -29,7 +32,7 @@ use Rattle.pfr_story.specs.declared.line.Line.{Line}
 use Rattle.pfr_story.specs.declared.line.Line.TheVariants as line
 use Rattle.pfr_story.specs.declared.stop.Stop.{Stop}
 use Rattle.pfr_story.proofs.Lift.{OnlyAt, Goes-follows, Goes-reads, at_device}
-use Rattle.pfr_machine.specs.Inside.{AreBeside, AreSeated, IsDesk, IsSeat}
+use Rattle.pfr_machine.specs.Inside.{AreBeside, AreSeated, IsDesk, IsSeat, KeepsLaid}
 use Rattle.pfr_machine.specs.Worlds.{AddsNotes, IsAwake, Latches, Sitting, Stays, StaysAwake, desk_world, latches_after, pushed, with_note, world_with}
 use Rattle.pfr_machine.specs.Ready.{LeavesSeated}
 use Rattle.pfr_machine.specs.declared.board.Board.{Board}
@@ -163,6 +166,45 @@ seated_noted bmc pch what w text still h = record {
   board = board_noted (record { item = w.item; what = what }) w (with_note what w) refl refl text h.board;
 }
 
+-- ---- devices that are what they were, but for what is armed
+pub record IsAlike (old new : FlashState) : Type 0 where
+  pub size : size_of new ≡ size_of old
+  pub powered : new.powered ≡ old.powered
+  pub bytes : now new ≡ now old
+
+pub alike_same : (d : FlashState) → IsAlike d d
+alike_same d = record { size = refl; powered = refl; bytes = refl }
+
+pub alike_armed : (what : ArmWhat) (nth : ℕ) (tear : List ℕ) (d new : FlashState) → new ≡ with_arm what nth tear d → IsAlike d new
+alike_armed Cut nth tear d new e = subst (λ (x : FlashState). IsAlike d x) (sym e) (record { size = refl; powered = refl; bytes = refl })
+alike_armed Fault nth tear d new e = subst (λ (x : FlashState). IsAlike d x) (sym e) (record { size = refl; powered = refl; bytes = refl })
+alike_armed ReadFault nth tear d new e = subst (λ (x : FlashState). IsAlike d x) (sym e) (record { size = refl; powered = refl; bytes = refl })
+
+seat_alike : (which : Bank) (seat later : Sitting) (old new : World) → later ≡ seat → IsAlike (state_at (device_of which) old) (state_at (device_of which) new) → now new.nv ≡ now old.nv → new.notes.list ≡ old.notes.list
+    → IsSeat which seat old → IsSeat which later new
+seat_alike which seat later old new same d store list h =
+    subst (λ (s : Sitting). IsSeat which s new) (sym same) (seat_stays which seat old new d.size list (λ on. d.powered ∙ h.on on) (KeepsLaid-same (now old.nv) (now new.nv) store) h)
+
+pub seated_alike : (bmc pch later_bmc later_pch : Sitting) (old new : World) → later_bmc ≡ bmc → later_pch ≡ pch → IsAlike old.bmc new.bmc → IsAlike old.pch new.pch → IsAlike old.nv new.nv → new.notes.list ≡ old.notes.list
+    → AreSeated bmc pch old → AreSeated later_bmc later_pch new
+seated_alike bmc pch later_bmc later_pch old new same_bmc same_pch b p nv list h = record {
+  bmc = seat_alike bank.Bmc bmc later_bmc old new same_bmc b nv.bytes list h.bmc;
+  pch = seat_alike bank.Pch pch later_pch old new same_pch p nv.bytes list h.pch;
+  board = board_stays old new nv.size list h.board;
+}
+
+-- the store worked, and provisions banks as it did
+pub seated_store : {F : Type 0} (bmc pch : Sitting) (b p nv later : FlashState) (latches : Latches) (board : Board F) (store : F) → size_of later ≡ size_of nv → KeepsLaid (now nv) (now later)
+    → AreSeated bmc pch (world_with b p nv latches board) → AreSeated bmc pch (world_with b p later latches (record board { nv = store }))
+seated_store bmc pch b p nv later latches board store size keeps h =
+    let old : World = world_with b p nv latches board in
+    let new : World = world_with b p later latches (record board { nv = store }) in
+    record {
+      bmc = seat_stays bank.Bmc bmc old new refl refl h.bmc.on keeps h.bmc;
+      pch = seat_stays bank.Pch pch old new refl refl h.pch.on keeps h.pch;
+      board = board_stays old new size refl h.board;
+    }
+
 -- ---- what a desk is left as
 note_by : {F : Type 0} (b : Bank) (what : What) (mine other nv : FlashState) (latches : Latches) (board : Board F)
     → desk_world b mine other nv (latches_after what latches) (pushed what board) ≡ with_note what (desk_world b mine other nv latches board)
@@ -250,15 +292,3 @@ stays_here {T} {F} b how mine later other nv latches board answer on fed = recor
   notes = AddsNotes-same (desk_world b mine other nv latches board).notes (desk_world b later other nv latches board).notes (desk_notes b later other nv latches board ∙ sym (desk_notes b mine other nv latches board));
   awake = awake_still b (desk_world b later other nv latches board) answer (awake_at b later other nv latches board on fed);
 }
-
--- ---- sizes
-module _ {F : Type 0} (b whose : Bank) (seat : Sitting) (mine other nv : FlashState) (latches : Latches) (board : Board F) (h : IsDesk b whose seat (desk_world b mine other nv latches board)) where
-  pub my_size : IsBankSize (size_of mine)
-  my_size = subst (λ (d : FlashState). IsBankSize (size_of d)) (state_mine b mine other nv latches board) h.size
-
-  pub other_size : IsBankSize (size_of other)
-  other_size = subst (λ (d : FlashState). IsBankSize (size_of d)) (state_other b mine other nv latches board) h.other.size
-
--- as the BMC sees its seat and the other one
-pub beside_seated : (bmc pch : Sitting) (w : World) → AreBeside bank.Bmc bmc pch w → AreSeated bmc pch w
-beside_seated bmc pch w h = record { bmc = h.mine; pch = h.other; board = h.board }

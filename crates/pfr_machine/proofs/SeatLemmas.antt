@@ -24,7 +24,7 @@ use Rattle.pfr_machine.specs.Ready.{IsText, LeavesSeated}
 use Rattle.pfr_machine.specs.Worlds.{AddsNotes, Latches, Sitting, bank_in, desk_world, flash_in, latch_in, latches_after, latches_by, line_in, pushed, sides_world, sits_in, with_note}
 use Rattle.pfr_machine.specs.declared.board.Board.{Board}
 use Rattle.pfr_machine.specs.declared.sides.Sides.{Sides}
-use Rattle.pfr_machine.proofs.DeskLemmas.{leaves_seated, state_mine, state_other, state_store}
+use Rattle.pfr_machine.proofs.DeskLemmas.{leaves_seated, state_mine, state_store}
 use Rattle.pfr_machine.proofs.LaidLemmas.{none_laid}
 use Rattle.pfr_machine.proofs.WorldLemmas.{AddsNotes-noted, AreLaid, after_locked, after_released, board_noted, held_latches, locked_latches, locked_seat, off_seat, other_locked, other_released, released_latches, seat_noted, standing_noted}
 

@@ -83,11 +83,11 @@ noted_leaves what old new still e room h =
     leaves_standing 64 old new (still_stands what old new still e) (ap (λ (w : World). w.nv.powered) e) (AddsNotes-most 1 64 old.notes new.notes (noted_adds what old new e room) (omega arith)) h
 
 -- the power went
-pub lost_leaves : (most : ℕ) (device : Option Device) (old new : World) → Ran (Says (Lost device) ∷ []) old new → AddsNotes most old.notes new.notes → LeavesWhole most old new
-lost_leaves most device old new r notes = record {
-  together = λ off. said_stands (λ at. Lost device at) old new r Pch;
-  apart = λ off. said_stands (λ at. Lost device at) old new r Bmc;
-  on = λ n. absurd (n (said_stands (λ at. Lost device at) old new r Bmc));
+pub lost_leaves : (most : ℕ) (device : Option Device) (old mid new : World) → Ran (Says (Lost device) ∷ []) mid new → AddsNotes most old.notes new.notes → LeavesWhole most old new
+lost_leaves most device old mid new r notes = record {
+  together = λ off. said_stands (λ at. Lost device at) mid new r Pch;
+  apart = λ off. said_stands (λ at. Lost device at) mid new r Bmc;
+  on = λ n. absurd (n (said_stands (λ at. Lost device at) mid new r Bmc));
   notes = notes;
 }
 
@@ -103,4 +103,3 @@ neither_off Bmc w h e Bmc = runs_on _ e
 neither_off Bmc w h e Pch = λ off. runs_on _ e (h.apart off)
 neither_off Pch w h e Bmc = λ off. runs_on _ e (h.together off)
 neither_off Pch w h e Pch = runs_on _ e
-

@@ -11,15 +11,15 @@ use Rattle.pfr_flash.specs.declared.names.Device.TheVariants as device
 use Rattle.pfr_engine.specs.Acceptance.{Acceptance}
 use Rattle.pfr_fuses.specs.FusesState.{FusesState}
 use Rattle.pfr_fuses.specs.FusesOf.{fuses_of}
-use Rattle.pfr_fuses.specs.declared.fuse_fail.FuseFail.{FuseFail}
 use Rattle.pfr_auth.specs.Judge.{judge_active}
+use Rattle.pfr_report.specs.declared.note.LockWhy.{LockWhy}
 use Rattle.pfr_report.specs.declared.note.Note.{Note}
 use Rattle.pfr_report.specs.declared.note.What.TheVariants.{Power}
 use Rattle.pfr_script.specs.declared.event.Event.{Event}
 use Rattle.pfr_script.specs.declared.event.Event.TheVariants as event
 use Rattle.pfr_story.specs.Course.{Stretch, Course, CrossesOrFaults, LosesPower, Steps, Follows}
 use Rattle.pfr_story.specs.Goes.{Ran, Stopped}
-use Rattle.pfr_story.specs.Plans.{Ruling, migrated, mine, ruling, ruling_by, ruling_with, smbus_by, smbus_judged, store}
+use Rattle.pfr_story.specs.Plans.{Ruling, migrated, mine, ready_in, ready_of, ruling, ruling_by, ruling_with, smbus_by, smbus_judged, store}
 use Rattle.pfr_story.specs.Promises.{IsKnownSlot}
 use Rattle.pfr_story.specs.Standing.{Standing, standing_of, is_off, is_running, Off, Held, Locked, Running}
 use Rattle.pfr_story.specs.Story.{Story, Move, Says, after}
@@ -32,7 +32,7 @@ use Rattle.pfr_story.proofs.Lift.{Ran-uncalled}
 use Rattle.pfr_story.proofs.Sequence.{Ran-refl}
 use Rattle.pfr_machine.specs.Worlds.{with_note, with_state}
 use Rattle.pfr_machine.specs.Inside.{HasSizes, IsWhole}
-use Rattle.pfr_machine.specs.Ready.{Brings, BringsBoth, BroughtUp, IsTaken, LeavesWhole}
+use Rattle.pfr_machine.specs.Ready.{Brings, BringsBoth, BroughtUp, LeavesWhole}
 use Rattle.pfr_machine.specs.declared.bringing.Dark.{Dark}
 use Rattle.pfr_machine.proofs.WorldLemmas.{AddsNotes-then}
 
@@ -89,19 +89,14 @@ module _ (accepts : Acceptance) where
 
 -- ---- an event that is ignored, and one that is taken
 pub at_idle : (accepts : Acceptance) (e : Event) (idle : Bool) (old new : World) → idle ≡ is_idle e (story_of old) → idle ≡ true → Follows ignored old new → Follows (course accepts e (story_of old)) old new
-at_idle accepts e idle old new is yes p = rw (← is, yes) p
+at_idle accepts e idle old new is idles p = rw (← is, idles) p
 
 pub at_taken : (accepts : Acceptance) (e : Event) (idle : Bool) (old new : World) → idle ≡ is_idle e (story_of old) → idle ≡ false → Follows (taken accepts e (story_of old)) old new
     → Follows (course accepts e (story_of old)) old new
-at_taken accepts e idle old new is no p = rw (← is, no) p
+at_taken accepts e idle old new is takes p = rw (← is, takes) p
 
--- an event that is ignored leaves the banks as they stand, so they were off where they are
-pub idle_on : (e : Event) (old new : World) → is_idle e (story_of old) ≡ true → IsTaken e old → standing_of bank.Bmc new.notes.list ≡ standing_of bank.Bmc old.notes.list → standing_of bank.Bmc new.notes.list ≢ Off
-idle_on event.Power old new idle taken same = absurd (let never : false ≡ true = idle in cc)
-idle_on event.Off old new idle taken same = λ off. taken (sym same ∙ off)
-idle_on (event.Provision what) old new idle taken same = λ off. taken (sym same ∙ off)
-idle_on (event.Spi which frame) old new idle taken same = λ off. taken (sym same ∙ off)
-idle_on (event.Smbus which frame) old new idle taken same = λ off. taken (sym same ∙ off)
+pub not_both : {b : Bool} → b ≡ true → b ≡ false → ⊥
+not_both holds fails = let never : true ≡ false = sym holds ∙ fails in cc
 
 off_only : (s : Standing) → is_off s ≡ true → s ≡ Off
 off_only Off e = refl
@@ -128,13 +123,18 @@ running_only Locked e = absurd (let never : true ≡ false = e in cc)
 running_only Running e = refl
 
 -- ---- what is done doesn't rest on the item's number
-ruling_same : (accepts : Acceptance) (b : Bank) (s t : Story) (found : Result FusesState FuseFail) → mine b s ≡ mine b t → ruling_with accepts b s found ≡ ruling_with accepts b t found
+ruling_same : (accepts : Acceptance) (b : Bank) (s t : Story) (found : Result FusesState LockWhy) → mine b s ≡ mine b t → ruling_with accepts b s found ≡ ruling_with accepts b t found
 ruling_same accepts b s t (Ok fuses) e = ap (λ (image : List ℕ). ruling_by b fuses (judge_active image b fuses accepts)) e
 ruling_same accepts b s t (Err cause) e = refl
 
 mine_item : (b : Bank) (story : Story) (item : ℕ) → mine b (record story { item = item }) ≡ mine b story
 mine_item bank.Bmc story item = refl
 mine_item bank.Pch story item = refl
+
+ruling_item : (accepts : Acceptance) (b : Bank) (story : Story) (item : ℕ) → ruling accepts b (record story { item = item }) ≡ ruling accepts b story
+ruling_item accepts b story item =
+    ruling_same accepts b (record story { item = item }) story (ready_of b (record story { item = item })) (mine_item b story item)
+    ∙ ap (λ (image : List ℕ). ruling_with accepts b story (ready_in b (length image) (fuses_of (store story)))) (mine_item b story item)
 
 smbus_item : (b : Bank) (frame : List ℕ) (found : Option Ruling) (s t : Story) → smbus_by b frame found s ≡ smbus_by b frame found t
 smbus_item b frame (Some r) s t = refl
@@ -147,7 +147,7 @@ course_item accepts (event.Provision what) story item = refl
 course_item accepts (event.Spi which frame) story item = refl
 course_item accepts (event.Smbus which frame) story item =
     let same : smbus_judged accepts which frame (record story { item = item }) ≡ smbus_judged accepts which frame story =
-    ap (λ (found : Option Ruling). smbus_by which frame found (record story { item = item })) (ruling_same accepts which (record story { item = item }) story (fuses_of (store story)) (mine_item which story item))
+    ap (λ (found : Option Ruling). smbus_by which frame found (record story { item = item })) (ruling_item accepts which story item)
     ∙ smbus_item which frame (ruling accepts which story) (record story { item = item }) story in
     ap (λ (moves : List Move). ignored_if (is_idle (event.Smbus which frame) story) (record { first = moves; stretches = [] })) same
 

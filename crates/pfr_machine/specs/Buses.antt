@@ -1,5 +1,5 @@
 -- A bank that runs, while a frame on its SPI bus is done.
-use Rattle.std.specs.Prelude.{◌≡◌, [], ◌∷◌, false}
+use Rattle.std.specs.Prelude.{[], ◌∷◌, false}
 use Rattle.pfr_flash.specs.FlashState.{FlashState}
 use Rattle.pfr_flash.specs.declared.names.Bank.{Bank}
 use Rattle.pfr_filter.specs.declared.verdict.Verdict.{Verdict}

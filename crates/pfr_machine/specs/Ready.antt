@@ -9,8 +9,6 @@ use Rattle.pfr_fuses.specs.FusesState.{FusesState}
 use Rattle.pfr_manifest.specs.declared.manifest.Manifest.{Manifest}
 use Rattle.pfr_auth.specs.Answer.{active_failure}
 use Rattle.pfr_auth.specs.declared.fail.ActiveFail.{ActiveFail}
-use Rattle.pfr_script.specs.declared.event.Event.{Event}
-use Rattle.pfr_script.specs.declared.event.Event.TheVariants as event
 use Rattle.pfr_report.specs.Words.{AreFound}
 use Rattle.pfr_report.specs.declared.note.LockWhy.{LockWhy}
 use Rattle.pfr_report.specs.declared.note.LockWhy.TheVariants.{NoGoodImage}
@@ -115,11 +113,6 @@ pub record LeavesWhole (most : ℕ) (old new : World) : Type 0 where
   pub apart : standing_of Pch new.notes.list ≡ Off → standing_of Bmc new.notes.list ≡ Off
   pub on : standing_of Bmc new.notes.list ≢ Off → new.nv.powered ≡ true
   pub notes : AddsNotes most old.notes new.notes
-
--- an event is taken: it is a power-on, or the banks aren't off
-abbrev pub IsTaken : Event → World → Type 0
-IsTaken event.Power w = Unit {0}
-IsTaken other w = standing_of Bmc w.notes.list ≢ Off
 
 -- Work on both banks, one after the other.
 abbrev pub BringsBoth : {F : Type 0} → List Stretch → ℕ → World → Result World (Dark F) → Type 0

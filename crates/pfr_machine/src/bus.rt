@@ -168,13 +168,16 @@ impl<F: Flash> Inner<F> {
             board,
         } = self.sides(bank);
         match mine {
-            Seat::Running(running) => Bus {
-                bank,
-                running,
-                other,
-                board,
+            Seat::Running(running) => {
+                running.known();
+                let bus = Bus {
+                    bank,
+                    running,
+                    other,
+                    board,
+                };
+                bus.filter(frame)
             }
-            .filter(frame),
             Seat::Off(_) | Seat::Locked(_) => unreachable!(),
         }
     }

@@ -1,5 +1,5 @@
 // The platform.
-ghost use Rattle.std.specs.Prelude.{◌≡◌, ◌+◌, ◌<◌, ◌≤◌, [], OnOk, OnErr};
+ghost use Rattle.std.specs.Prelude.{◌≡◌, ◌+◌, ◌<◌, ◌≤◌, false, [], OnOk, OnErr};
 ghost use Rattle.pfr_auth.specs.Trusted.{IsTrusted};
 ghost use Rattle.pfr_flash.specs.FlashState.{now, size_of};
 ghost use Rattle.pfr_flash.specs.Layout.{IsBankSize};
@@ -11,13 +11,13 @@ ghost use Rattle.pfr_story.specs.Bringing.{BringsUpCalm, PowerReleases};
 ghost use Rattle.pfr_story.specs.Course.{Calm};
 ghost use Rattle.pfr_story.specs.Filtering.{FiltersSo};
 ghost use Rattle.pfr_story.specs.Guards.{first_guards};
-ghost use Rattle.pfr_story.specs.Promises.{ReleasesTrusted, LocksHaveCauses, RestoresGood, ProvisionsSo, FaultsAreNoted, FaultsHaveCauses, LossesAreNoted, LostEnds, LostIsDark, NotesOff, StaysQuiet, CallsNone, HasPower, DistrustsWithCause, NotesBelong, AreOff, IsPower, IsKnownSlot, Runs};
+ghost use Rattle.pfr_story.specs.Promises.{ReleasesTrusted, LocksHaveCauses, RestoresGood, ProvisionsSo, FaultsAreNoted, FaultsHaveCauses, LossesAreNoted, LostEnds, LostIsDark, NotesOff, StaysQuiet, CallsNone, HasPower, DistrustsWithCause, NotesBelong, AreOff, IsKnownSlot, Runs};
 ghost use Rattle.pfr_story.specs.Recovery.{CountsRise, StaysRecoverable};
 ghost use Rattle.pfr_story.specs.Run.{armed, takes_arm};
 ghost use Rattle.pfr_story.specs.Spans.{ReleasedSpans};
 ghost use Rattle.pfr_story.specs.Standing.{standing_of, standing_by};
 ghost use Rattle.pfr_story.specs.Story.{device_of};
-ghost use Rattle.pfr_story.specs.Turn.{Turn, begun, course};
+ghost use Rattle.pfr_story.specs.Turn.{Turn, begun, course, is_idle};
 ghost use Rattle.pfr_story.specs.World.{AllMoved, AreDevices, IsDark, NoneLost, NoneRose, state_at, story_of};
 ghost use Rattle.pfr_story.specs.declared.line.Line.TheVariants as line;
 ghost use Rattle.pfr_machine.specs.Inside.{HasSizes};
@@ -189,7 +189,8 @@ impl<F: Flash, E: Engine + Drop> Platform<F, E> {
         ensures engine { self.new.engine ≡ self.old.engine }
         ensures spelled { OnOk result (¬ AreOff self.old.world → IsKnownSlot event.now) }
         ensures untouched { OnOk result (CallsNone event.now self.old.world self.new.world) }
-        ensures dark { OnOk result ((AreOff self.old.world → IsPower event.now) → AreOff self.new.world → IsDark self.new.world) }
+        ensures dark { OnOk result
+            (is_idle event.now (story_of self.old.world) ≡ false → AreOff self.new.world → IsDark self.new.world) }
         ensures err { OnErr result (SameButRoom self.old self.new) }
     {
         match self.inner.take() {

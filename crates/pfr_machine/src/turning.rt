@@ -13,7 +13,7 @@ ghost use Rattle.pfr_story.specs.Story.{device_of};
 ghost use Rattle.pfr_story.specs.Turn.{bank_stretch, begun, course, ignored, is_idle, off_course, power_course, taken, unreadable};
 ghost use Rattle.pfr_story.specs.World.{AreDevices, IsDark, SameDevices, state_at, story_of};
 ghost use Rattle.pfr_machine.specs.Inside.{AreLit, HasSizes, IsWhole};
-ghost use Rattle.pfr_machine.specs.Ready.{BringsBoth, IsTaken, LeavesWhole};
+ghost use Rattle.pfr_machine.specs.Ready.{BringsBoth, LeavesWhole};
 
 use crate::bringing::Dark;
 use crate::inner::Inner;
@@ -112,7 +112,6 @@ impl<F: Flash> Inner<F> {
         requires whole { IsWhole self.old }
         ensures follows { Follows ignored self.old self.new }
         ensures leaves { LeavesWhole 64 self.old self.new }
-        ensures stands { (which : Bank) → standing_of which self.new.notes.list ≡ standing_of which self.old.notes.list }
         ensures untouched { SameDevices self.old self.new }
     {
         self.note(What::Ignored);
@@ -188,7 +187,7 @@ impl<F: Flash> Inner<F> {
             IsTrusted (now (state_at (device_of which) self)) (now self.nv) which (E.accepts engine.now) }
         ensures follows { Follows (course (E.accepts engine.now) event.now (story_of self)) self result }
         ensures leaves { LeavesWhole 64 self result }
-        ensures dark { IsTaken event.now self → standing_of Bmc result.notes.list ≡ Off → IsDark result }
+        ensures dark { is_idle event.now (story_of self) ≡ false → standing_of Bmc result.notes.list ≡ Off → IsDark result }
         ensures untouched { IsIdle event.now self → SameDevices self result }
         ensures spelled { standing_of Bmc self.notes.list ≢ Off → IsKnownSlot event.now }
     {

@@ -236,12 +236,14 @@ module _ (accepts : Acceptance) (first new : World) where
     no_fault calm why.SlotsSpent then n fault = fault
     no_fault calm (why.Layout rule) then n fault = fault
     no_fault calm (why.NoGoodImage active recovery) then n fault = fault
+    no_fault calm why.WatchdogSpent then n fault = fault
+    no_fault calm (why.NoRecovery recovery) then n fault = fault
 
     locked_then : IsCalm which (added first new) → LocksHaveCauses accepts first new → (cause : LockWhy) (then : Counts) → IsNoted (added first new) (what.Locked which cause then)
         → (then ≡ counts_in c.at) × AtCounts (λ image nv. IsDue cause which image nv accepts) which (counts_in c.at) new
     locked_then calm locks cause then n =
-        let e : then ≡ counts_in c.at = caused (what.Locked which cause then) refl (λ e. absurd cc) n in
-        (e, subst (λ (at : Counts). AtCounts (λ image nv. IsDue cause which image nv accepts) which at new) e (locks which cause then n (no_fault calm cause then n)))
+        let due = caused (what.Locked which cause then) refl (λ e. absurd cc) n in
+        (due.0, subst (λ (at : Counts). AtCounts (λ image nv. IsDue cause which image nv accepts) which at new) due.0 (locks which cause then n (no_fault calm cause then n) due.1))
 
     restored_then : (level : ℕ) → IsNoted (added first new) (what.Restored which level) → (level ≡ 1) × AtCounts (λ image nv. IsRestorable which image nv accepts) which (counts_in c.at) new
     restored_then level n =
@@ -297,31 +299,37 @@ module _ (accepts : Acceptance) (first new : World) where
         (λ g. soon (tail_releases accepts which (held c) g bytes (rw sized size))))
 
 -- ---- a whole step
-power_crossed : (accepts : Acceptance) (old new : World) → Turn accepts event.Power old new → (which : Bank) → IsCalm which (added old new) → Crossed accepts (begun old) new which
+power_crossed : (accepts : Acceptance) (old new : World) → Turn accepts event.Power old new → (which : Bank) → IsCalm which (added old new) → Crossed accepts (begun event.Power old) new which
 power_crossed accepts old new (mid, power, rest) which calm =
-    fuses_crossed accepts (begun old) new which mid (λ b. wrote_by (Apart b) (Says (λ _. what.Power) ∷ []) (begun old) mid power.is ((λ at h. h), tt)) power.moved rest calm
+    fuses_crossed accepts (begun event.Power old) new which mid (λ b. wrote_by (Apart b) (Says (λ _. what.Power) ∷ []) (begun event.Power old) mid power.is ((λ at h. h), tt)) power.moved rest calm
 
 -- A power-on brings each bank up of which no call failed.
 pub Turn-brings : (accepts : Acceptance) (e : Event) (old new : World) → Turn accepts e old new → HaveBytes new → BringsUpCalm e accepts old new
 Turn-brings accepts event.Power old new t have = λ which calm.
     let c = power_crossed accepts old new t which calm in
-    (counts_in c.at, brings accepts (begun old) new have which c calm (Turn-releases accepts event.Power old new t have) (Turn-locks accepts event.Power old new t have))
+    (counts_in c.at, brings accepts (begun event.Power old) new have which c calm (Turn-releases accepts event.Power old new t have) (Turn-locks accepts event.Power old new t have))
 Turn-brings accepts event.Off old new t have = tt
 Turn-brings accepts (event.Provision root) old new t have = tt
 Turn-brings accepts (event.Spi b frame) old new t have = tt
 Turn-brings accepts (event.Smbus b frame) old new t have = tt
+Turn-brings accepts (event.Tick n) old new t have = tt
+Turn-brings accepts (event.Boot b pass) old new t have = tt
+Turn-brings accepts (event.Update b intent) old new t have = tt
 
 -- A bank with a good recovery area ends a power-on released.
 pub Turn-powers : (accepts : Acceptance) (e : Event) (old new : World) → Turn accepts e old new → HaveBytes new → IsBankSize (size_of old.bmc) → IsBankSize (size_of old.pch)
     → PowerReleases (λ bank image nv. HasGoodRecovery bank image nv accepts) e old new
 Turn-powers accepts event.Power old new t have bmc pch = λ which at calm held good.
     let c = power_crossed accepts old new t which calm in
-    powers accepts (begun old) new have which c at (bank_sized which (begun old) new (AllMoved-trans (begun old) c.at new c.come c.moved) (by_bank which)) held good
+    powers accepts (begun event.Power old) new have which c at (bank_sized which (begun event.Power old) new (AllMoved-trans (begun event.Power old) c.at new c.come c.moved) (by_bank which)) held good
   where
-    by_bank : (b : Bank) → IsBankSize (size_of (state_at (device_of b) (begun old)))
+    by_bank : (b : Bank) → IsBankSize (size_of (state_at (device_of b) (begun event.Power old)))
     by_bank bank.Bmc = bmc
     by_bank bank.Pch = pch
 Turn-powers accepts event.Off old new t have bmc pch = tt
 Turn-powers accepts (event.Provision root) old new t have bmc pch = tt
 Turn-powers accepts (event.Spi b frame) old new t have bmc pch = tt
 Turn-powers accepts (event.Smbus b frame) old new t have bmc pch = tt
+Turn-powers accepts (event.Tick n) old new t have bmc pch = tt
+Turn-powers accepts (event.Boot b pass) old new t have bmc pch = tt
+Turn-powers accepts (event.Update b intent) old new t have bmc pch = tt

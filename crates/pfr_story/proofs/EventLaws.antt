@@ -1,7 +1,9 @@
 -- What is noted belongs to its event.
-use Rattle.std.proofs.Common.{◌≡◌, ◌∙◌, refl, sym, ap, subst, ℕ, ◌+◌, List, [], ◌∷◌, Bool, false, Option, Result, Ok, Err, inl, inr}
+use Rattle.std.proofs.Common.{◌≡◌, ◌≢◌, ◌∙◌, refl, sym, ap, subst, ℕ, ◌+◌, ◌-◌, List, [], ◌∷◌, Bool, true, false, Option, Result, Ok, Err, inl, inr}
+use Rattle.std.specs.Prelude.{min, nat_lt, if◌then◌else◌}
 use Rattle.std.proofs.lemmas.Bool.{false≢true}
 use Rattle.pfr_flash.specs.declared.names.Bank.{Bank}
+use Rattle.pfr_flash.specs.declared.names.Bank.TheVariants as bank
 use Rattle.pfr_flash.specs.declared.names.Counts.{Counts}
 use Rattle.pfr_flash.specs.declared.names.Device.{Device}
 use Rattle.pfr_flash.specs.declared.names.Device.TheVariants as device
@@ -12,24 +14,32 @@ use Rattle.pfr_fuses.specs.declared.fuse_fail.FuseFail.{FuseFail}
 use Rattle.pfr_fuses.specs.declared.root_slot.RootSlot.{RootSlot}
 use Rattle.pfr_script.specs.declared.event.Event.{Event}
 use Rattle.pfr_script.specs.declared.event.Event.TheVariants as event
+use Rattle.pfr_script.specs.declared.event.Intent.{Intent}
+use Rattle.pfr_watch.specs.Stages.{next_stage}
+use Rattle.pfr_watch.specs.Watching.{unless_done}
+use Rattle.pfr_watch.specs.declared.stage.Stage.{Stage}
+use Rattle.pfr_watch.specs.declared.stage.Stage.TheVariants as stage
+use Rattle.pfr_watch.specs.declared.watch.Watch.{Watch}
 use Rattle.pfr_report.specs.Texts.{IsNoted}
 use Rattle.pfr_report.specs.declared.note.Note.{Note}
 use Rattle.pfr_report.specs.declared.note.What.{What}
 use Rattle.pfr_report.specs.declared.note.What.TheVariants as what
+use Rattle.pfr_story.specs.Guards.{Guard}
 use Rattle.pfr_story.specs.Story.{Story, Says, noted, counts_of, called}
 use Rattle.pfr_story.specs.World.{World, story_of, IsDark, added}
 use Rattle.pfr_story.specs.Safety.{Rule, AllSafe}
-use Rattle.pfr_story.specs.Plans.{store, migration_in, provisioned_in, refusal_of}
-use Rattle.pfr_story.specs.Course.{Follows}
-use Rattle.pfr_story.specs.Standing.{standing_of, is_off}
-use Rattle.pfr_story.specs.Turn.{off_course, ignored, ignored_if, is_idle, taken, begun, Turn}
-use Rattle.pfr_story.specs.Promises.{AreOff, IsIgnored, StaysQuiet, LostEnds, LostIsDark, Runs, BelongsTo, NotesBelong}
+use Rattle.pfr_story.specs.Plans.{store, migration_in, provisioned_in, refusal_of, is_dynamic}
+use Rattle.pfr_story.specs.Course.{Course, Follows}
+use Rattle.pfr_story.specs.Standing.{standing_of, is_off, is_running}
+use Rattle.pfr_story.specs.Turn.{off_course, ignored, ignored_if, stage_at, pass_note, is_idle, taken, ticked_if, begun, Turn}
+use Rattle.pfr_story.specs.Promises.{AreOff, IsIgnored, StaysQuiet, LostEnds, LostIsDark, Runs, IsAtStage, BelongsTo, NotesBelong}
 use Rattle.pfr_story.proofs.SafetyLaws.{AllSafe-append}
-use Rattle.pfr_story.proofs.Courses.{IsTakenBy, Turn-cases, taken_runs}
+use Rattle.pfr_story.proofs.Courses.{IsTakenBy, Turn-cases, taken_runs, taken_boots}
+use Rattle.pfr_story.proofs.BringRules.{level_at, AllowsUpdate}
 use Rattle.pfr_story.proofs.BusRules.{AllowsSpi, spi_safe, AllowsSmbus, smbus_safe}
 use Rattle.pfr_story.proofs.Traces.{Saying, call_says, Traced, Traced-known}
 use Rattle.pfr_story.proofs.Made.{Made, added_said}
-use Rattle.pfr_story.proofs.StepTraces.{AllowsBanks, noted_good, power_good, provision_traced, spi_traced, smbus_traced}
+use Rattle.pfr_story.proofs.StepTraces.{AllowsBanks, pass_noted, noted_good, power_good, provision_traced, spi_traced, smbus_traced, tick_traced, failed_traced, update_traced}
 use Rattle.pfr_story.proofs.StoreLaws.{judged_here}
 
 -- what is noted of what was judged of a provision
@@ -68,52 +78,104 @@ spi_belongs b frame old runs = record { passed = λ op story. (runs, refl); bloc
 smbus_belongs : (b : Bank) (frame : List ℕ) (old : World) → Runs b old → AllowsSmbus (Belongs (event.Smbus b frame) old) b
 smbus_belongs b frame old runs = record { passed = λ story. (runs, refl); blocked = λ cause story. (runs, refl) }
 
-taken_belong : (accepts : Acceptance) (e : Event) (old new : World) → IsTakenBy accepts e old new → Traced (Belongs e old) (begun old) new
+-- ticks leave how many recoveries there are
+still_by_stage : (at : Stage) (going done : Watch) (n : ℕ) → going.recoveries ≡ n → done.recoveries ≡ n → (unless_done at going done).recoveries ≡ n
+still_by_stage stage.Done going done n e f = f
+still_by_stage stage.Bmc going done n e f = e
+still_by_stage stage.Me going done n e f = e
+still_by_stage stage.Acm going done n e f = e
+still_by_stage stage.Ibb going done n e f = e
+still_by_stage stage.Obb going done n e f = e
+
+still_by_test : (few : Bool) (watch : Watch) (left : ℕ) → (if few then record watch { left = left } else watch).recoveries ≡ watch.recoveries
+still_by_test true watch left = refl
+still_by_test false watch left = refl
+
+still_recoveries : (runs : Bool) (n : ℕ) (guard : Guard) → (ticked_if runs n guard).watch.recoveries ≡ guard.watch.recoveries
+still_recoveries true n guard =
+    let watch : Watch = guard.watch in
+    still_by_stage watch.stage (if nat_lt n watch.left then record watch { left = watch.left - n } else watch) watch watch.recoveries (still_by_test (nat_lt n watch.left) watch (watch.left - n)) refl
+still_recoveries false n guard = refl
+
+pub ticked_level : (b : Bank) (n : ℕ) (old : World) → level_at b (story_of (begun (event.Tick n) old)) ≡ level_at b (story_of old)
+ticked_level bank.Bmc n old = ap (λ (k : ℕ). min (k + 1) 4) (still_recoveries (is_running (standing_of bank.Bmc old.notes.list)) n old.guards.bmc)
+ticked_level bank.Pch n old = ap (λ (k : ℕ). min (k + 1) 4) (still_recoveries (is_running (standing_of bank.Pch old.notes.list)) n old.guards.pch)
+
+-- a stage that is passed
+abbrev taken_boot : Bank → World → Course
+taken_boot b old = record { first = Says (λ _. pass_note b (stage_at b (story_of old)) (next_stage (stage_at b (story_of old)))) ∷ []; stretches = [] }
+
+pass_belongs : (b : Bank) (old new : World) → Runs b old → stage_at b (story_of old) ≢ stage.Done → Follows (taken_boot b old) (begun (event.Boot b true) old) new
+    → Traced (Belongs (event.Boot b true) old) (begun (event.Boot b true) old) new
+pass_belongs b old new runs undone t =
+    let e : Event = event.Boot b true in
+    let at : Stage = stage_at b (story_of old) in
+    let here : IsAtStage b at old = record { runs = runs; at = refl; undone = undone } in
+    noted_good (Belongs e old) (banks_belong e old) (begun e old) new (taken_boot b old).first t
+    (pass_noted (λ (that : What). BelongsTo e old that) b at (next_stage at) (λ last. (refl, at, here, last)) (λ more. (refl, here, more)), tt)
+
+update_belongs : (b : Bank) (intent : Intent) (old : World) → Runs b old → AllowsUpdate (Belongs (event.Update b intent) old) b (is_dynamic intent)
+update_belongs b intent old runs = record { updated = λ svn story. (runs, (refl, refl)); refused = λ cause story. (runs, is_dynamic intent, (refl, refl)) }
+
+taken_belong : (accepts : Acceptance) (e : Event) (old new : World) → IsTakenBy accepts e old new → Traced (Belongs e old) (begun e old) new
 taken_belong accepts event.Power old new on =
-    power_good (Belongs event.Power old) (banks_belong event.Power old) (λ story. Unit {0}) accepts (begun old) new
+    power_good (Belongs event.Power old) (banks_belong event.Power old) (λ story. Unit {0}) accepts (begun event.Power old) new
     (λ story any. (tt, call_says (λ that here. BelongsTo event.Power old that) device.Nv (migration_in (fuses_of (store story))) story)) tt tt on.1
-taken_belong accepts event.Off old new on = noted_good (Belongs event.Off old) (banks_belong event.Off old) (begun old) new off_course.first on.1 (tt, tt)
+taken_belong accepts event.Off old new on = noted_good (Belongs event.Off old) (banks_belong event.Off old) (begun event.Off old) new off_course.first on.1 (tt, tt)
 taken_belong accepts (event.Provision root) old new on =
-    provision_traced (Belongs (event.Provision root) old) (banks_belong (event.Provision root) old) (λ story. Unit {0}) root (begun old) new
+    let e : Event = event.Provision root in
+    provision_traced (Belongs e old) (banks_belong e old) (λ story. Unit {0}) root (begun e old) new
     (λ story any. (tt, provision_belongs root old (λ off. false≢true (sym on.0 ∙ off)) (judged_here root story) story)) tt on.1
 taken_belong accepts (event.Spi b frame) old new on =
     let e : Event = event.Spi b frame in
-    spi_traced (Belongs e old) (banks_belong e old) (λ story. Unit {0}) accepts b frame (begun old) new
+    spi_traced (Belongs e old) (banks_belong e old) (λ story. Unit {0}) accepts b frame (begun e old) new
     (λ story any. spi_safe (Belongs e old) accepts b frame (spi_belongs b frame old (taken_runs (standing_of b old.notes.list) on.0)) story) tt on.1
 taken_belong accepts (event.Smbus b frame) old new on =
     let e : Event = event.Smbus b frame in
-    smbus_traced (Belongs e old) (banks_belong e old) accepts b frame (story_of old) (begun old) new
-    (smbus_safe (Belongs e old) accepts b frame (smbus_belongs b frame old (taken_runs (standing_of b old.notes.list) on.0)) (story_of old) (story_of (begun old))) on.1
+    smbus_traced (Belongs e old) (banks_belong e old) accepts b frame (story_of old) (begun e old) new
+    (smbus_safe (Belongs e old) accepts b frame (smbus_belongs b frame old (taken_runs (standing_of b old.notes.list) on.0)) (story_of old) (story_of (begun e old))) on.1
+taken_belong accepts (event.Tick n) old new on =
+    let e : Event = event.Tick n in
+    tick_traced (Belongs e old) (banks_belong e old) accepts n (story_of old) (begun e old) new (λ b there due same. (due, same ∙ ticked_level b n old)) on.1
+taken_belong accepts (event.Boot b true) old new on =
+    let k = taken_boots (standing_of b old.notes.list) (stage_at b (story_of old)) on.0 in
+    pass_belongs b old new k.0 k.1 on.1
+taken_belong accepts (event.Boot b false) old new on =
+    let e : Event = event.Boot b false in
+    failed_traced (Belongs e old) (banks_belong e old) accepts b (begun e old) new ((refl, on.0), refl) on.1
+taken_belong accepts (event.Update b intent) old new on =
+    let e : Event = event.Update b intent in
+    update_traced (Belongs e old) (banks_belong e old) accepts b intent (begun e old) new (update_belongs b intent old (taken_runs (standing_of b old.notes.list) on.0)) on.1
 
-all_belong : (accepts : Acceptance) (e : Event) (old new : World) → Turn accepts e old new → Traced (Belongs e old) (begun old) new
+all_belong : (accepts : Acceptance) (e : Event) (old new : World) → Turn accepts e old new → Traced (Belongs e old) (begun e old) new
 all_belong accepts e old new t = elim (Turn-cases accepts e old new t) [
-  | inl idle ↦ noted_good (Belongs e old) (banks_belong e old) (begun old) new ignored.first idle.1 (idle.0, tt)
+  | inl idle ↦ noted_good (Belongs e old) (banks_belong e old) (begun e old) new ignored.first idle.1 (idle.0, tt)
   | inr on ↦ taken_belong accepts e old new on
 ]
 
 -- Each note that a step adds belongs to its event.
 pub Turn-belongs : (accepts : Acceptance) (e : Event) (old new : World) → Turn accepts e old new → NotesBelong e old new
 Turn-belongs accepts e old new t that n =
-    (Traced-known (λ that story. BelongsTo e old that) (begun old) new (all_belong accepts e old new t) that n).1
+    (Traced-known (λ that story. BelongsTo e old that) (begun e old) new (all_belong accepts e old new t) that n).1
 
 -- ---- an event that isn't taken
-is_ignored : (old new : World) → Follows ignored (begun old) new → IsIgnored old new
-is_ignored old new (mid, first, rest) =
-    let story : story_of new ≡ noted (λ _. what.Ignored) (story_of (begun old)) = rest.is ∙ first.is in
-    let made : Made (begun old) new = record { trace = Says (λ _. what.Ignored) ∷ []; is = story } in
-    record { counts = ap (λ (s : Story). counts_of s) story; notes = added_said (begun old) new made }
+is_ignored : (e : Event) (old new : World) → Follows ignored (begun e old) new → IsIgnored old new
+is_ignored e old new (mid, first, rest) =
+    let story : story_of new ≡ noted (λ _. what.Ignored) (story_of (begun e old)) = rest.is ∙ first.is in
+    let made : Made (begun e old) new = record { trace = Says (λ _. what.Ignored) ∷ []; is = story } in
+    record { counts = ap (λ (s : Story). counts_of s) story; notes = added_said (begun e old) new made }
 
 -- Banks that don't take an event do nothing.
 pub Turn-quiet : (accepts : Acceptance) (e : Event) (old new : World) → Turn accepts e old new → StaysQuiet e old new
-Turn-quiet accepts e old new t idle = is_ignored old new (subst (λ (b : Bool). Follows (ignored_if b (taken accepts e (story_of old))) (begun old) new) idle t)
+Turn-quiet accepts e old new t idle = is_ignored e old new (subst (λ (b : Bool). Follows (ignored_if b (taken accepts e (story_of old))) (begun e old) new) idle t)
 
 -- ---- no device has power once a loss is noted
 only_ignored : (old : World) (notes : List Note) (device : Option Device) (at : Counts) → notes ≡ record { item = old.item + 1; what = what.Ignored } ∷ [] → ¬ IsNoted notes (what.Lost device at)
 only_ignored old notes device at e n = elim (subst (λ (ns : List Note). IsNoted ns (what.Lost device at)) e n) [ inl same ↦ absurd cc | inr none ↦ none ]
 
--- No device has power once a loss of power is noted, where none has once an event was taken and the banks went off.
-pub Turn-dark : (accepts : Acceptance) (e : Event) (old new : World) → Turn accepts e old new → LostEnds old new → (is_idle e (story_of old) ≡ false → AreOff new → IsDark new) → LostIsDark old new
+-- No device has power once a loss of power is noted, where none has once an event was taken and the banks are off by what was noted.
+pub Turn-dark : (accepts : Acceptance) (e : Event) (old new : World) → Turn accepts e old new → LostEnds old new → (is_idle e (story_of old) ≡ false → added old new ≢ [] → AreOff new → IsDark new) → LostIsDark old new
 Turn-dark accepts e old new t ends dark device at n = elim (Turn-cases accepts e old new t) [
-  | inl idle ↦ absurd (only_ignored old (added old new) device at (is_ignored old new idle.1).notes n)
-  | inr on ↦ dark on.0 (ap is_off (ends device at n).bmc)
+  | inl idle ↦ absurd (only_ignored old (added old new) device at (is_ignored e old new idle.1).notes n)
+  | inr on ↦ dark on.0 (λ none. subst (λ (ns : List Note). IsNoted ns (what.Lost device at)) none n) (ap is_off (ends device at n).bmc)
 ]

@@ -17,7 +17,7 @@ use Rattle.pfr_report.specs.declared.note.What.TheVariants as what
 use Rattle.pfr_story.specs.Story.{Story, Move, Says, Does, Asks, noted, operated, counts_of}
 use Rattle.pfr_story.specs.World.{World, story_of, NoneFailed, added}
 use Rattle.pfr_story.specs.Course.{Stretch, Faults, Steps, goes_on_if, Course}
-use Rattle.pfr_story.specs.Turn.{bank_stretch, ignored_if, is_idle, taken, course, begun, Turn}
+use Rattle.pfr_story.specs.Turn.{bank_stretch, expiry_stretch, is_due, stretch_if, ignored_if, is_idle, taken, course, begun, Turn}
 use Rattle.pfr_story.specs.Promises.{IsFaultLock, IsUndisturbed, FaultsAreNoted}
 use Rattle.pfr_story.proofs.WorldLaws.{NoneFailed-trans}
 use Rattle.pfr_story.proofs.Made.{said, Made, made_then, Steps-made, added_said}
@@ -105,6 +105,10 @@ bank_tells accepts b device.Bmc = inl (b, why.FlashFault, tt, refl)
 bank_tells accepts b device.Pch = inl (b, why.FlashFault, tt, refl)
 bank_tells accepts b device.Nv = inl (b, why.StoreFault, tt, refl)
 
+tell_if : (due : Bool) (s : Stretch) (ss : List Stretch) → ((which : Device) → TellsFault (s.on_fault which)) → AllTell ss → AllTell (stretch_if due s ss)
+tell_if true s ss tells rest = (tells, rest)
+tell_if false s ss tells rest = rest
+
 taken_tells : (accepts : Acceptance) (e : Event) (story : Story) → AllTell (taken accepts e story).stretches
 taken_tells accepts event.Power story =
     ((λ which. inr (inl (bank.Bmc, why.StoreFault, tt, refl))), ((λ which. bank_tells accepts bank.Bmc which), ((λ which. bank_tells accepts bank.Pch which), tt)))
@@ -112,6 +116,13 @@ taken_tells accepts event.Off story = tt
 taken_tells accepts (event.Provision root) story = ((λ which. inl (bank.Bmc, why.StoreFault, tt, refl)), tt)
 taken_tells accepts (event.Spi b frame) story = ((λ which. inr (inl (b, why.FlashFault, tt, refl))), tt)
 taken_tells accepts (event.Smbus b frame) story = tt
+taken_tells accepts (event.Tick n) story =
+    let pch : Stretch = expiry_stretch accepts bank.Pch in
+    tell_if (is_due bank.Bmc n story) (expiry_stretch accepts bank.Bmc) (stretch_if (is_due bank.Pch n story) pch []) (λ which. bank_tells accepts bank.Bmc which)
+    (tell_if (is_due bank.Pch n story) pch [] (λ which. bank_tells accepts bank.Pch which) tt)
+taken_tells accepts (event.Boot b true) story = tt
+taken_tells accepts (event.Boot b false) story = ((λ which. bank_tells accepts b which), tt)
+taken_tells accepts (event.Update b intent) story = ((λ which. bank_tells accepts b which), tt)
 
 unless_ignored : (idle : Bool) (c : Course) → AllTell c.stretches → AllTell (ignored_if idle c).stretches
 unless_ignored true c tells = tt
@@ -124,9 +135,9 @@ course_tells accepts e story = unless_ignored (is_idle e story) (taken accepts e
 pub Turn-told : (accepts : Acceptance) (e : Event) (old new : World) → Turn accepts e old new → FaultsAreNoted old new
 Turn-told accepts e old new (mid, first, rest) u =
     let c : Course = course accepts e (story_of old) in
-    let from : Made (begun old) mid = record { trace = c.first; is = first.is } in
-    let none : NoneFailed (begun old) new = elim (Steps-told c.stretches mid new (course_tells accepts e (story_of old)) rest) [
-      | inl behind ↦ NoneFailed-trans (begun old) mid new first.none_failed behind
-      | inr t ↦ absurd (told_noted (begun old) new (told_later (begun old) mid new from t) u)
+    let from : Made (begun e old) mid = record { trace = c.first; is = first.is } in
+    let none : NoneFailed (begun e old) new = elim (Steps-told c.stretches mid new (course_tells accepts e (story_of old)) rest) [
+      | inl behind ↦ NoneFailed-trans (begun e old) mid new first.none_failed behind
+      | inr t ↦ absurd (told_noted (begun e old) new (told_later (begun e old) mid new from t) u)
     ] in
     record { bmc = none.bmc; pch = none.pch; nv = none.nv }

@@ -46,8 +46,8 @@ did_part : (plan : List Operation) (old new : World) → Stored plan (past_of ol
 did_part plan old new p = record { added = p.added; is = p.is; part = p.part }
 
 -- where the banks are off nothing is done
-ignored_store : (old new : World) → Follows ignored (begun old) new → new.nv.ops ≡ old.nv.ops
-ignored_store old new (mid, first, rest) = ap (λ (s : Story). s.nv.ops) (rest.is ∙ first.is)
+ignored_store : (e : Event) (old new : World) → Follows ignored (begun e old) new → new.nv.ops ≡ old.nv.ops
+ignored_store e old new (mid, first, rest) = ap (λ (s : Story). s.nv.ops) (rest.is ∙ first.is)
 
 -- ---- a provision stays
 by_within : (p : Profile) (fuses : FusesState) → AreRows fuses → AllWithin 2048 30720 (migration_by p fuses)
@@ -80,11 +80,14 @@ taken_keeps accepts (event.Provision root) old new size slot on t =
 taken_keeps accepts event.Off old new size slot on t = let did = Turn-stored accepts event.Off old new t in nothing_keeps old.nv new.nv size did.start (did_part [] old new did)
 taken_keeps accepts (event.Spi b frame) old new size slot on t = let did = Turn-stored accepts (event.Spi b frame) old new t in nothing_keeps old.nv new.nv size did.start (did_part [] old new did)
 taken_keeps accepts (event.Smbus b frame) old new size slot on t = let did = Turn-stored accepts (event.Smbus b frame) old new t in nothing_keeps old.nv new.nv size did.start (did_part [] old new did)
+taken_keeps accepts (event.Tick n) old new size slot on t = let did = Turn-stored accepts (event.Tick n) old new t in nothing_keeps old.nv new.nv size did.start (did_part [] old new did)
+taken_keeps accepts (event.Boot b pass) old new size slot on t = let did = Turn-stored accepts (event.Boot b pass) old new t in nothing_keeps old.nv new.nv size did.start (did_part [] old new did)
+taken_keeps accepts (event.Update b intent) old new size slot on t = let did = Turn-stored accepts (event.Update b intent) old new t in nothing_keeps old.nv new.nv size did.start (did_part [] old new did)
 
 -- A slot that provisions the platform at one moment of a step does so at each later one, with the same bytes.
 pub Turn-keeps : (accepts : Acceptance) (e : Event) (old new : World) → size_of old.nv ≡ 32768 → (¬ AreOff old → IsKnownSlot e) → Turn accepts e old new → KeepsProvision old.nv new.nv
 Turn-keeps accepts e old new size slot t = elim (Turn-cases accepts e old new t) [
-  | inl idle ↦ KeepsProvision-none old.nv new.nv (ignored_store old new idle.1)
+  | inl idle ↦ KeepsProvision-none old.nv new.nv (ignored_store e old new idle.1)
   | inr on ↦ taken_keeps accepts e old new size slot on.0 t
 ]
 
@@ -127,7 +130,7 @@ taken_grows : (accepts : Acceptance) (e : Event) (old new : World) → size_of o
 taken_grows accepts event.Power old new size held slot on t =
     let did = Turn-stored accepts event.Power old new t in
     let plan : List Operation = migration_in (fuses_of (now old.nv)) in
-    in_grows old.nv new.nv (fuses_of (now old.nv)) size did.start refl (images_then (story_of (begun old)) new (precedes_moved (begun old) new (Turn-moved accepts event.Power old new t)) (have_bytes new held) device.Nv) (did_part plan old new did)
+    in_grows old.nv new.nv (fuses_of (now old.nv)) size did.start refl (images_then (story_of (begun event.Power old)) new (precedes_moved (begun event.Power old) new (Turn-moved accepts event.Power old new t)) (have_bytes new held) device.Nv) (did_part plan old new did)
 taken_grows accepts (event.Provision root) old new size held slot on t =
     let did = Turn-stored accepts (event.Provision root) old new t in
     provision_grows root old.nv new.nv (length old.bmc.start) (length old.pch.start) (judged_here root (story_of old)) refl size did.start
@@ -136,10 +139,13 @@ taken_grows accepts (event.Provision root) old new size held slot on t =
 taken_grows accepts event.Off old new size held slot on t = let did = Turn-stored accepts event.Off old new t in nothing_grows old.nv new.nv size did.start (did_part [] old new did)
 taken_grows accepts (event.Spi b frame) old new size held slot on t = let did = Turn-stored accepts (event.Spi b frame) old new t in nothing_grows old.nv new.nv size did.start (did_part [] old new did)
 taken_grows accepts (event.Smbus b frame) old new size held slot on t = let did = Turn-stored accepts (event.Smbus b frame) old new t in nothing_grows old.nv new.nv size did.start (did_part [] old new did)
+taken_grows accepts (event.Tick n) old new size held slot on t = let did = Turn-stored accepts (event.Tick n) old new t in nothing_grows old.nv new.nv size did.start (did_part [] old new did)
+taken_grows accepts (event.Boot b pass) old new size held slot on t = let did = Turn-stored accepts (event.Boot b pass) old new t in nothing_grows old.nv new.nv size did.start (did_part [] old new did)
+taken_grows accepts (event.Update b intent) old new size held slot on t = let did = Turn-stored accepts (event.Update b intent) old new t in nothing_grows old.nv new.nv size did.start (did_part [] old new did)
 
 -- Fuses are never taken back in a step of devices that hold bytes.
 pub Turn-grows : (accepts : Acceptance) (e : Event) (old new : World) → size_of old.nv ≡ 32768 → AreDevices new → (¬ AreOff old → IsKnownSlot e) → Turn accepts e old new → NeverGoesBack old.nv new.nv
 Turn-grows accepts e old new size held slot t = elim (Turn-cases accepts e old new t) [
-  | inl idle ↦ nothing_grows old.nv new.nv size (Turn-stored accepts e old new t).start (record { added = []; is = ignored_store old new idle.1 ∙ sym (append-nil old.nv.ops); part = tt })
+  | inl idle ↦ nothing_grows old.nv new.nv size (Turn-stored accepts e old new t).start (record { added = []; is = ignored_store e old new idle.1 ∙ sym (append-nil old.nv.ops); part = tt })
   | inr on ↦ taken_grows accepts e old new size held slot on.0 t
 ]

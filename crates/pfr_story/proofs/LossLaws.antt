@@ -1,5 +1,5 @@
 -- A loss of power ends a step, and is noted exactly where it was counted.
-use Rattle.std.proofs.Common.{◌≡◌, ◌↔◌, ◌∙◌, ◌<◌, refl, sym, ap, subst, arith, ℕ, List, [], ◌∷◌, ◌++◌, Option, Some, None, ◌⊎◌, inl, inr}
+use Rattle.std.proofs.Common.{◌≡◌, ◌↔◌, ◌∙◌, ◌<◌, refl, sym, ap, subst, arith, ℕ, Bool, true, false, List, [], ◌∷◌, ◌++◌, Option, Some, None, ◌⊎◌, inl, inr}
 use Rattle.pfr_flash.specs.FlashState.{FlashState}
 use Rattle.pfr_flash.specs.declared.names.Bank.{Bank}
 use Rattle.pfr_flash.specs.declared.names.Bank.TheVariants as bank
@@ -10,6 +10,9 @@ use Rattle.pfr_engine.specs.Acceptance.{Acceptance}
 use Rattle.pfr_fuses.specs.declared.root_slot.RootSlot.{RootSlot}
 use Rattle.pfr_script.specs.declared.event.Event.{Event}
 use Rattle.pfr_script.specs.declared.event.Event.TheVariants as event
+use Rattle.pfr_script.specs.declared.event.Intent.{Intent}
+use Rattle.pfr_watch.specs.Stages.{next_stage}
+use Rattle.pfr_watch.specs.declared.stage.Stage.{Stage}
 use Rattle.pfr_report.specs.Texts.{IsNoted}
 use Rattle.pfr_report.specs.declared.note.Note.{Note}
 use Rattle.pfr_report.specs.declared.note.What.{What}
@@ -20,8 +23,8 @@ use Rattle.pfr_story.specs.Goes.{Ran}
 use Rattle.pfr_story.specs.Safety.{AllMake}
 use Rattle.pfr_story.specs.Course.{Stretch, Steps, Course, Follows}
 use Rattle.pfr_story.specs.Standing.{standing_of, standing_from, standing_after, Standing, Off}
-use Rattle.pfr_story.specs.Plans.{brought_up, migrated, provisioned, filtered, smbus_judged}
-use Rattle.pfr_story.specs.Turn.{bank_stretch, fuse_stretch, provision_stretch, spi_stretch, ignored, off_course, power_course, provision_course, spi_course, smbus_course, taken, begun, Turn}
+use Rattle.pfr_story.specs.Plans.{brought_up, expired, updating, migrated, provisioned, filtered, smbus_judged}
+use Rattle.pfr_story.specs.Turn.{bank_stretch, fuse_stretch, provision_stretch, spi_stretch, expiry_stretch, update_stretch, is_due, stretch_if, stage_at, ignored, off_course, power_course, provision_course, spi_course, smbus_course, tick_course, boot_course, update_course, taken, begun, Turn}
 use Rattle.pfr_story.specs.Promises.{HasLost, LossesAreNoted, IsLast, LostEnds, IsSwitchedOff, NotesOff}
 use Rattle.pfr_story.proofs.WorldLaws.{NoneLost-trans, NoneLost-at, LostAt-later, LostAt-on, each_at}
 use Rattle.pfr_story.proofs.Sequence.{after-append}
@@ -30,7 +33,8 @@ use Rattle.pfr_story.proofs.Courses.{went_on, Turn-cases}
 use Rattle.pfr_story.proofs.Traces.{noted_append, noted_right}
 use Rattle.pfr_story.proofs.Made.{said, said_append, Made, made_then, added_said, Whichever, said_all}
 use Rattle.pfr_story.proofs.BringRules.{IsOwn}
-use Rattle.pfr_story.proofs.Facts.{IsLoss, IsNoLoss, IsMine, NoDevice, brought_makes, filtered_makes, smbus_makes}
+use Rattle.pfr_story.proofs.StepTraces.{pass_noted}
+use Rattle.pfr_story.proofs.Facts.{IsLoss, IsNoLoss, IsMine, NoDevice, brought_makes, expired_makes, updating_makes, filtered_makes, smbus_makes}
 use Rattle.pfr_story.proofs.Turns.{step_of, Turn-known, IsStore, migrated_makes, provisioned_makes}
 
 -- ---- moves that note no loss
@@ -136,6 +140,22 @@ spi_quiet accepts b frame = record {
   noted = λ which. ((λ at loss. loss), ((λ at loss. loss), tt));
 }
 
+expiry_quiet : (accepts : Acceptance) (b : Bank) → IsQuietStretch (expiry_stretch accepts b)
+expiry_quiet accepts b = record {
+  plan = λ story. AllMake-more (IsOwn b) Whichever IsNoLoss (λ which own. tt) (expired accepts b story) (expired_makes accepts b story);
+  noted = λ which. ((λ at loss. loss), tt);
+}
+
+update_quiet : (accepts : Acceptance) (b : Bank) (intent : Intent) → IsQuietStretch (update_stretch accepts b intent)
+update_quiet accepts b intent = record {
+  plan = λ story. AllMake-more (IsOwn b) Whichever IsNoLoss (λ which own. tt) (updating accepts b intent story) (updating_makes accepts b intent story);
+  noted = λ which. ((λ at loss. loss), tt);
+}
+
+quiet_if : (due : Bool) (s : Stretch) (ss : List Stretch) → IsQuietStretch s → AreQuiet ss → AreQuiet (stretch_if due s ss)
+quiet_if true s ss quiet rest = (quiet, rest)
+quiet_if false s ss quiet rest = rest
+
 along : (c : Course) (old new : World) → AllQuiet c.first → AreQuiet c.stretches → Follows c old new → EndsSo old new
 along c old new first quiet (mid, says, rest) = ends_then old mid new (quiet_ran c.first old mid says first) (Steps-losses c.stretches mid new quiet rest)
 
@@ -152,12 +172,23 @@ taken_ends accepts (event.Spi b frame) story old new t = along (spi_course accep
 taken_ends accepts (event.Smbus b frame) story old new t =
     let moves : List Move = smbus_judged accepts b frame story in
     along (smbus_course accepts b frame story) old new (AllMake-more NoDevice Whichever IsNoLoss (λ which none. tt) moves (smbus_makes accepts b frame story)) tt t
+taken_ends accepts (event.Tick n) story old new t =
+    let pch : Stretch = expiry_stretch accepts bank.Pch in
+    along (tick_course accepts n story) old new tt
+    (quiet_if (is_due bank.Bmc n story) (expiry_stretch accepts bank.Bmc) (stretch_if (is_due bank.Pch n story) pch []) (expiry_quiet accepts bank.Bmc)
+    (quiet_if (is_due bank.Pch n story) pch [] (expiry_quiet accepts bank.Pch) tt)) t
+taken_ends accepts (event.Boot b true) story old new t =
+    let at : Stage = stage_at b story in
+    along (boot_course accepts b true story) old new
+    (pass_noted (λ (that : What). (counts : Counts) → ¬ IsLoss that) b at (next_stage at) (λ e counts loss. loss) (λ e counts loss. loss), tt) tt t
+taken_ends accepts (event.Boot b false) story old new t = along (boot_course accepts b false story) old new tt (expiry_quiet accepts b, tt) t
+taken_ends accepts (event.Update b intent) story old new t = along (update_course accepts b intent) old new tt (update_quiet accepts b intent, tt) t
 
 -- Whichever step is without a loss, or ends with one.
-pub Turn-ends : (accepts : Acceptance) (e : Event) (old new : World) → Turn accepts e old new → EndsSo (begun old) new
+pub Turn-ends : (accepts : Acceptance) (e : Event) (old new : World) → Turn accepts e old new → EndsSo (begun e old) new
 Turn-ends accepts e old new t = elim (Turn-cases accepts e old new t) [
-  | inl idle ↦ along ignored (begun old) new ((λ at loss. loss), tt) tt idle.1
-  | inr on ↦ taken_ends accepts e (story_of old) (begun old) new on.1
+  | inl idle ↦ along ignored (begun e old) new ((λ at loss. loss), tt) tt idle.1
+  | inr on ↦ taken_ends accepts e (story_of old) (begun e old) new on.1
 ]
 
 -- ---- what is noted of it
@@ -221,14 +252,14 @@ quiet_added old new q other at n =
 pub Turn-lost : (accepts : Acceptance) (e : Event) (old new : World) → Turn accepts e old new → LostEnds old new
 Turn-lost accepts e old new t other at n = by_end (Turn-ends accepts e old new t)
   where
-    by_end : EndsSo (begun old) new → IsLast other at new
-    by_end (inl q) = absurd (quiet_added (begun old) new q other at n)
-    by_end (inr l) = last_of (begun old) new l other at n
+    by_end : EndsSo (begun e old) new → IsLast other at new
+    by_end (inl q) = absurd (quiet_added (begun e old) new q other at n)
+    by_end (inr l) = last_of (begun e old) new l other at n
 
-begun_state : (which : Device) (old : World) → state_at which (begun old) ≡ state_at which old
-begun_state device.Bmc old = refl
-begun_state device.Pch old = refl
-begun_state device.Nv old = refl
+begun_state : (e : Event) (which : Device) (old : World) → state_at which (begun e old) ≡ state_at which old
+begun_state e device.Bmc old = refl
+begun_state e device.Pch old = refl
+begun_state e device.Nv old = refl
 
 counted_fell : (which : Device) (old new : World) (device : Option Device) → device ≡ Some which → IsCounted device old new → (state_at which old).losses < (state_at which new).losses
 counted_fell which old new (Some other) e l =
@@ -248,18 +279,18 @@ fell_counted which old new None l fell = absurd (omega (arith, NoneLost-at which
 pub Turn-losses : (accepts : Acceptance) (e : Event) (old new : World) → Turn accepts e old new → LossesAreNoted old new
 Turn-losses accepts e old new t which = by_end (Turn-ends accepts e old new t)
   where
-    by_end : EndsSo (begun old) new → (HasLost which (added old new) ↔ ((state_at which old).losses < (state_at which new).losses))
+    by_end : EndsSo (begun e old) new → (HasLost which (added old new) ↔ ((state_at which old).losses < (state_at which new).losses))
     by_end (inl q) = (
-      (λ h. absurd (quiet_added (begun old) new q (Some which) h.at h.noted)),
-      (λ fell. absurd (omega (arith, NoneLost-at which (begun old) new q.none, ap (λ (d : FlashState). d.losses) (begun_state which old), fell))),
+      (λ h. absurd (quiet_added (begun e old) new q (Some which) h.at h.noted)),
+      (λ fell. absurd (omega (arith, NoneLost-at which (begun e old) new q.none, ap (λ (d : FlashState). d.losses) (begun_state e which old), fell))),
     )
     by_end (inr l) = (
-      (λ h. let fell = counted_fell which (begun old) new l.device (sym (lost_last (begun old) new l (Some which) h.at h.noted).0) l.counted in omega (arith, ap (λ (d : FlashState). d.losses) (begun_state which old), fell)),
+      (λ h. let fell = counted_fell which (begun e old) new l.device (sym (lost_last (begun e old) new l (Some which) h.at h.noted).0) l.counted in omega (arith, ap (λ (d : FlashState). d.losses) (begun_state e which old), fell)),
       (λ fell.
-          let is = fell_counted which (begun old) new l.device l.counted (omega (arith, ap (λ (d : FlashState). d.losses) (begun_state which old), fell)) in
+          let is = fell_counted which (begun e old) new l.device l.counted (omega (arith, ap (λ (d : FlashState). d.losses) (begun_state e which old), fell)) in
           record {
-            at = counts_of (there (begun old) new l);
-            noted = subst (λ (d : Option Device). IsNoted (added old new) (what.Lost d (counts_of (there (begun old) new l)))) is (is_noted (begun old) new l);
+            at = counts_of (there (begun e old) new l);
+            noted = subst (λ (d : Option Device). IsNoted (added old new) (what.Lost d (counts_of (there (begun e old) new l)))) is (is_noted (begun e old) new l);
           }),
     )
 
@@ -271,11 +302,14 @@ off_noted old new t =
     subst (λ (at : Counts). IsNoted (added old new) (what.Lost None at)) (sym (ap (λ (s : Story). counts_of s) l.is)) (is_noted old new l)
 
 switched_off : (accepts : Acceptance) (e : Event) (old new : World) → Turn accepts e old new → IsSwitchedOff e old → IsNoted (added old new) (what.Lost None (counts_of (story_of new)))
-switched_off accepts event.Off old new t on = elim (Turn-cases accepts event.Off old new t) [ inl idle ↦ absurd (on idle.0) | inr k ↦ off_noted (begun old) new k.1 ]
+switched_off accepts event.Off old new t on = elim (Turn-cases accepts event.Off old new t) [ inl idle ↦ absurd (on idle.0) | inr k ↦ off_noted (begun event.Off old) new k.1 ]
 switched_off accepts event.Power old new t off = absurd off
 switched_off accepts (event.Provision root) old new t off = absurd off
 switched_off accepts (event.Spi b frame) old new t off = absurd off
 switched_off accepts (event.Smbus b frame) old new t off = absurd off
+switched_off accepts (event.Tick n) old new t off = absurd off
+switched_off accepts (event.Boot b pass) old new t off = absurd off
+switched_off accepts (event.Update b intent) old new t off = absurd off
 
 pub Turn-off : (accepts : Acceptance) (e : Event) (old new : World) → Turn accepts e old new → NotesOff e old new
 unfolding step_of

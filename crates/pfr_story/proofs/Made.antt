@@ -1,6 +1,7 @@
 -- What a step made, and the notes that are made from one world to another.
-use Rattle.std.proofs.Common.{◌≡◌, ◌∙◌, refl, sym, ap, List, [], ◌∷◌, ◌++◌, length, drop, append_assoc, inl, inr, subst}
-use Rattle.std.proofs.lemmas.List.{append-nil}
+use Rattle.std.proofs.Common.{◌≡◌, ◌∙◌, refl, sym, ap, arith, ℕ, List, [], ◌∷◌, ◌++◌, length, drop, append_assoc, inl, inr, subst}
+use Rattle.std.proofs.lemmas.Bool.{cases_lt}
+use Rattle.std.proofs.lemmas.List.{append-nil, drop-append-le, drop_all}
 use Rattle.std.proofs.Math.Seq.{drop-append_seam}
 use Rattle.pfr_flash.specs.declared.flash.FlashFail.{FlashFail}
 use Rattle.pfr_flash.specs.declared.names.Counts.{Counts}
@@ -69,6 +70,13 @@ pub noted_left : (xs ys : List Note) (that : What) → IsNoted xs that → IsNot
 noted_left [] ys that n = absurd n
 noted_left (x ∷ xs) ys that (inl e) = inl e
 noted_left (x ∷ xs) ys that (inr n) = inr (noted_left xs ys that n)
+
+-- what is noted behind the first ones is so with more behind it
+pub noted_dropped : (n : ℕ) (xs ys : List Note) (that : What) → IsNoted (drop n xs) that → IsNoted (drop n (xs ++ ys)) that
+noted_dropped n xs ys that m = elim (cases_lt n (length xs)) [
+  | inl below ↦ subst (λ (notes : List Note). IsNoted notes that) (sym (drop-append-le n xs ys (omega (arith, below)))) (noted_left (drop n xs) ys that m)
+  | inr past ↦ absurd (subst (λ (notes : List Note). IsNoted notes that) (drop_all n xs past) m)
+]
 
 -- it stands behind that in more notes too
 pub behind_within : (this that : What) (left notes right : List Note) → IsNotedBehind this that notes → IsNotedBehind this that (left ++ (notes ++ right))

@@ -1,24 +1,33 @@
 -- All that is noted of a bank behind Held, where no call fails, has its cause in the contents then.
-use Rattle.std.proofs.Common.{◌≡◌, ◌∙◌, refl, sym, ap, subst, List, [], ◌∷◌, ◌++◌, append_assoc, ◌⊎◌, inl, inr, Result, Ok, Err}
+use Rattle.std.proofs.Common.{◌≡◌, ◌∙◌, refl, sym, ap, subst, ℕ, List, [], ◌∷◌, ◌++◌, length, append_assoc, ◌⊎◌, inl, inr, Result, Ok, Err}
 use Rattle.pfr_flash.specs.Bytes.{AreBytes}
+use Rattle.pfr_flash.specs.Judging.{◌>>◌, told_as}
+use Rattle.pfr_flash.specs.Layout.{judge_layout}
 use Rattle.pfr_flash.specs.Operation.{Operation}
+use Rattle.pfr_flash.specs.declared.layout.LayoutRule.{LayoutRule}
 use Rattle.pfr_flash.specs.declared.names.Bank.{Bank}
 use Rattle.pfr_flash.specs.declared.names.Counts.{Counts}
 use Rattle.pfr_engine.specs.Acceptance.{Acceptance}
 use Rattle.pfr_fuses.specs.FusesState.{FusesState}
+use Rattle.pfr_fuses.specs.FusesOf.{fuses_of}
 use Rattle.pfr_fuses.specs.RootSlot.{layout_of}
+use Rattle.pfr_fuses.specs.declared.fuse_fail.FuseFail.{FuseFail}
+use Rattle.pfr_fuses.specs.declared.fuse_fail.FuseFail.TheVariants as fuse
 use Rattle.pfr_manifest.specs.declared.manifest.Manifest.{Manifest}
 use Rattle.pfr_capsule.specs.CapsuleState.{CapsuleState}
 use Rattle.pfr_capsule.specs.declared.fail.CapsuleFail.{CapsuleFail}
 use Rattle.pfr_auth.specs.declared.fail.ActiveFail.{ActiveFail}
+use Rattle.pfr_jobs.specs.declared.job.JobKind.TheVariants.{ActiveFromRecovery}
 use Rattle.pfr_report.specs.Texts.{IsNoted}
 use Rattle.pfr_report.specs.declared.note.LockWhy.{LockWhy}
+use Rattle.pfr_report.specs.declared.note.LockWhy.TheVariants as why
 use Rattle.pfr_report.specs.declared.note.Note.{Note}
 use Rattle.pfr_report.specs.declared.note.What.{What}
 use Rattle.pfr_report.specs.declared.note.What.TheVariants as what
 use Rattle.pfr_story.specs.Story.{Story, Move, Says, after, noted, counts_of, device_of, called}
-use Rattle.pfr_story.specs.Plans.{mine, store, ready_of, judged_active, judged_recovery, restore_ops, restored, by_second, checked_again, by_recovery, by_active, by_ready}
+use Rattle.pfr_story.specs.Plans.{mine, store, lock_of, ready_in, ready_of, judged_active, judged_recovery, job_ops, restored, by_second, checked_again, by_recovery, by_active, by_ready}
 use Rattle.pfr_story.specs.Causes.{IsAgainst, IsRestorable}
+use Rattle.pfr_story.specs.Promises.{IsWatchLock}
 use Rattle.pfr_story.specs.Bringing.{IsNotedBehind}
 use Rattle.pfr_story.proofs.BringRules.{IsReady, ready_found}
 use Rattle.pfr_story.proofs.SafetyLaws.{AllMake-append, AllMake-called}
@@ -27,13 +36,29 @@ use Rattle.pfr_story.proofs.Traces.{noted_append}
 use Rattle.pfr_story.proofs.Made.{said, said_append, Whichever, AllSay, said_all}
 use Rattle.pfr_story.proofs.TailLaws.{behind, distrusted, by_against, judged_told}
 
+-- ---- a bank that can't be checked isn't locked for its watch
+lock_unwatched : (cause : FuseFail) → ¬ IsWatchLock (lock_of cause)
+lock_unwatched fuse.SlotsSpent watch = watch
+lock_unwatched cause watch = watch
+
+layout_unwatched : (fuses : FusesState) (judged : Result (Unit {0}) LayoutRule) (cause : LockWhy) → (told_as (λ rule. why.Layout rule) judged >> Ok fuses) ≡ Err cause → ¬ IsWatchLock cause
+layout_unwatched fuses (Ok valid) cause e = absurd cc
+layout_unwatched fuses (Err rule) cause e = let same : why.Layout rule ≡ cause = cc in subst (λ (c : LockWhy). ¬ IsWatchLock c) same (λ watch. watch)
+
+read_unwatched : (b : Bank) (size : ℕ) (read : Result FusesState FuseFail) (cause : LockWhy) → ready_in b size read ≡ Err cause → ¬ IsWatchLock cause
+read_unwatched b size (Ok fuses) cause e = layout_unwatched fuses (judge_layout (layout_of fuses.provision b) size) cause e
+read_unwatched b size (Err fail) cause e = let same : lock_of fail ≡ cause = cc in subst (λ (c : LockWhy). ¬ IsWatchLock c) same (lock_unwatched fail)
+
+pub unready_unwatched : (b : Bank) (cause : LockWhy) (story : Story) → ready_of b story ≡ Err cause → ¬ IsWatchLock cause
+unready_unwatched b cause story e = read_unwatched b (length (mine b story)) (fuses_of (store story)) cause e
+
 -- ---- what is noted
 module _ (accepts : Acceptance) (b : Bank) (story : Story) where
   -- the cause of a note of a bank that is held in this story
   abbrev pub Cause : What → Type 0
   Cause (what.Held c at) = ⊥
   Cause (what.Released c svn at) = (at ≡ counts_of story) ⊎ IsNotedBehind (what.Restored b 1) (what.Released c svn at) (behind accepts b story)
-  Cause (what.Locked c cause at) = at ≡ counts_of story
+  Cause (what.Locked c cause at) = (at ≡ counts_of story) × ¬ IsWatchLock cause
   Cause (what.Untrusted c cause) = IsAgainst cause b (mine b story) (store story) accepts
   Cause (what.Restored c level) = (level ≡ 1) × IsRestorable b (mine b story) (store story) accepts
   Cause that = Unit {0}
@@ -46,7 +71,7 @@ module _ (accepts : Acceptance) (b : Bank) (story : Story) where
       → behind accepts b story ≡ record { item = story.item; what = what.Untrusted b cause } ∷ said (restored b 1 fuses capsule (told cause) ++ more) (told cause)
       → IsNoted (said more (after (restored b 1 fuses capsule (told cause)) (told cause))) that → IsNotedBehind (what.Restored b 1) that (behind accepts b story)
   restored_behind fuses cause capsule more that is n =
-      let copy : List Move = called (device_of b) (restore_ops 1 (mine b (told cause)) capsule (layout_of fuses.provision b)) in
+      let copy : List Move = called (device_of b) (job_ops (ActiveFromRecovery 1) (mine b (told cause)) capsule (layout_of fuses.provision b)) in
       let tells : List Move = Says (λ _. what.Restored b 1) ∷ [] in
       let first : Note = record { item = story.item; what = what.Untrusted b cause } in
       let rest : List Note = said more (after (copy ++ tells) (told cause)) in
@@ -69,7 +94,7 @@ module _ (accepts : Acceptance) (b : Bank) (story : Story) where
 
   restored_caused : (fuses : FusesState) (capsule : CapsuleState) (here : Story) → IsRestorable b (mine b story) (store story) accepts → AllSay Cause (restored b 1 fuses capsule here)
   restored_caused fuses capsule here h =
-      let ops : List Operation = restore_ops 1 (mine b here) capsule (layout_of fuses.provision b) in
+      let ops : List Operation = job_ops (ActiveFromRecovery 1) (mine b here) capsule (layout_of fuses.provision b) in
       AllMake-append Whichever (λ w. (at : Counts) → Cause (w at)) (called (device_of b) ops) (Says (λ _. what.Restored b 1) ∷ [])
       (AllMake-called Whichever (λ w. (at : Counts) → Cause (w at)) (device_of b) ops tt) ((λ at. (refl, h)), tt)
 
@@ -86,7 +111,7 @@ module _ (accepts : Acceptance) (b : Bank) (story : Story) where
           | inl m ↦ said_all Cause moves (told cause) (restored_caused fuses capsule (told cause) h) that m
           | inr m ↦ second_caused (judged_active accepts b fuses there) there (λ it k. restored_behind fuses cause capsule again it is k) that m
         ]
-    recovery_caused fuses cause (Err other) r a j is that (inl e) = subst Cause e refl
+    recovery_caused fuses cause (Err other) r a j is that (inl e) = subst Cause e (refl, λ watch. watch)
     recovery_caused fuses cause (Err other) r a j is that (inr none) = absurd none
 
     active_caused : (fuses : FusesState) (judged : Result Manifest ActiveFail) → IsReady b fuses story → judged_active accepts b fuses story ≡ judged
@@ -103,7 +128,7 @@ module _ (accepts : Acceptance) (b : Bank) (story : Story) where
 
     ready_caused : (ready : Result FusesState LockWhy) → ready_of b story ≡ ready → (that : What) → IsNoted (said (by_ready accepts b ready story) story) that → Cause that
     ready_caused (Ok fuses) e that n = active_caused fuses (judged_active accepts b fuses story) (ready_found b fuses story e) refl that n
-    ready_caused (Err cause) e that (inl same) = subst Cause same refl
+    ready_caused (Err cause) e that (inl same) = subst Cause same (refl, unready_unwatched b cause story e)
     ready_caused (Err cause) e that (inr none) = absurd none
 
     -- Each note behind Held has its cause.

@@ -190,13 +190,13 @@ module _ (accepts : Acceptance) (root : RootSlot) (old new : World) where
       let so = provisioned_so (now old.nv) root (size_of old.bmc) (size_of old.pch) number (length-play old.nv.start old.nv.ops ∙ size) slot j in
       rw image so
 
-  tries : size_of old.nv ≡ 32768 → IsSlot root → Turn accepts (event.Provision root) old new → FollowsCourse (provision_course root) (begun old) new → TriesProvision root old new
+  tries : size_of old.nv ≡ 32768 → IsSlot root → Turn accepts (event.Provision root) old new → FollowsCourse (provision_course root) (begun (event.Provision root) old) new → TriesProvision root old new
   tries size slot t (mid, first, rest) =
       let base : Past = past_of old.nv in
       let stored : Stored (operations_in root judged) base (past_of new.nv) = Turn-stored accepts (event.Provision root) old new t in
-      let traced = provision_traced (Backing root judged base) (backing_banks root judged base) (λ story. story ≡ story_of (begun old)) root (begun old) new
+      let traced = provision_traced (Backing root judged base) (backing_banks root judged base) (λ story. story ≡ story_of (begun (event.Provision root) old)) root (begun (event.Provision root) old) new
       (λ story e. (tt, provision_backed root judged base (judged_here root story) story (sym (ap (λ (s : Story). judged_here root s) e)) (ap (λ (s : Story). s.nv) e))) refl (mid, first, rest) in
-      let known = Traced-known (IsBacked root judged base) (begun old) new traced in
+      let known = Traced-known (IsBacked root judged base) (begun (event.Provision root) old) new traced in
       let made : IsUntroubled bank.Bmc (added old new) → IsNoted (added old new) (outcome_of judged) = outcome mid first.is rest in
       record {
         done = λ n. let k = known what.Provisioned n in done_by stored k.0.nv k.1 k.2.nv;
@@ -205,7 +205,7 @@ module _ (accepts : Acceptance) (root : RootSlot) (old new : World) where
         refused = λ cause j calm. subst (λ (r : Result ℕ FuseFail). IsNoted (added old new) (outcome_of r)) j (made calm);
       }
     where
-      outcome : (mid : World) → story_of mid ≡ story_of (begun old) → Steps (provision_stretch root ∷ []) mid new → IsUntroubled bank.Bmc (added old new) → IsNoted (added old new) (outcome_of judged)
+      outcome : (mid : World) → story_of mid ≡ story_of (begun (event.Provision root) old) → Steps (provision_stretch root ∷ []) mid new → IsUntroubled bank.Bmc (added old new) → IsNoted (added old new) (outcome_of judged)
       outcome mid e rest calm =
           let notes : added mid new ≡ added old new = ap (λ (s : Story). drop (length s.notes) new.notes.list) e in
           subst (λ (ns : List Note). IsNoted ns (outcome_of judged)) notes
@@ -231,3 +231,6 @@ Turn-provisions accepts (event.Provision root) old new size slot t = λ on. elim
 ]
 Turn-provisions accepts (event.Spi b frame) old new size slot t = tt
 Turn-provisions accepts (event.Smbus b frame) old new size slot t = tt
+Turn-provisions accepts (event.Tick n) old new size slot t = tt
+Turn-provisions accepts (event.Boot b pass) old new size slot t = tt
+Turn-provisions accepts (event.Update b intent) old new size slot t = tt

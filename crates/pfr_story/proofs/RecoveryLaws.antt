@@ -1,8 +1,8 @@
 -- A step leaves a bank one that can be recovered, from each of its moments to the next.
-use Rattle.std.proofs.Common.{◌≡◌, ◌∙◌, refl, sym, ap, subst, ℕ, ◌%◌, true, List, [], ◌∷◌, length, All, ◌⊎◌, inl, inr, Some, Result, Ok, Err}
+use Rattle.std.proofs.Common.{◌≡◌, ◌∙◌, refl, sym, ap, subst, ℕ, ◌%◌, Bool, true, false, List, [], ◌∷◌, ◌++◌, length, All, ◌⊎◌, inl, inr, Some, Result, Ok, Err}
 use Rattle.pfr_flash.specs.Bytes.{AreBytes}
 use Rattle.pfr_flash.specs.FlashState.{size_of}
-use Rattle.pfr_flash.specs.Layout.{IsBankSize, IsValidLayout}
+use Rattle.pfr_flash.specs.Layout.{IsBankSize}
 use Rattle.pfr_flash.specs.declared.layout.Layout.{Layout}
 use Rattle.pfr_flash.specs.declared.names.Bank.{Bank}
 use Rattle.pfr_flash.specs.declared.names.Bank.TheVariants as bank
@@ -21,34 +21,41 @@ use Rattle.pfr_fuses.proofs.BlankLemmas.{judged-ok}
 use Rattle.pfr_fuses.proofs.StandsLemmas.{fuses_of-ok}
 use Rattle.pfr_manifest.specs.Regions.{IsRegion}
 use Rattle.pfr_capsule.specs.CapsuleState.{CapsuleState}
+use Rattle.pfr_capsule.specs.Good.{IsGood}
 use Rattle.pfr_capsule.proofs.GoodFacts.{good_regions}
 use Rattle.pfr_filter.specs.Asking.{bus_ops}
 use Rattle.pfr_filter.specs.declared.verdict.BusOp.{BusOp}
 use Rattle.pfr_filter.specs.declared.verdict.Verdict.TheVariants.{Pass}
-use Rattle.pfr_jobs.specs.declared.job.JobKind.TheVariants.{ActiveFromRecovery}
+use Rattle.pfr_auth.specs.declared.fail.ActiveFail.{ActiveFail}
+use Rattle.pfr_jobs.specs.declared.job.JobKind.{JobKind}
+use Rattle.pfr_jobs.specs.declared.job.JobKind.TheVariants.{ActiveFromRecovery, ActiveFromStaging}
 use Rattle.pfr_recoverable.specs.Recoverable.{HasGoodRecovery}
 use Rattle.pfr_recoverable.proofs.StaysLaw.{fuses_one}
 use Rattle.pfr_script.specs.declared.event.Event.{Event}
 use Rattle.pfr_script.specs.declared.event.Event.TheVariants as event
+use Rattle.pfr_script.specs.declared.event.Intent.{Intent}
+use Rattle.pfr_watch.specs.Stages.{next_stage}
+use Rattle.pfr_watch.specs.declared.stage.Stage.{Stage}
+use Rattle.pfr_report.specs.declared.note.Refusal.TheVariants as refusing
 use Rattle.pfr_report.specs.declared.note.What.{What}
 use Rattle.pfr_report.specs.declared.note.What.TheVariants as what
-use Rattle.pfr_story.specs.Story.{Story, Move, Says, noted, device_of, called}
+use Rattle.pfr_story.specs.Story.{Story, Move, Says, after, noted, counts_of, device_of, called}
 use Rattle.pfr_story.specs.World.{World, story_of, AllMoved}
 use Rattle.pfr_story.specs.Safety.{Rule, AllGood, AllSafe}
 use Rattle.pfr_story.specs.Course.{Stretch, Steps, Follows}
-use Rattle.pfr_story.specs.Plans.{mine, store, judged_recovery, restore_ops, copied, brought_up, migrated, provisioned, provisioned_in, Ruling, ruling, filtered, smbus_judged}
-use Rattle.pfr_story.specs.Turn.{bank_stretch, fuse_stretch, provision_stretch, spi_stretch, ignored, power_course, off_course, provision_course, is_idle, taken, begun, Turn}
+use Rattle.pfr_story.specs.Plans.{mine, store, judged_recovery, judged_staging, job_ops, copied, restored, brought_up, expired, updated, is_dynamic, updating, migrated, provisioned, provisioned_in, Ruling, ruling, filtered, smbus_judged}
+use Rattle.pfr_story.specs.Turn.{bank_stretch, fuse_stretch, provision_stretch, spi_stretch, expiry_stretch, update_stretch, ignored, power_course, off_course, provision_course, pass_note, stage_at, is_idle, taken, begun, Turn}
 use Rattle.pfr_story.specs.Recovery.{HoldsIn, LeavesTrue, StaysRecoverable}
 use Rattle.pfr_story.proofs.WorldLaws.{AllMoved-refl}
 use Rattle.pfr_story.proofs.SafetyLaws.{AllSafe-append, safe_whole, image_noted}
 use Rattle.pfr_story.proofs.Courses.{IsTakenBy, Turn-cases}
 use Rattle.pfr_story.proofs.BusRules.{ruled, filtered_safe, calls_safe, smbus_safe}
 use Rattle.pfr_story.proofs.Rulings.{ruling_trusted, ruled_leaves}
-use Rattle.pfr_story.proofs.RestoreLaws.{found_good}
-use Rattle.pfr_story.proofs.BringRules.{Any, IsReady, ready_noted, ready_found, Walks, walk_safe}
+use Rattle.pfr_story.proofs.RestoreLaws.{found_good, found_staged}
+use Rattle.pfr_story.proofs.BringRules.{Any, IsReady, ready_noted, ready_found, Walks, WalksBack, WalksAnew, walk_safe, level_at, expired_safe, updating_safe}
 use Rattle.pfr_story.proofs.Turns.{Turn-moved}
-use Rattle.pfr_story.proofs.Traces.{call_says, Traced, Traced-then, Traced-ran, Traced-whole, Traced-cut, precedes_moved, AreImages}
-use Rattle.pfr_story.proofs.StepTraces.{Between, AllowsLosses, IsGoodStretch, noted_along, power_along, single_along}
+use Rattle.pfr_story.proofs.Traces.{IsStamped, call_says, Traced, Traced-then, Traced-ran, Traced-whole, Traced-cut, precedes_moved, AreImages}
+use Rattle.pfr_story.proofs.StepTraces.{Between, AllowsLosses, IsGoodStretch, noted_along, power_along, single_along, tick_along, pass_noted}
 use Rattle.pfr_story.proofs.Bytes.{HaveBytes, images_then, mine_sized, bank_sized}
 use Rattle.pfr_story.proofs.RecoverableLaws.{other_safe}
 use Rattle.pfr_story.proofs.MomentLaws.{StaysTrue, IsUnstamped, NoMoments, Stays, call_stays, stays_along, stays_behind}
@@ -72,30 +79,35 @@ module _ (accepts : Acceptance) (b : Bank) where
   abbrev Keeping : Rule
   Keeping = StaysTrue (GoodRecovery accepts b) b
 
-  -- ---- a bank is restored
-  own_copy : (fuses : FusesState) (capsule : CapsuleState) (story : Story) → IsSized story → fuses_of (store story) ≡ Ok fuses → IsValidLayout (layout_of fuses.provision b) (length (mine b story))
-      → judged_recovery accepts b fuses story ≡ Ok capsule → AllSafe (LeavesTrue (GoodRecovery accepts b) b) (copied b 1 fuses capsule story) story
-  own_copy fuses capsule story sized read valid judged =
+-- ---- a job makes a bank's active image anew
+-- a bank's regions, by a capsule
+abbrev HaveRegions : Bank → FusesState → CapsuleState → Story → Type 0
+HaveRegions c fuses capsule story = All (IsRegion (layout_of fuses.provision c) (length (mine c story))) capsule.manifest.regions
+
+regions_found : (accepts : Acceptance) (c : Bank) (fuses : FusesState) (capsule : CapsuleState) (story : Story) (place len : ℕ)
+    → (g : IsGood (mine c story) place len (store story) c accepts) × (g.capsule ≡ capsule) → fuses_of (store story) ≡ Ok fuses → HaveRegions c fuses capsule story
+regions_found accepts c fuses capsule story place len found read =
+    let same : found.0.fuses ≡ fuses = fuses_one (store story) found.0.fuses fuses found.0.provisioned read in
+    let regions : HaveRegions c found.0.fuses found.0.capsule story = good_regions (mine c story) (store story) place len c accepts found.0 in
+    subst (λ (capsule : CapsuleState). HaveRegions c fuses capsule story) found.1 (subst (λ (f : FusesState). HaveRegions c f found.0.capsule story) same regions)
+
+module _ (accepts : Acceptance) (b : Bank) where
+  own_job : (kind : JobKind) (fuses : FusesState) (capsule : CapsuleState) (story : Story) → IsSized story → IsReady b fuses story → HaveRegions b fuses capsule story
+      → AllSafe (LeavesTrue (GoodRecovery accepts b) b) (copied b kind fuses capsule story) story
+  own_job kind fuses capsule story sized ready regions =
       let layout : Layout = layout_of fuses.provision b in
-      let image : List ℕ = mine b story in
-      let found = found_good accepts b fuses capsule story read valid (sized.images (device_of b)) judged in
-      let same : found.0.fuses ≡ fuses = fuses_one (store story) found.0.fuses fuses found.0.provisioned read in
-      let regions : All (IsRegion (layout_of found.0.fuses.provision b) (length image)) found.0.capsule.manifest.regions = good_regions image (store story) layout.recovery_at layout.area_len b accepts found.0 in
-      let here : All (IsRegion layout (length image)) found.0.capsule.manifest.regions =
-      subst (λ (f : FusesState). All (IsRegion (layout_of f.provision b) (length image)) found.0.capsule.manifest.regions) same regions in
-      let all : All (IsRegion layout (length image)) capsule.manifest.regions = subst (λ (c : CapsuleState). All (IsRegion layout (length image)) c.manifest.regions) found.1 here in
-      ops_safe accepts b layout (restore_ops 1 image capsule layout) story
-      (record { by_layout = λ f is. ap (λ (g : FusesState). layout_of g.provision b) (fuses_one (store story) f fuses is read); blocks = sized.blocks b })
-      (job_leaves (ActiveFromRecovery 1) image capsule layout valid all)
+      ops_safe accepts b layout (job_ops kind (mine b story) capsule layout) story
+      (record { by_layout = λ f is. ap (λ (g : FusesState). layout_of g.provision b) (fuses_one (store story) f fuses is ready.provisioned); blocks = sized.blocks b })
+      (job_leaves kind (mine b story) capsule layout ready.layout regions)
 
 module _ (accepts : Acceptance) where
-  -- whichever bank is restored
-  copy_safe : (b c : Bank) (fuses : FusesState) (capsule : CapsuleState) (story : Story) → IsSized story → fuses_of (store story) ≡ Ok fuses → IsValidLayout (layout_of fuses.provision c) (length (mine c story))
-      → judged_recovery accepts c fuses story ≡ Ok capsule → AllSafe (LeavesTrue (GoodRecovery accepts b) b) (copied c 1 fuses capsule story) story
-  copy_safe bank.Bmc bank.Bmc fuses capsule story sized read valid judged = own_copy accepts bank.Bmc fuses capsule story sized read valid judged
-  copy_safe bank.Bmc bank.Pch fuses capsule story sized read valid judged = other_safe (GoodRecovery accepts bank.Bmc) bank.Bmc (restore_ops 1 (mine bank.Pch story) capsule (layout_of fuses.provision bank.Pch)) story
-  copy_safe bank.Pch bank.Bmc fuses capsule story sized read valid judged = other_safe (GoodRecovery accepts bank.Pch) bank.Pch (restore_ops 1 (mine bank.Bmc story) capsule (layout_of fuses.provision bank.Bmc)) story
-  copy_safe bank.Pch bank.Pch fuses capsule story sized read valid judged = own_copy accepts bank.Pch fuses capsule story sized read valid judged
+  -- whichever bank's
+  job_safe : (b c : Bank) (kind : JobKind) (fuses : FusesState) (capsule : CapsuleState) (story : Story) → IsSized story → IsReady c fuses story → HaveRegions c fuses capsule story
+      → AllSafe (LeavesTrue (GoodRecovery accepts b) b) (copied c kind fuses capsule story) story
+  job_safe bank.Bmc bank.Bmc kind fuses capsule story sized ready regions = own_job accepts bank.Bmc kind fuses capsule story sized ready regions
+  job_safe bank.Bmc bank.Pch kind fuses capsule story sized ready regions = other_safe (GoodRecovery accepts bank.Bmc) bank.Bmc (job_ops kind (mine bank.Pch story) capsule (layout_of fuses.provision bank.Pch)) story
+  job_safe bank.Pch bank.Bmc kind fuses capsule story sized ready regions = other_safe (GoodRecovery accepts bank.Pch) bank.Pch (job_ops kind (mine bank.Bmc story) capsule (layout_of fuses.provision bank.Bmc)) story
+  job_safe bank.Pch bank.Pch kind fuses capsule story sized ready regions = own_job accepts bank.Pch kind fuses capsule story sized ready regions
 
 -- ---- a frame on the SPI bus of a bank
 module _ (accepts : Acceptance) where
@@ -125,31 +137,82 @@ module _ (accepts : Acceptance) where
     passed = λ r op found passed. tt;
   })
 
--- ---- a bank is brought up
+-- ---- a bank is brought up, restored or updated
 module _ (accepts : Acceptance) (b c : Bank) where
   -- a bank that can be checked, of devices that have their sizes
   abbrev IsFit : FusesState → Story → Type 0
   IsFit fuses story = IsSized story × IsReady c fuses story
 
-  keeping_walks : Walks (Keeping accepts b) accepts c IsSized IsFit (λ fuses cause story. IsFit fuses story) (λ fuses story. Unit {0})
+  fit_noted : (fuses : FusesState) (w : Counts → What) (story : Story) → IsFit fuses story → IsFit fuses (noted w story)
+  fit_noted fuses w story fit = (sized_noted w story fit.0, ready_noted c fuses w story fit.1)
+
+  -- a job, and what is noted of it
+  job_told : (kind : JobKind) (fuses : FusesState) (capsule : CapsuleState) (that : What) (story : Story) → IsFit fuses story → HaveRegions c fuses capsule story → ((at : Counts) → IsStamped that at)
+      → AllSafe (Keeping accepts b) (copied c kind fuses capsule story ++ Says (λ _. that) ∷ []) story
+  job_told kind fuses capsule that story fit regions stamped =
+      let copy = copied c kind fuses capsule story in
+      let safe : AllSafe (Keeping accepts b) copy story =
+      call_stays (GoodRecovery accepts b) b (device_of c) (job_ops kind (mine c story) capsule (layout_of fuses.provision c)) story (job_safe accepts b c kind fuses capsule story fit.0 fit.1 regions) in
+      AllSafe-append (Keeping accepts b) copy (Says (λ _. that) ∷ []) story safe (stamped (counts_of (after copy story)), tt)
+
+  restored_keeps : (level : ℕ) (fuses : FusesState) (capsule : CapsuleState) (story : Story) → IsFit fuses story → judged_recovery accepts c fuses story ≡ Ok capsule
+      → AllSafe (Keeping accepts b) (restored c level fuses capsule story) story
+  restored_keeps level fuses capsule story fit j =
+      let layout : Layout = layout_of fuses.provision c in
+      let found = found_good accepts c fuses capsule story fit.1.provisioned fit.1.layout (fit.0.images (device_of c)) j in
+      job_told (ActiveFromRecovery level) fuses capsule (what.Restored c level) story fit (regions_found accepts c fuses capsule story layout.recovery_at layout.area_len found fit.1.provisioned) (λ at. tt)
+
+  updated_keeps : (dynamic : Bool) (fuses : FusesState) (capsule : CapsuleState) (story : Story) → IsFit fuses story → judged_staging accepts c fuses story ≡ Ok capsule
+      → AllSafe (Keeping accepts b) (updated c dynamic fuses capsule story) story
+  updated_keeps dynamic fuses capsule story fit j =
+      let layout : Layout = layout_of fuses.provision c in
+      let found = found_staged accepts c fuses capsule story fit.1.provisioned fit.1.layout (fit.0.images (device_of c)) j in
+      job_told (ActiveFromStaging dynamic) fuses capsule (what.Updated c dynamic capsule.manifest.svn) story fit
+      (regions_found accepts c fuses capsule story layout.staging_at layout.area_len found fit.1.provisioned) (λ at. tt)
+
+  abbrev AnyTold : FusesState → ActiveFail → Story → Type 0
+  AnyTold fuses cause story = IsFit fuses story
+
+  abbrev AnyAnew : FusesState → Story → Type 0
+  AnyAnew fuses story = Unit {0}
+
+  keeping_walks : Walks (Keeping accepts b) accepts c IsSized IsFit AnyTold AnyAnew
   keeping_walks = record {
     asks = λ which story own. tt;
     ready = λ fuses story sized e. (sized, ready_found c fuses story e);
     unready = λ cause story sized e. refl;
     released = λ fuses m story fit j. refl;
-    untrusted = λ fuses cause story fit j. (tt, (sized_noted (λ _. what.Untrusted c cause) story fit.0, ready_noted c fuses (λ _. what.Untrusted c cause) story fit.1));
+    untrusted = λ fuses cause story fit j. (tt, fit_noted fuses (λ _. what.Untrusted c cause) story fit);
     no_image = λ fuses cause other story fit j. refl;
-    restores = λ fuses cause capsule story fit j.
-        let copy = copied c 1 fuses capsule story in
-        let safe : AllSafe (Keeping accepts b) copy story = call_stays (GoodRecovery accepts b) b (device_of c) (restore_ops 1 (mine c story) capsule (layout_of fuses.provision c)) story
-        (copy_safe accepts b c fuses capsule story fit.0 fit.1.provisioned fit.1.layout j) in
-        (AllSafe-append (Keeping accepts b) copy (Says (λ _. what.Restored c 1) ∷ []) story safe (tt, tt), tt);
+    restores = λ fuses cause capsule story fit j. (restored_keeps 1 fuses capsule story fit j, tt);
     again = λ fuses m story any j. refl;
   }
 
-  brought_safe : (story : Story) → IsSized story → AllSafe (Keeping accepts b) (brought_up accepts c story) story
-  brought_safe story sized =
-      walk_safe (Keeping accepts b) accepts c IsSized IsFit (λ fuses cause there. IsFit fuses there) (λ fuses there. Unit {0}) keeping_walks story refl (sized_noted (what.Held c) story sized)
+  keeping_back : (level : ℕ) → WalksBack (Keeping accepts b) accepts c level IsSized IsFit AnyAnew
+  keeping_back level = record {
+    spent = λ story few sized. refl;
+    no_recovery = λ fuses cause story few fit j. refl;
+    restores = λ fuses capsule story few fit j. (restored_keeps level fuses capsule story fit j, tt);
+  }
+
+  keeping_anew : (dynamic : Bool) → WalksAnew (Keeping accepts b) accepts c dynamic IsFit AnyAnew
+  keeping_anew dynamic = record {
+    staged = λ fuses capsule story fit j. (updated_keeps dynamic fuses capsule story fit j, tt);
+    refused = λ fuses cause story fit j. (tt, fit_noted fuses (λ _. what.Refused c (refusing.Capsule cause)) story fit);
+  }
+
+  brought_keeps : (story : Story) → IsSized story → AllSafe (Keeping accepts b) (brought_up accepts c story) story
+  brought_keeps story sized = walk_safe (Keeping accepts b) accepts c IsSized IsFit AnyTold AnyAnew keeping_walks story refl (sized_noted (what.Held c) story sized)
+
+  expired_keeps : (story : Story) → IsSized story → AllSafe (Keeping accepts b) (expired accepts c story) story
+  expired_keeps story sized =
+      let told : Counts → What = λ _. what.Expired c (level_at c story) in
+      expired_safe (Keeping accepts b) accepts c IsSized IsFit AnyTold AnyAnew keeping_walks story (keeping_back (level_at c story)) tt refl
+      (sized_noted (what.Held c) (noted told story) (sized_noted told story sized))
+
+  updating_keeps : (intent : Intent) (story : Story) → IsSized story → AllSafe (Keeping accepts b) (updating accepts c intent story) story
+  updating_keeps intent story sized =
+      updating_safe (Keeping accepts b) accepts c IsSized IsFit AnyTold AnyAnew keeping_walks intent story (keeping_anew (is_dynamic intent)) refl (sized_noted (what.Held c) story sized)
 
 -- ---- the stretches of a step
 module _ (accepts : Acceptance) (b : Bank) (first last : World) where
@@ -158,7 +221,21 @@ module _ (accepts : Acceptance) (b : Bank) (first last : World) where
 
   bank_keeps : (c : Bank) → IsKeeping Any (bank_stretch accepts c)
   bank_keeps c = record {
-    plan = record { safe = λ story p. brought_safe accepts b c story p.0; ends = λ story p. tt };
+    plan = record { safe = λ story p. brought_keeps accepts b c story p.0; ends = λ story p. tt };
+    noted = λ which story trace p cut rose. (refl, tt);
+    on = λ which story trace p cut e. tt;
+  }
+
+  expiry_keeps : (c : Bank) → IsKeeping Any (expiry_stretch accepts c)
+  expiry_keeps c = record {
+    plan = record { safe = λ story p. expired_keeps accepts b c story p.0; ends = λ story p. tt };
+    noted = λ which story trace p cut rose. (refl, tt);
+    on = λ which story trace p cut e. tt;
+  }
+
+  update_keeps : (c : Bank) (intent : Intent) → IsKeeping Any (update_stretch accepts c intent)
+  update_keeps c intent = record {
+    plan = record { safe = λ story p. updating_keeps accepts b c intent story p.0; ends = λ story p. tt };
     noted = λ which story trace p cut rose. (refl, tt);
     on = λ which story trace p cut e. tt;
   }
@@ -278,24 +355,35 @@ module _ (accepts : Acceptance) (b : Bank) (old new : World) (held : HaveBytes n
       let moves : List Move = smbus_judged accepts c frame story in
       noted_kept moves t (safe_whole (Keeping accepts b) moves (story_of old)
       (smbus_safe (Keeping accepts b) accepts c frame (record { passed = λ here. tt; blocked = λ cause here. tt }) story (story_of old)))
+  taken_kept (event.Tick n) story t =
+      kept (tick_along (Keeping accepts b) old new IsSized known allows old new within accepts n story Any Any Any
+      (λ due. expiry_keeps accepts b old new bank.Bmc) (λ there p. tt) (λ due. expiry_keeps accepts b old new bank.Pch) (λ there p. tt) tt t)
+  taken_kept (event.Boot c true) story t =
+      let stage : Stage = stage_at c story in
+      noted_kept (Says (λ _. pass_note c stage (next_stage stage)) ∷ []) t
+      (pass_noted (λ that. Keeping accepts b (Says (λ _. that)) (story_of old)) c stage (next_stage stage) (λ done. tt) (λ on. tt), tt)
+  taken_kept (event.Boot c false) story t =
+      kept (single_along (Keeping accepts b) old new IsSized known allows old new within (expiry_stretch accepts c) Any Any (expiry_keeps accepts b old new c) tt t)
+  taken_kept (event.Update c intent) story t =
+      kept (single_along (Keeping accepts b) old new IsSized known allows old new within (update_stretch accepts c intent) Any Any (update_keeps accepts b old new c intent) tt t)
 
 -- What says that a good capsule stands in a bank's recovery area stays true from each moment of a step to the next.
 pub Turn-recoverable : (accepts : Acceptance) (e : Event) (old new : World) → Turn accepts e old new → HaveBytes new → IsBankSize (size_of old.bmc) → IsBankSize (size_of old.pch) → size_of old.nv ≡ 32768
     → StaysRecoverable (λ b image nv. HasGoodRecovery b image nv accepts) old new
 Turn-recoverable accepts e old new t held bmc pch nv b = by_case (Turn-cases accepts e old new t)
   where
-    m : AllMoved (begun old) new
+    m : AllMoved (begun e old) new
     m = Turn-moved accepts e old new t
 
     bmc_then : IsBankSize (size_of new.bmc)
-    bmc_then = bank_sized bank.Bmc (begun old) new m bmc
+    bmc_then = bank_sized bank.Bmc (begun e old) new m bmc
 
     pch_then : IsBankSize (size_of new.pch)
-    pch_then = bank_sized bank.Pch (begun old) new m pch
+    pch_then = bank_sized bank.Pch (begun e old) new m pch
 
     nv_then : size_of new.nv ≡ 32768
     nv_then = ap (λ (start : List ℕ). length start) m.nv.start ∙ nv
 
-    by_case : ((is_idle e (story_of old) ≡ true) × Follows ignored (begun old) new) ⊎ IsTakenBy accepts e old new → Stays (GoodRecovery accepts b) b (begun old) new
-    by_case (inl idle) = noted_kept accepts b (begun old) new held bmc_then pch_then nv_then ignored.first idle.1 (tt, tt)
-    by_case (inr on) = taken_kept accepts b (begun old) new held bmc_then pch_then nv_then e (story_of old) on.1
+    by_case : ((is_idle e (story_of old) ≡ true) × Follows ignored (begun e old) new) ⊎ IsTakenBy accepts e old new → Stays (GoodRecovery accepts b) b (begun e old) new
+    by_case (inl idle) = noted_kept accepts b (begun e old) new held bmc_then pch_then nv_then ignored.first idle.1 (tt, tt)
+    by_case (inr on) = taken_kept accepts b (begun e old) new held bmc_then pch_then nv_then e (story_of old) on.1

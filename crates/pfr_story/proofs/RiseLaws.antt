@@ -55,7 +55,7 @@ moves_rise s (Asks which ∷ trace) story last from p good is = moves_rise s tra
 pub Turn-counted : (accepts : Acceptance) (e : Event) (old new : World) → Turn accepts e old new → CountsRise old new
 Turn-counted accepts e old new t =
     let traced = Turn-traced accepts e old new t in
-    let made : Made (begun old) new = record { trace = traced.trace; is = traced.is } in
-    let first : Story = story_of (begun old) in
-    subst (λ (notes : List Note). Rise (counts_in old) (moments_of notes ++ counts_in new ∷ [])) (sym (added_said (begun old) new made))
+    let made : Made (begun e old) new = record { trace = traced.trace; is = traced.is } in
+    let first : Story = story_of (begun e old) in
+    subst (λ (notes : List Note). Rise (counts_in old) (moments_of notes ++ counts_in new ∷ [])) (sym (added_said (begun e old) new made))
     (moves_rise (step_of accepts e old new) traced.trace first (story_of new) (counts_in old) (not_before first first (Precedes-refl first)) traced.good traced.is)

@@ -28,10 +28,10 @@ use Rattle.pfr_report.specs.declared.note.What.TheVariants as what
 use Rattle.pfr_story.specs.Story.{Story, Move, Says, Does, Asks, after, noted, operated, device_of, past_at}
 use Rattle.pfr_story.specs.World.{World, NoneFailed, NoneLost, story_of, state_at, AllMoved, added}
 use Rattle.pfr_story.specs.Spans.{ReleasedSpans}
-use Rattle.pfr_story.specs.Turn.{Turn, course, begun}
+use Rattle.pfr_story.specs.Turn.{Turn, course, next_item, begun}
 use Rattle.pfr_story.specs.Run.{with_arm, with_arm_at, armed, Did, Reached, CanRun}
 use Rattle.pfr_story.specs.Causes.{IsTrustedWith, IsDue}
-use Rattle.pfr_story.specs.Promises.{AtCounts, IsFaultLock, IsUndisturbed, ReleasesTrusted, LocksHaveCauses, FaultsHaveCauses, FaultsAreNoted}
+use Rattle.pfr_story.specs.Promises.{AtCounts, IsFaultLock, IsWatchLock, IsUndisturbed, ReleasesTrusted, LocksHaveCauses, FaultsHaveCauses, FaultsAreNoted}
 use Rattle.pfr_story.proofs.WorldLaws.{faults_moved, losses_moved, NoneLost-at, NoneFailed-at, NoneFailed-refl, NoneFailed-trans}
 use Rattle.pfr_story.proofs.Courses.{opening}
 use Rattle.pfr_story.proofs.Made.{Made, Steps-made, notes_after}
@@ -46,7 +46,7 @@ use Rattle.pfr_story.proofs.SpanSteps.{Kept-item, Turn-spans}
 
 -- ---- arms
 -- an arm changes nothing of the story but the number of the item
-armed_at : (d : Device) (w : ArmWhat) (nth : ℕ) (tear : List ℕ) (old : World) → story_of (begun (with_arm_at d w nth tear old)) ≡ record (story_of old) { item = old.item + 1 }
+armed_at : (d : Device) (w : ArmWhat) (nth : ℕ) (tear : List ℕ) (old : World) → story_of (next_item (with_arm_at d w nth tear old)) ≡ record (story_of old) { item = old.item + 1 }
 armed_at device.Bmc armed_what.Cut nth tear old = refl
 armed_at device.Bmc armed_what.Fault nth tear old = refl
 armed_at device.Bmc armed_what.ReadFault nth tear old = refl
@@ -66,7 +66,7 @@ arm_counts armed_what.Fault nth tear d = (refl, refl)
 arm_counts armed_what.ReadFault nth tear d = (refl, refl)
 
 -- nor does one let a call fail, or a device lose its power
-counts_armed : (d : Device) (w : ArmWhat) (nth : ℕ) (tear : List ℕ) (old : World) → NoneFailed old (begun (with_arm_at d w nth tear old)) × NoneLost old (begun (with_arm_at d w nth tear old))
+counts_armed : (d : Device) (w : ArmWhat) (nth : ℕ) (tear : List ℕ) (old : World) → NoneFailed old (next_item (with_arm_at d w nth tear old)) × NoneLost old (next_item (with_arm_at d w nth tear old))
 counts_armed device.Bmc w nth tear old = let e = arm_counts w nth tear old.bmc in (record { bmc = e.0; pch = refl; nv = refl }, record { bmc = e.1; pch = refl; nv = refl })
 counts_armed device.Pch w nth tear old = let e = arm_counts w nth tear old.pch in (record { bmc = refl; pch = e.0; nv = refl }, record { bmc = refl; pch = e.1; nv = refl })
 counts_armed device.Nv w nth tear old = let e = arm_counts w nth tear old.nv in (record { bmc = refl; pch = refl; nv = e.0 }, record { bmc = refl; pch = refl; nv = e.1 })
@@ -90,20 +90,23 @@ IsLater-trans a b c p q = record {
   precedes = Precedes-trans (story_of a) (story_of b) (story_of c) p.precedes q.precedes;
 }
 
--- the number of the item changes nothing of what was done
+-- neither the number of the item nor what guards the banks changes anything of what was done
 precedes_item : (a b : Story) (n : ℕ) → Precedes a b → Precedes a (record b { item = n })
 precedes_item a b n p = record { bmc = p.bmc; pch = p.pch; nv = p.nv }
 
-begun_at : (which : Device) (w : World) → state_at which (begun w) ≡ state_at which w
-begun_at device.Bmc w = refl
-begun_at device.Pch w = refl
-begun_at device.Nv w = refl
+begun_at : (which : Device) (e : Event) (w : World) → state_at which (begun e w) ≡ state_at which w
+begun_at device.Bmc e w = refl
+begun_at device.Pch e w = refl
+begun_at device.Nv e w = refl
 
-IsLater-begun : (w : World) → IsLater w (begun w)
-IsLater-begun w = record {
-  faults = λ which. let e = ap (λ (d : FlashState). d.faults) (begun_at which w) in omega (arith, e);
-  losses = λ which. let e = ap (λ (d : FlashState). d.losses) (begun_at which w) in omega (arith, e);
-  precedes = precedes_item (story_of w) (story_of w) (w.item + 1) (Precedes-refl (story_of w));
+precedes_begun : (e : Event) (w : World) → Precedes (story_of w) (story_of (begun e w))
+precedes_begun e w = let p = Precedes-refl (story_of w) in record { bmc = p.bmc; pch = p.pch; nv = p.nv }
+
+IsLater-begun : (e : Event) (w : World) → IsLater w (begun e w)
+IsLater-begun e w = record {
+  faults = λ which. let same = ap (λ (d : FlashState). d.faults) (begun_at which e w) in omega (arith, same);
+  losses = λ which. let same = ap (λ (d : FlashState). d.losses) (begun_at which e w) in omega (arith, same);
+  precedes = precedes_begun e w;
 }
 
 IsLater-armed : (arm : Arm) (tear : List ℕ) (w : World) → IsLater w (armed arm tear w)
@@ -114,18 +117,18 @@ IsLater-armed arm tear w = record {
 }
 
 -- what a step made
-pub Turn-made : (accepts : Acceptance) (e : Event) (old new : World) → Turn accepts e old new → Made (begun old) new
+pub Turn-made : (accepts : Acceptance) (e : Event) (old new : World) → Turn accepts e old new → Made (begun e old) new
 Turn-made accepts e old new (mid, first, rest) =
-    Steps-made (opening (course accepts e (story_of old)) ∷ (course accepts e (story_of old)).stretches) (begun old) new (inl (mid, first, rest))
+    Steps-made (opening (course accepts e (story_of old)) ∷ (course accepts e (story_of old)).stretches) (begun e old) new (inl (mid, first, rest))
 
 pub IsLater-turn : (accepts : Acceptance) (e : Event) (old new : World) → Turn accepts e old new → IsLater old new
 IsLater-turn accepts e old new t =
-    let moved : AllMoved (begun old) new = Turn-moved accepts e old new t in
+    let moved : AllMoved (begun e old) new = Turn-moved accepts e old new t in
     let made = Turn-made accepts e old new t in
-    IsLater-trans old (begun old) new (IsLater-begun old) (record {
-      faults = λ which. faults_moved which (begun old) new moved;
-      losses = λ which. losses_moved which (begun old) new moved;
-      precedes = subst (λ (t : Story). Precedes (story_of (begun old)) t) (sym made.is) (Precedes-after (story_of (begun old)) (story_of (begun old)) made.trace (Precedes-refl (story_of (begun old))));
+    IsLater-trans old (begun e old) new (IsLater-begun e old) (record {
+      faults = λ which. faults_moved which (begun e old) new moved;
+      losses = λ which. losses_moved which (begun e old) new moved;
+      precedes = subst (λ (t : Story). Precedes (story_of (begun e old)) t) (sym made.is) (Precedes-after (story_of (begun e old)) (story_of (begun e old)) made.trace (Precedes-refl (story_of (begun e old))));
     })
 
 pub IsLater-did : (accepts : Acceptance) (tears : List (List ℕ)) (i : Item) (old new : World) → Did accepts tears i old new → IsLater old new
@@ -150,7 +153,7 @@ adds_added old new adds = adds.1 ∙ ap (λ (more : List Note). old.notes.list +
 pub turn_adds : (accepts : Acceptance) (e : Event) (old new : World) → Turn accepts e old new → Adds old new
 turn_adds accepts e old new t =
     let made = Turn-made accepts e old new t in
-    (_, ap (λ (s : Story). s.notes) made.is ∙ notes_after made.trace (story_of (begun old)))
+    (_, ap (λ (s : Story). s.notes) made.is ∙ notes_after made.trace (story_of (begun e old)))
 
 did_adds : (accepts : Acceptance) (tears : List (List ℕ)) (i : Item) (old new : World) → Did accepts tears i old new → Adds old new
 did_adds accepts tears (item.Event e) old new t = turn_adds accepts e old new t
@@ -172,7 +175,7 @@ noted_left (x ∷ xs) ys that (inr n) = inr (noted_left xs ys that n)
 
 -- ---- what holds of a run so far
 unfoldable pub running : Acceptance → World → World → Setting
-running accepts first last = record { accepts = accepts; first = first; last = last; IsSwitched = Unit {0} }
+running accepts first last = record { accepts = accepts; first = first; last = last; IsSwitched = Unit {0}; HasExpired = λ b level notes. Unit {0} }
 
 -- what is known of a note of a step is known of it in the run
 fact_later : (accepts : Acceptance) (e : Event) (old new first last : World) → IsLater first old → IsLater new last → (that : What) (at : Story)
@@ -188,18 +191,17 @@ fact_later accepts e old new first last before behind (what.Locked b why.Unprovi
 fact_later accepts e old new first last before behind (what.Locked b why.SlotsSpent counts) at f = f
 fact_later accepts e old new first last before behind (what.Locked b (why.Layout rule) counts) at f = f
 fact_later accepts e old new first last before behind (what.Locked b (why.NoGoodImage active recovery) counts) at f = f
+fact_later accepts e old new first last before behind (what.Locked b why.WatchdogSpent counts) at f = f
+fact_later accepts e old new first last before behind (what.Locked b (why.NoRecovery recovery) counts) at f = f
 fact_later accepts e old new first last before behind (what.Lost (Some which) counts) at f = (f.0, omega (arith, before.losses which, behind.losses which, f.1))
 fact_later accepts e old new first last before behind (what.Lost None counts) at f = (f.0, tt)
 fact_later accepts e old new first last before behind (what.Untrusted b cause) at f = f
-fact_later accepts e old new first last before behind (what.Restored b level) at f = (
-  f.0,
-  record {
-    at = f.1.at;
-    since = Precedes-trans (story_of first) (story_of old) f.1.at before.precedes f.1.since;
-    before = f.1.before;
-    was = f.1.was;
-  },
-)
+fact_later accepts e old new first last before behind (what.Restored b level) at f = record {
+  at = f.at;
+  since = Precedes-trans (story_of first) (story_of old) f.at before.precedes f.since;
+  before = f.before;
+  was = λ bytes. elim (f.was bytes) [ inl here ↦ inl here | inr back ↦ inr (tt, back.1) ];
+}
 fact_later accepts e old new first last before behind _ at f = tt
 
 pub record IsSafe (accepts : Acceptance) (first last : World) (story : Story) : Type 0 where
@@ -210,7 +212,7 @@ pub record IsSafe (accepts : Acceptance) (first last : World) (story : Story) : 
 IsSafe-item : (accepts : Acceptance) (first last : World) (n : ℕ) (story : Story) → IsSafe accepts first last story → IsSafe accepts first last (record story { item = n })
 IsSafe-item accepts first last n story p = record {
   known = λ that noted. let k = p.known that noted in (k.0, k.1, precedes_item k.0 story n k.2);
-  kept = λ which. Kept-item accepts which n story (p.kept which);
+  kept = λ which. Kept-item accepts which n story.guards story (p.kept which);
   size = p.size;
 }
 
@@ -283,14 +285,14 @@ module _ (accepts : Acceptance) (tears : List (List ℕ)) (items : List Item) (s
   Reached-spans which =
       ReleasedSpans-kept accepts which (story_of end) (run_safe.kept which) (λ svn at n. trusted_at accepts which svn at end (Reached-released which svn at n))
 
-  -- A bank was locked, but for a fault, only with a cause in its contents.
-  pub Reached-locks : (which : Bank) (cause : LockWhy) (at : Counts) → IsNoted end.notes.list (what.Locked which cause at) → ¬ IsFaultLock cause
+  -- A bank was locked, but for a fault or by its watch, only with a cause in its contents.
+  pub Reached-locks : (which : Bank) (cause : LockWhy) (at : Counts) → IsNoted end.notes.list (what.Locked which cause at) → ¬ IsFaultLock cause → ¬ IsWatchLock cause
       → AtCounts (λ image nv. IsDue cause which image nv accepts) which at end
   unfolding running
-  Reached-locks which cause at n no_fault =
+  Reached-locks which cause at n no_fault no_watch =
       let k = run_known (what.Locked which cause at) n in
       at_moment (λ image nv. IsDue cause which image nv accepts) which k.0 at end k.1.0 k.2
-      (lock_due (running accepts start end) cause which k.0 no_fault (images_then k.0 end k.2 held (device_of which)) k.1.1)
+      (lock_due (running accepts start end) cause which k.0 no_fault no_watch (images_then k.0 end k.2 held (device_of which)) k.1.1)
 
   -- A bank was locked for a fault only where a count of faults rose.
   pub Reached-flash_faults : (which : Bank) (at : Counts) → IsNoted end.notes.list (what.Locked which why.FlashFault at)
@@ -310,7 +312,7 @@ module _ (accepts : Acceptance) (tears : List (List ℕ)) (items : List Item) (s
   Reached-releases which svn at n = Reached-released which svn at (all_added (what.Released which svn at) n)
 
   pub Reached-causes : LocksHaveCauses accepts start end
-  Reached-causes which cause at n no_fault = Reached-locks which cause at (all_added (what.Locked which cause at) n) no_fault
+  Reached-causes which cause at n no_fault no_watch = Reached-locks which cause at (all_added (what.Locked which cause at) n) no_fault no_watch
 
   pub Reached-faults : FaultsHaveCauses start end
   Reached-faults = record {
@@ -382,7 +384,7 @@ counted_here armed_what.ReadFault n m h = h
 
 arms_left : (at : Device) (w : ArmWhat) (nth : ℕ) (tear : List ℕ) (old : World) (which : Device) (n : ℕ)
     → cond (is_arm_of which (item.Arm (record { device = at; what = w; nth = nth; tear = 0 }))) 1 0 + n ≤ (state_at which old).arms
-    → n ≤ (state_at which (begun (with_arm_at at w nth tear old))).arms
+    → n ≤ (state_at which (next_item (with_arm_at at w nth tear old))).arms
 arms_left device.Bmc w nth tear old device.Bmc n h = with_arm_arms w nth tear old.bmc n (counted_here w n old.bmc.arms h)
 arms_left device.Bmc w nth tear old device.Pch n h = omega (arith, h)
 arms_left device.Bmc w nth tear old device.Nv n h = omega (arith, h)
@@ -393,10 +395,10 @@ arms_left device.Nv w nth tear old device.Bmc n h = omega (arith, h)
 arms_left device.Nv w nth tear old device.Pch n h = omega (arith, h)
 arms_left device.Nv w nth tear old device.Nv n h = with_arm_arms w nth tear old.nv n (counted_here w n old.nv.arms h)
 
-arms_turned : (old new : World) → AllMoved (begun old) new → (which : Device) → (state_at which new).arms ≡ (state_at which old).arms
-arms_turned old new m device.Bmc = m.bmc.arms
-arms_turned old new m device.Pch = m.pch.arms
-arms_turned old new m device.Nv = m.nv.arms
+arms_turned : (e : Event) (old new : World) → AllMoved (begun e old) new → (which : Device) → (state_at which new).arms ≡ (state_at which old).arms
+arms_turned e old new m device.Bmc = m.bmc.arms
+arms_turned e old new m device.Pch = m.pch.arms
+arms_turned e old new m device.Nv = m.nv.arms
 
 after_item : (trace : List Move) (story : Story) → (after trace story).item ≡ story.item
 after_item [] story = refl
@@ -410,11 +412,11 @@ module _ (accepts : Acceptance) where
   pub Turn-item : (e : Event) (old new : World) → Turn accepts e old new → new.item ≡ old.item + 1
   Turn-item e old new t =
       let made = Turn-made accepts e old new t in
-      ap (λ (s : Story). s.item) made.is ∙ after_item made.trace (story_of (begun old))
+      ap (λ (s : Story). s.item) made.is ∙ after_item made.trace (story_of (begun e old))
 
   pub CanRun-did : (tears : List (List ℕ)) (n : ℕ) (i : Item) (items : List Item) (old new : World) → CanRun n (i ∷ items) old → Did accepts tears i old new → CanRun n items new
   CanRun-did tears n (item.Event e) items old new p t = record {
-    arms = λ which. let same = arms_turned old new (Turn-moved accepts e old new t) which in let h = arms_cons which (item.Event e) items _ (p.arms which) in omega (arith, same, h);
+    arms = λ which. let same = arms_turned e old new (Turn-moved accepts e old new t) which in let h = arms_cons which (item.Event e) items _ (p.arms which) in omega (arith, same, h);
     known = All-drop (IsKnownArm n) 1 (item.Event e ∷ items) p.known;
     few = omega (arith, p.few, Turn-item e old new t);
   }

@@ -82,6 +82,10 @@ notes_operated device.Bmc op story = refl
 notes_operated device.Pch op story = refl
 notes_operated device.Nv op story = refl
 
+pub notes_called : (which : Device) (ops : List Operation) (story : Story) → (after (called which ops) story).notes ≡ story.notes
+notes_called which [] story = refl
+notes_called which (op ∷ ops) story = notes_called which ops (operated which op story) ∙ notes_operated which op story
+
 -- ---- what a call does
 abbrev pub with_all : Past → List Operation → Past
 with_all past ops = record { start = past.start; ops = past.ops ++ ops }

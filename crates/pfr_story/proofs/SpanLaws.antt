@@ -30,6 +30,8 @@ use Rattle.pfr_story.specs.Guards.{same_bank}
 use Rattle.pfr_story.specs.Story.{Past, Story, Says, Does, Asks, counts_of, past_at, device_of, with_op, operated, noted, image_of, image_at}
 use Rattle.pfr_story.specs.Safety.{Rule, Keeps}
 use Rattle.pfr_story.specs.Promises.{count_at}
+use Rattle.pfr_story.specs.Standing as standing
+use Rattle.pfr_story.specs.Standing.{Standing, standing_after, standing_from, standing_of}
 use Rattle.pfr_story.proofs.Traces.{IsStamped}
 use Rattle.pfr_story.specs.Keeping.{IsSettled}
 use Rattle.pfr_story.specs.Spans.{opens_after, closes, ended, opens_from, ended_from, IsSpan, AllSpans, ReleasedSpans}
@@ -130,10 +132,10 @@ same_one bank.Bmc bank.Pch e = absurd cc
 same_one bank.Pch bank.Bmc e = absurd cc
 same_one bank.Pch bank.Pch e = refl
 
--- a bank is released only where the store is settled
-abbrev pub IsSettledWhere : What → List ℕ → Type 0
-IsSettledWhere (what.Released b svn counts) nv = IsSettled nv
-IsSettledWhere that nv = Unit {0}
+-- the bank is released only where the store is settled
+abbrev pub IsSettledWhere : Bank → What → List ℕ → Type 0
+IsSettledWhere which (what.Released b svn counts) nv = same_bank which b ≡ true → IsSettled nv
+IsSettledWhere which that nv = Unit {0}
 
 -- P holds of spans that ended, and Q of those that are open here
 module _ (which : Bank) (P : Counts → Counts → Type 0) (Q : Counts → Type 0) (here : Counts) (ends : (begin : Counts) → Q begin → P begin here) where
@@ -153,17 +155,17 @@ module _ (which : Bank) (P : Counts → Counts → Type 0) (Q : Counts → Type 
   closing_if true counts spans opens e p = closing counts spans opens e p
   closing_if false counts spans opens e p = staying spans opens p
 
-  opening_if : (same : Bool) (counts : Counts) (spans : List (Counts × Counts)) (opens : List Counts) → counts ≡ here → Q here → AreAll spans opens
+  opening_if : (same : Bool) (counts : Counts) (spans : List (Counts × Counts)) (opens : List Counts) → counts ≡ here → (same ≡ true → Q here) → AreAll spans opens
       → AreAll (spans ++ []) (cond same (counts ∷ opens) opens)
-  opening_if true counts spans opens e q p = ((staying spans opens p).0, (subst Q (sym e) q, p.1))
+  opening_if true counts spans opens e q p = ((staying spans opens p).0, (subst Q (sym e) (q refl), p.1))
   opening_if false counts spans opens e q p = staying spans opens p
 
-  noted_all : (w : What) (nv : List ℕ) → IsStamped w here → IsSettledWhere w nv → (IsSettled nv → Q here) → (spans : List (Counts × Counts)) (opens : List Counts) → AreAll spans opens
+  noted_all : (w : What) (nv : List ℕ) → IsStamped w here → IsSettledWhere which w nv → (IsSettled nv → Q here) → (spans : List (Counts × Counts)) (opens : List Counts) → AreAll spans opens
       → AreAll (spans ++ ended which w opens) (opens_after which w opens)
   noted_all (what.Held b counts) nv e s q spans opens p = closing_if (same_bank which b) counts spans opens e p
   noted_all (what.Locked b cause counts) nv e s q spans opens p = closing_if (same_bank which b) counts spans opens e p
   noted_all (what.Lost which counts) nv e s q spans opens p = closing counts spans opens e p
-  noted_all (what.Released b svn counts) nv e s q spans opens p = opening_if (same_bank which b) counts spans opens e (q s) p
+  noted_all (what.Released b svn counts) nv e s q spans opens p = opening_if (same_bank which b) counts spans opens e (λ same. q (s same)) p
   noted_all _ nv e s q spans opens p = staying spans opens p
 
 -- where a span begins a release is noted
@@ -195,6 +197,42 @@ module _ (which : Bank) (P : Counts → Type 0) where
       let now = begin_note note.what opens p (λ svn at e. f svn at (inl e)) in
       let rest = begins (opens_after which note.what opens) notes now.1 (λ svn at n. f svn at (inr n)) in
       (ended_append (λ begin end. P begin) (ended which note.what opens) (ended_from which (opens_after which note.what opens) notes) now.0 rest.0, rest.1)
+
+-- ---- a bank stands released exactly where a span of it is open
+abbrev IsRunningWhere : Standing → List Counts → Type 0
+IsRunningWhere standing.Running opens = (begin : Counts) × (begins : List Counts) × (opens ≡ begin ∷ begins)
+IsRunningWhere s opens = opens ≡ []
+
+closed_if : (same : Bool) (to s : Standing) (opens : List Counts) → IsRunningWhere to [] → IsRunningWhere s opens → IsRunningWhere (cond same to s) (cond same [] opens)
+closed_if true to s opens p q = p
+closed_if false to s opens p q = q
+
+opened_if : (same : Bool) (at : Counts) (s : Standing) (opens : List Counts) → IsRunningWhere s opens → IsRunningWhere (cond same standing.Running s) (cond same (at ∷ opens) opens)
+opened_if true at s opens q = (at, opens, refl)
+opened_if false at s opens q = q
+
+running_note : (which : Bank) (w : What) (s : Standing) (opens : List Counts) → IsRunningWhere s opens → IsRunningWhere (standing_after which w s) (opens_after which w opens)
+running_note which (what.Held b at) s opens p = closed_if (same_bank which b) standing.Held s opens refl p
+running_note which (what.Locked b why at) s opens p = closed_if (same_bank which b) standing.Locked s opens refl p
+running_note which (what.Released b svn at) s opens p = opened_if (same_bank which b) at s opens p
+running_note which (what.Lost d at) s opens p = refl
+running_note which _ s opens p = p
+
+running_from : (which : Bank) (notes : List Note) (s : Standing) (opens : List Counts) → IsRunningWhere s opens → IsRunningWhere (standing_from which s notes) (opens_from which opens notes)
+running_from which [] s opens p = p
+running_from which (note ∷ notes) s opens p = running_from which notes (standing_after which note.what s) (opens_after which note.what opens) (running_note which note.what s opens p)
+
+pub running_spans : (which : Bank) (notes : List Note) → standing_of which notes ≡ standing.Running → (begin : Counts) × (begins : List Counts) × (opens_from which [] notes ≡ begin ∷ begins)
+running_spans which notes e = subst (λ (s : Standing). IsRunningWhere s (opens_from which [] notes)) e (running_from which notes standing.Off [] refl)
+
+pub none_or_running : (which : Bank) (notes : List Note) (P : Type 0) → (standing_of which notes ≡ standing.Running → P) → (opens_from which [] notes ≡ []) ⊎ P
+none_or_running which notes P f = by_standing (standing_of which notes) f (running_from which notes standing.Off [] refl)
+  where
+    by_standing : (s : Standing) → (s ≡ standing.Running → P) → IsRunningWhere s (opens_from which [] notes) → (opens_from which [] notes ≡ []) ⊎ P
+    by_standing standing.Running g p = inr (g refl)
+    by_standing standing.Off g p = inl p
+    by_standing standing.Held g p = inl p
+    by_standing standing.Locked g p = inl p
 
 module _ (accepts : Acceptance) (which : Bank) where
   -- a span as its devices go on, by what is the same and by the operations that it has now
@@ -317,7 +355,7 @@ module _ (accepts : Acceptance) (which : Bank) where
 
   -- A move that keeps the bank's spans.
   abbrev pub KeepsSpans : Rule
-  KeepsSpans (Says w) story = IsStamped (w (counts_of story)) (counts_of story) × IsSettledWhere (w (counts_of story)) (image_at device.Nv story)
+  KeepsSpans (Says w) story = IsStamped (w (counts_of story)) (counts_of story) × IsSettledWhere which (w (counts_of story)) (image_at device.Nv story)
   KeepsSpans (Does at op) story = AllOpen (SparesOpen at op story) (opens_from which [] story.notes)
   KeepsSpans (Asks at) story = Unit {0}
 
@@ -369,6 +407,12 @@ module _ (accepts : Acceptance) (which : Bank) where
       by_opens : (opens : List Counts) → AllOpen (IsOpen story) opens → (opens ≡ []) ⊎ IsSettled (image_at device.Nv story)
       by_opens [] p = inl refl
       by_opens (begin ∷ begins) p = inr p.0.settled
+
+  -- and where the bank stands released the store is
+  pub settled_running : (story : Story) → Kept story → standing_of which story.notes ≡ standing.Running → IsSettled (image_at device.Nv story)
+  settled_running story k runs =
+      let first = running_spans which story.notes runs in
+      (subst (λ (opens : List Counts). AllOpen (IsOpen story) opens) first.2 k.opened).0.settled
 
 -- ---- moves that keep spans keep them
 module _ (accepts : Acceptance) where

@@ -1,5 +1,5 @@
 -- Each step keeps the spans.
-use Rattle.std.proofs.Common.{◌≡◌, ◌∙◌, ℕ, ◌+◌, ◌≤◌, refl, sym, ap, subst, arith, List, [], ◌∷◌, length, length-append, All, ◌⊎◌, inl, inr, Some, Result, Ok, Err, true, false, Bool}
+use Rattle.std.proofs.Common.{◌≡◌, ◌∙◌, ℕ, ◌+◌, ◌≤◌, refl, sym, ap, subst, arith, List, [], ◌∷◌, length, length-append, All, ◌⊎◌, inl, inr, Some, Result, Ok, Err, true, false, Bool, ◌&&◌}
 use Rattle.std.proofs.lemmas.Bool.{false≢true}
 use Rattle.std.proofs.lemmas.List.Elements.{All-head, All-tail}
 use Rattle.pfr_flash.specs.Operation.{Operation, play, IsTorn}
@@ -24,6 +24,9 @@ use Rattle.pfr_fuses.specs.declared.root_slot.RootSlot.{RootSlot}
 use Rattle.pfr_manifest.specs.declared.manifest.Manifest.{Manifest}
 use Rattle.pfr_manifest.proofs.ApartLaw.{LeavesTrusted}
 use Rattle.pfr_auth.specs.Trusted.{IsTrusted}
+use Rattle.pfr_auth.specs.declared.fail.ActiveFail.{ActiveFail}
+use Rattle.pfr_jobs.specs.declared.job.JobKind.{JobKind}
+use Rattle.pfr_jobs.specs.declared.job.JobKind.TheVariants.{ActiveFromRecovery, ActiveFromStaging}
 use Rattle.pfr_capsule.specs.CapsuleState.{CapsuleState}
 use Rattle.pfr_filter.specs.Asking.{bus_ops}
 use Rattle.pfr_filter.specs.declared.verdict.BusOp.{BusOp}
@@ -31,33 +34,43 @@ use Rattle.pfr_filter.specs.declared.verdict.Verdict.TheVariants.{Pass}
 use Rattle.pfr_filter.proofs.SafeLaws.{torn_leaves}
 use Rattle.pfr_script.specs.declared.event.Event.{Event}
 use Rattle.pfr_script.specs.declared.event.Event.TheVariants as event
+use Rattle.pfr_script.specs.declared.event.Intent.{Intent}
+use Rattle.pfr_watch.specs.Stages.{next_stage}
+use Rattle.pfr_watch.specs.declared.stage.Stage.{Stage}
+use Rattle.pfr_report.specs.declared.note.Refusal.TheVariants as refusing
 use Rattle.pfr_report.specs.declared.note.Note.{Note}
 use Rattle.pfr_report.specs.declared.note.What.{What}
 use Rattle.pfr_report.specs.declared.note.What.TheVariants as what
-use Rattle.pfr_story.specs.Guards.{same_bank}
-use Rattle.pfr_story.specs.Story.{Past, Story, Move, Says, Does, Asks, after, moved_by, noted, with_op, operated, counts_of, past_at, image_of, device_of, called, says}
+use Rattle.pfr_story.specs.Guards.{Guards, same_bank}
+use Rattle.pfr_story.specs.Story.{Past, Story, Move, Says, Does, Asks, after, moved_by, noted, with_op, operated, counts_of, past_at, image_of, device_of, called, says, Plan, then}
 use Rattle.pfr_story.specs.World.{World, story_of}
+use Rattle.pfr_story.specs.Standing.{Standing, Off, Held, Running, Locked, is_running, standing_of}
 use Rattle.pfr_story.specs.Safety.{Rule, AllGood, AllSafe, Keeps, Both, Leads}
 use Rattle.pfr_story.specs.Spans.{opens_after, opens_from}
 use Rattle.pfr_story.specs.Promises.{count_at}
-use Rattle.pfr_story.specs.Plans.{mine, store, restore_ops, copied, restored, brought_up, migration_by, migration_in, migrated, provisioned_in, provisioned, Ruling, ruling, filtered, smbus_judged}
+use Rattle.pfr_story.specs.Plans.{mine, store, job_ops, copied, restored, brought_up, expired, updated, is_dynamic, updating, migration_by, migration_in, migrated, provisioned_in, provisioned, Ruling, ruling, filtered, smbus_judged}
 use Rattle.pfr_story.specs.Course.{Stretch, Follows}
-use Rattle.pfr_story.specs.Turn.{fault_of, bank_stretch, fuse_stretch, provision_stretch, spi_stretch, ignored, off_course, power_course, taken, begun, Turn}
+use Rattle.pfr_story.specs.Turn.{fault_of, bank_stretch, fuse_stretch, provision_stretch, spi_stretch, expiry_stretch, update_stretch, ignored, off_course, power_course, tick_course, boot_course, update_course, pass_note, stage_at, is_due, is_idle, taken, guards_at, begun, Turn}
 use Rattle.pfr_story.proofs.WorldLaws.{AllMoved-refl}
 use Rattle.pfr_story.proofs.SafetyLaws.{AllSafe-append, Leads-then, safe_whole, safe_cut, kept_by, notes_operated, image_called}
-use Rattle.pfr_story.proofs.Traces.{Traced, Traced-keeps}
-use Rattle.pfr_story.proofs.StepTraces.{Between, AllowsLosses, IsGoodStretch, noted_along, power_along, single_along}
-use Rattle.pfr_story.proofs.Courses.{Turn-cases}
+use Rattle.pfr_story.proofs.Traces.{IsStamped, Traced, Traced-keeps}
+use Rattle.pfr_story.proofs.StepTraces.{Between, AllowsLosses, IsGoodStretch, noted_along, power_along, single_along, tick_along, pass_noted}
+use Rattle.pfr_story.proofs.Courses.{Turn-cases, taken_runs, taken_boots}
 use Rattle.pfr_story.proofs.BusRules.{ruled, filtered_safe, calls_safe, smbus_safe}
 use Rattle.pfr_story.proofs.Rulings.{ruled_leaves}
-use Rattle.pfr_story.proofs.BringRules.{Any, ready_found, Walks, walk_safe}
+use Rattle.pfr_story.proofs.BringRules.{Any, ready_found, Walks, WalksBack, WalksAnew, walk_safe, level_at, expired_safe, updating_safe}
 use Rattle.pfr_story.proofs.FuseLaws.{profile_migrated, profile_kept, provisioned_refused}
 use Rattle.pfr_story.specs.Keeping.{IsSettled}
-use Rattle.pfr_story.proofs.SpanLaws.{past_upto, LeavesBank, IsTrustedAt, AllOpen, open_none, open_any, open_map, opens_push, same_one, longer_upto, IsOpen, Kept, SparesOpen, KeepsSpans, Kept-moves, none_or_settled, IsTrustedStill, still_trusted}
+use Rattle.pfr_story.proofs.SpanLaws.{past_upto, LeavesBank, IsTrustedAt, AllOpen, open_none, open_any, open_map, opens_push, same_one, longer_upto, IsOpen, Kept, SparesOpen, KeepsSpans, Kept-moves, none_or_settled, settled_running, IsSettledWhere, IsTrustedStill, still_trusted}
 
 -- a store that can be read is of profile 2
 abbrev pub NotOne : List ℕ → Type 0
 NotOne nv = (fuses : FusesState) → fuses_of nv ≡ Ok fuses → fuses.profile ≡ Two
+
+settled_two : (nv : List ℕ) → IsSettled nv → NotOne nv
+settled_two nv q fuses f =
+    let same : q.fuses ≡ fuses = (let both : Ok q.fuses ≡ Ok fuses = sym q.provisioned ∙ f in cc) in
+    subst (λ (x : FusesState). x.profile ≡ Two) same q.two
 
 -- ---- the fuses are migrated
 settled_none : (nv : List ℕ) → IsSettled nv → migration_in (fuses_of nv) ≡ []
@@ -92,6 +105,16 @@ safe_first G H [] story p = tt
 safe_first G H (Says w ∷ moves) story p = (p.0.0, safe_first G H moves (moved_by (Says w) story) p.1)
 safe_first G H (Does at op ∷ moves) story p = ((p.0.0.0, λ done t. (p.0.1 done t).0), safe_first G H moves (moved_by (Does at op) story) p.1)
 safe_first G H (Asks at ∷ moves) story p = (p.0.0, safe_first G H moves (moved_by (Asks at) story) p.1)
+
+-- ---- a bank whose watch expires by ticks runs
+due_by : (s : Standing) (expires : Bool) → (is_running s && expires) ≡ true → s ≡ Running
+due_by Running expires e = refl
+due_by Off expires e = absurd (let never : false ≡ true = e in cc)
+due_by Held expires e = absurd (let never : false ≡ true = e in cc)
+due_by Locked expires e = absurd (let never : false ≡ true = e in cc)
+
+due_runs : (b : Bank) (n : ℕ) (story : Story) → is_due b n story ≡ true → standing_of b story.notes ≡ Running
+due_runs b n story e = due_by (standing_of b story.notes) _ e
 
 -- ---- a bank's own operations leave its open spans
 -- each of these operations leaves what the trust at the span's begin stands on
@@ -159,32 +182,44 @@ module _ (accepts : Acceptance) (which : Bank) where
   abbrev InWork : Rule
   InWork = Both (KeepsSpans accepts which) LeavesNv
 
-  -- Bank b is in work: no span of this bank is open, or it is the other one; and the store is settled.
-  record AtWork (b : Bank) (story : Story) : Type 0 where
-    pub idle : (opens_from which [] story.notes ≡ []) ⊎ (same_bank which b ≡ false)
-    pub settled : IsSettled (store story)
+  -- no span of this bank is open, or another bank is in work and the store is settled
+  abbrev IsIdle : Bank → Bank → Story → Type 0
+  IsIdle w b story = (opens_from w [] story.notes ≡ []) ⊎ ((same_bank w b ≡ false) × IsSettled (store story))
 
-  held_idle : (w b : Bank) (story : Story) → (opens_from w [] (noted (what.Held b) story).notes ≡ []) ⊎ (same_bank w b ≡ false)
-  held_idle bank.Bmc bank.Bmc story = inl (opens_push bank.Bmc [] story.notes (record { item = story.item; what = what.Held bank.Bmc (counts_of story) }))
-  held_idle bank.Bmc bank.Pch story = inr refl
-  held_idle bank.Pch bank.Bmc story = inr refl
-  held_idle bank.Pch bank.Pch story = inl (opens_push bank.Pch [] story.notes (record { item = story.item; what = what.Held bank.Pch (counts_of story) }))
+  -- Bank b is in work; where it is this bank, the store is settled.
+  record AtWork (b : Bank) (story : Story) : Type 0 where
+    pub idle : IsIdle which b story
+    pub settled : same_bank which b ≡ true → IsSettled (store story)
+
+  opens_told : (w : Bank) (that : Counts → What) (story : Story) → opens_from w [] (noted that story).notes ≡ opens_after w (that (counts_of story)) (opens_from w [] story.notes)
+  opens_told w that story = opens_push w [] story.notes (record { item = story.item; what = that (counts_of story) })
+
+  held_aside : (w b : Bank) (story : Story) → same_bank w b ≡ false → (opens_from w [] story.notes ≡ []) ⊎ IsSettled (store story) → IsIdle w b (noted (what.Held b) story)
+  held_aside bank.Bmc bank.Bmc story other p = absurd cc
+  held_aside bank.Bmc bank.Pch story other p = elim p [ inl none ↦ inl (opens_told bank.Bmc (what.Held bank.Pch) story ∙ none) | inr q ↦ inr (refl, q) ]
+  held_aside bank.Pch bank.Bmc story other p = elim p [ inl none ↦ inl (opens_told bank.Pch (what.Held bank.Bmc) story ∙ none) | inr q ↦ inr (refl, q) ]
+  held_aside bank.Pch bank.Pch story other p = absurd cc
+
+  held_idle : (w b : Bank) (story : Story) → (opens_from w [] story.notes ≡ []) ⊎ IsSettled (store story) → IsIdle w b (noted (what.Held b) story)
+  held_idle bank.Bmc bank.Bmc story p = inl (opens_told bank.Bmc (what.Held bank.Bmc) story)
+  held_idle bank.Bmc bank.Pch story p = held_aside bank.Bmc bank.Pch story refl p
+  held_idle bank.Pch bank.Bmc story p = held_aside bank.Pch bank.Bmc story refl p
+  held_idle bank.Pch bank.Pch story p = inl (opens_told bank.Pch (what.Held bank.Pch) story)
 
   -- an operation of the bank in work
-  spared_at : (w b : Bank) (op : Operation) (story : Story) → (opens_from w [] story.notes ≡ []) ⊎ (same_bank w b ≡ false) → IsSettled (store story)
-      → KeepsSpans accepts w (Does (device_of b) op) story
-  spared_at w b op story (inl e) q = open_none (SparesOpen accepts w (device_of b) op story) (opens_from w [] story.notes) e
-  spared_at bank.Bmc bank.Bmc op story (inr other) q = absurd cc
-  spared_at bank.Bmc bank.Pch op story (inr other) q = open_any (SparesOpen accepts bank.Bmc device.Pch op story) (λ begin. record { spares = λ t. tt; settled = q }) (opens_from bank.Bmc [] story.notes)
-  spared_at bank.Pch bank.Bmc op story (inr other) q = open_any (SparesOpen accepts bank.Pch device.Bmc op story) (λ begin. record { spares = λ t. tt; settled = q }) (opens_from bank.Pch [] story.notes)
-  spared_at bank.Pch bank.Pch op story (inr other) q = absurd cc
+  spared_at : (w b : Bank) (op : Operation) (story : Story) → IsIdle w b story → KeepsSpans accepts w (Does (device_of b) op) story
+  spared_at w b op story (inl e) = open_none (SparesOpen accepts w (device_of b) op story) (opens_from w [] story.notes) e
+  spared_at bank.Bmc bank.Bmc op story (inr other) = absurd (let e = other.0 in cc)
+  spared_at bank.Bmc bank.Pch op story (inr other) = open_any (SparesOpen accepts bank.Bmc device.Pch op story) (λ begin. record { spares = λ t. tt; settled = other.1 }) (opens_from bank.Bmc [] story.notes)
+  spared_at bank.Pch bank.Bmc op story (inr other) = open_any (SparesOpen accepts bank.Pch device.Bmc op story) (λ begin. record { spares = λ t. tt; settled = other.1 }) (opens_from bank.Pch [] story.notes)
+  spared_at bank.Pch bank.Pch op story (inr other) = absurd (let e = other.0 in cc)
 
   leaves_nv : (b : Bank) (op : Operation) (story : Story) → LeavesNv (Does (device_of b) op) story
   leaves_nv bank.Bmc op story = tt
   leaves_nv bank.Pch op story = tt
 
   op_safe : (b : Bank) (op : Operation) (story : Story) → AtWork b story → InWork (Does (device_of b) op) story
-  op_safe b op story w = (spared_at which b op story w.idle w.settled, leaves_nv b op story)
+  op_safe b op story w = (spared_at which b op story w.idle, leaves_nv b op story)
 
   op_work : (b : Bank) (op : Operation) (story : Story) → AtWork b story → AtWork b (operated (device_of b) op story)
   op_work bank.Bmc op story w = record { idle = w.idle; settled = w.settled }
@@ -201,34 +236,44 @@ module _ (accepts : Acceptance) (which : Bank) where
   -- a note that neither opens nor ends a span
   still_work : (b : Bank) (w : Counts → What) (story : Story) → ((opens : List Counts) → opens_after which (w (counts_of story)) opens ≡ opens) → AtWork b story → AtWork b (noted w story)
   still_work b w story still p =
-      let note : Note = record { item = story.item; what = w (counts_of story) } in
       record {
-        idle = elim p.idle [
-          | inl e ↦ inl (opens_push which [] story.notes note ∙ still (opens_from which [] story.notes) ∙ e)
-          | inr other ↦ inr other
-        ];
+        idle = elim p.idle [ inl e ↦ inl (opens_told which w story ∙ still (opens_from which [] story.notes) ∙ e) | inr other ↦ inr other ];
         settled = p.settled;
       }
 
   module _ (b : Bank) where
-    restored_leads : (level : ℕ) (fuses : FusesState) (capsule : CapsuleState) → Leads InWork (AtWork b) (restored b level fuses capsule) (AtWork b)
-    restored_leads level fuses capsule =
-        Leads-then InWork (AtWork b) (AtWork b) (AtWork b) (copied b level fuses capsule) (says (λ _. what.Restored b level))
+    -- a job, and what is noted of it
+    job_told : (kind : JobKind) (fuses : FusesState) (capsule : CapsuleState) (that : What) → ((counts : Counts) → IsStamped that counts) → ((nv : List ℕ) → IsSettledWhere which that nv)
+        → ((opens : List Counts) → opens_after which that opens ≡ opens) → Leads InWork (AtWork b) (then (copied b kind fuses capsule) (says (λ _. that))) (AtWork b)
+    job_told kind fuses capsule that stamped settled still =
+        Leads-then InWork (AtWork b) (AtWork b) (AtWork b) (copied b kind fuses capsule) (says (λ _. that))
         (record {
-          safe = λ story w. ops_safe b (restore_ops level (mine b story) capsule (layout_of fuses.provision b)) story w;
-          ends = λ story w. ops_work b (restore_ops level (mine b story) capsule (layout_of fuses.provision b)) story w;
+          safe = λ story w. ops_safe b (job_ops kind (mine b story) capsule (layout_of fuses.provision b)) story w;
+          ends = λ story w. ops_work b (job_ops kind (mine b story) capsule (layout_of fuses.provision b)) story w;
         })
-        (record { safe = λ story w. (((tt, tt), tt), tt); ends = λ story w. still_work b (λ _. what.Restored b level) story (λ opens. refl) w })
+        (record { safe = λ story w. (((stamped (counts_of story), settled (store story)), tt), tt); ends = λ story w. still_work b (λ _. that) story still w })
+
+    restored_leads : (level : ℕ) (fuses : FusesState) (capsule : CapsuleState) → Leads InWork (AtWork b) (restored b level fuses capsule) (AtWork b)
+    restored_leads level fuses capsule = job_told (ActiveFromRecovery level) fuses capsule (what.Restored b level) (λ counts. tt) (λ nv. tt) (λ opens. refl)
+
+    updated_leads : (dynamic : Bool) (fuses : FusesState) (capsule : CapsuleState) → Leads InWork (AtWork b) (updated b dynamic fuses capsule) (AtWork b)
+    updated_leads dynamic fuses capsule = job_told (ActiveFromStaging dynamic) fuses capsule (what.Updated b dynamic capsule.manifest.svn) (λ counts. tt) (λ nv. tt) (λ opens. refl)
 
     -- behind Held
-    abbrev IsIdle : Story → Type 0
-    IsIdle story = ((opens_from which [] story.notes ≡ []) ⊎ (same_bank which b ≡ false)) × NotOne (store story)
+    abbrev IsHeld : Story → Type 0
+    IsHeld story = IsIdle which b story × (same_bank which b ≡ true → NotOne (store story))
 
-    span_walks : Walks InWork accepts b IsIdle (λ fuses story. AtWork b story) (λ fuses cause story. AtWork b story) (λ fuses story. AtWork b story)
+    abbrev Ready : FusesState → Story → Type 0
+    Ready fuses story = AtWork b story
+
+    abbrev Told : FusesState → ActiveFail → Story → Type 0
+    Told fuses cause story = AtWork b story
+
+    span_walks : Walks InWork accepts b IsHeld Ready Told Ready
     span_walks = record {
       asks = λ at story own. (tt, tt);
       ready = λ fuses story q e.
-          let f = (ready_found b fuses story e).provisioned in record { idle = q.0; settled = record { fuses = fuses; provisioned = f; two = q.1 fuses f } };
+          let f = (ready_found b fuses story e).provisioned in record { idle = q.0; settled = λ same. record { fuses = fuses; provisioned = f; two = q.1 same fuses f } };
       unready = λ cause story q e. ((refl, tt), tt);
       released = λ fuses m story w j. ((refl, w.settled), tt);
       untrusted = λ fuses cause story w j. (((tt, tt), tt), still_work b (λ _. what.Untrusted b cause) story (λ opens. refl) w);
@@ -237,9 +282,46 @@ module _ (accepts : Acceptance) (which : Bank) where
       again = λ fuses m story w j. ((refl, w.settled), tt);
     }
 
-    brought_safe : (story : Story) → NotOne (store story) → AllSafe InWork (brought_up accepts b story) story
-    brought_safe story two =
-        walk_safe InWork accepts b IsIdle (λ fuses there. AtWork b there) (λ fuses cause there. AtWork b there) (λ fuses there. AtWork b there) span_walks story ((refl, tt), tt) (held_idle which b story, two)
+    span_back : (level : ℕ) → WalksBack InWork accepts b level IsHeld Ready Ready
+    span_back level = record {
+      spent = λ story few q. ((refl, tt), tt);
+      no_recovery = λ fuses cause story few w j. ((refl, tt), tt);
+      restores = λ fuses capsule story few w j. ((restored_leads level fuses capsule).safe story w, (restored_leads level fuses capsule).ends story w);
+    }
+
+    span_anew : (dynamic : Bool) → WalksAnew InWork accepts b dynamic Ready Ready
+    span_anew dynamic = record {
+      staged = λ fuses capsule story w j. ((updated_leads dynamic fuses capsule).safe story w, (updated_leads dynamic fuses capsule).ends story w);
+      refused = λ fuses cause story w j. (((tt, tt), tt), still_work b (λ _. what.Refused b (refusing.Capsule cause)) story (λ opens. refl) w);
+    }
+
+    -- No span of this bank is open, or the store is settled, before bank b is held; where b is this bank, a store that can be read is
+    -- of profile 2.
+    record CanBegin (story : Story) : Type 0 where
+      pub none : (opens_from which [] story.notes ≡ []) ⊎ IsSettled (store story)
+      pub two : same_bank which b ≡ true → NotOne (store story)
+
+    begin_held : (story : Story) → CanBegin story → IsHeld (noted (what.Held b) story)
+    begin_held story c = (held_idle which b story c.none, c.two)
+
+    brought_safe : (story : Story) → CanBegin story → AllSafe InWork (brought_up accepts b story) story
+    brought_safe story c = walk_safe InWork accepts b IsHeld Ready Told Ready span_walks story ((refl, tt), tt) (begin_held story c)
+
+    begin_told : (that : What) (story : Story) → ((opens : List Counts) → opens_after which that opens ≡ opens) → CanBegin story → CanBegin (noted (λ _. that) story)
+    begin_told that story still c = record {
+      none = elim c.none [ inl e ↦ inl (opens_told which (λ _. that) story ∙ still (opens_from which [] story.notes) ∙ e) | inr q ↦ inr q ];
+      two = c.two;
+    }
+
+    expired_kept : (story : Story) → CanBegin story → AllSafe InWork (expired accepts b story) story
+    expired_kept story c =
+        let told : Story = noted (λ _. what.Expired b (level_at b story)) story in
+        expired_safe InWork accepts b IsHeld Ready Told Ready span_walks story (span_back (level_at b story)) ((tt, tt), tt) ((refl, tt), tt)
+        (begin_held told (begin_told (what.Expired b (level_at b story)) story (λ opens. refl) c))
+
+    updating_kept : (intent : Intent) (story : Story) → CanBegin story → AllSafe InWork (updating accepts b intent story) story
+    updating_kept intent story c =
+        updating_safe InWork accepts b IsHeld Ready Told Ready span_walks intent story (span_anew (is_dynamic intent)) ((refl, tt), tt) (begin_held story c)
 
   -- ---- a frame on the SPI bus of a bank
   -- what passes on the bank's own bus is judged by what each open span that began with trust is trusted by
@@ -268,7 +350,7 @@ module _ (accepts : Acceptance) (which : Bank) where
       subst (λ (x : Bank). AllSafe (KeepsSpans accepts which) (called (device_of x) (bus_ops op)) story) (sym is) (own_safe accepts which (bus_ops op) story leaves)
   frame_safe b frame r op story k found passed false e = elim (none_or_settled accepts which story k) [
     | inl none ↦ idle_safe (device_of b) (bus_ops op) story none
-    | inr q ↦ safe_first (KeepsSpans accepts which) LeavesNv (called (device_of b) (bus_ops op)) story (ops_safe b (bus_ops op) story (record { idle = inr e; settled = q }))
+    | inr q ↦ safe_first (KeepsSpans accepts which) LeavesNv (called (device_of b) (bus_ops op)) story (ops_safe b (bus_ops op) story (record { idle = inr (e, q); settled = λ same. q }))
   ]
 
   passing_safe : (b : Bank) (frame : List ℕ) (story : Story) → Kept accepts which story → AllSafe (KeepsSpans accepts which) (filtered accepts b frame story) story
@@ -279,34 +361,54 @@ module _ (accepts : Acceptance) (which : Bank) where
   })
 
   -- ---- the stretches
-  -- the spans are kept, before the fuses are read, and behind that
+  -- the spans are kept where the step begins
   record Early (story : Story) : Type 0 where
     pub kept : Kept accepts which story
     pub size : length story.nv.start ≡ 32768
 
-  record Late (story : Story) : Type 0 where
+  -- they are kept where work on a bank begins; and where this is so, a store that can be read is of profile 2
+  record Late (R : Type 0) (story : Story) : Type 0 where
     pub kept : Kept accepts which story
-    pub two : NotOne (store story)
+    pub two : R → NotOne (store story)
 
-  late_moves : Keeps InWork Late
-  late_moves (Says w) story g p = record { kept = Kept-moves accepts which (Says w) story g.0 p.kept; two = p.two }
-  late_moves (Does device.Bmc op) story g p = record { kept = Kept-moves accepts which (Does device.Bmc op) story g.0 p.kept; two = p.two }
-  late_moves (Does device.Pch op) story g p = record { kept = Kept-moves accepts which (Does device.Pch op) story g.0 p.kept; two = p.two }
-  late_moves (Does device.Nv op) story g p = absurd g.1
-  late_moves (Asks at) story g p = p
+  can_begin : (R : Type 0) (b : Bank) (story : Story) → (same_bank which b ≡ true → R) → Late R story → CanBegin b story
+  can_begin R b story f p = record { none = none_or_settled accepts which story p.kept; two = λ same. p.two (f same) }
+
+  late_moves : (R : Type 0) → Keeps InWork (Late R)
+  late_moves R (Says w) story g p = record { kept = Kept-moves accepts which (Says w) story g.0 p.kept; two = p.two }
+  late_moves R (Does device.Bmc op) story g p = record { kept = Kept-moves accepts which (Does device.Bmc op) story g.0 p.kept; two = p.two }
+  late_moves R (Does device.Pch op) story g p = record { kept = Kept-moves accepts which (Does device.Pch op) story g.0 p.kept; two = p.two }
+  late_moves R (Does device.Nv op) story g p = absurd g.1
+  late_moves R (Asks at) story g p = p
 
   module _ (first last : World) where
-    bank_kept : (b : Bank) → IsGoodStretch (KeepsSpans accepts which) first last Any Late (bank_stretch accepts b) Late
-    bank_kept b = record {
+    -- work on a bank, which is locked where a call fails
+    abbrev locking : Bank → Plan → Bool → Stretch
+    locking b plan on = record { plan = plan; on_fault = λ device. Says (what.Locked b (fault_of device)) ∷ []; goes_on = on }
+
+    work_kept : (R : Type 0) (b : Bank) (plan : Plan) (on : Bool) → ((story : Story) → Late R story → AllSafe InWork (plan story) story)
+        → IsGoodStretch (KeepsSpans accepts which) first last Any (Late R) (locking b plan on) (Late R)
+    work_kept R b plan on work = record {
       plan = record {
-        safe = λ story p. safe_first (KeepsSpans accepts which) LeavesNv (brought_up accepts b story) story (brought_safe b story p.1.two);
-        ends = λ story p. kept_by InWork Late late_moves (brought_up accepts b story) story (safe_whole InWork (brought_up accepts b story) story (brought_safe b story p.1.two)) p.1;
+        safe = λ story p. safe_first (KeepsSpans accepts which) LeavesNv (plan story) story (work story p.1);
+        ends = λ story p. kept_by InWork (Late R) (late_moves R) (plan story) story (safe_whole InWork (plan story) story (work story p.1)) p.1;
       };
       noted = λ at story trace p cut rose. ((refl, tt), tt);
       on = λ at story trace p cut e.
-          let there = kept_by InWork Late late_moves trace story (safe_cut InWork at (brought_up accepts b story) trace story (brought_safe b story p.1.two) cut) p.1 in
-          late_moves (Says (what.Locked b (fault_of at))) (after trace story) ((refl, tt), tt) there;
+          let there = kept_by InWork (Late R) (late_moves R) trace story (safe_cut InWork at (plan story) trace story (work story p.1) cut) p.1 in
+          late_moves R (Says (what.Locked b (fault_of at))) (after trace story) ((refl, tt), tt) there;
     }
+
+    -- once the fuses were read
+    bank_kept : (b : Bank) → IsGoodStretch (KeepsSpans accepts which) first last Any (Late (Unit {0})) (bank_stretch accepts b) (Late (Unit {0}))
+    bank_kept b = work_kept (Unit {0}) b (brought_up accepts b) true (λ story p. brought_safe b story (can_begin (Unit {0}) b story (λ same. tt) p))
+
+    expiry_kept : (R : Type 0) (b : Bank) → (same_bank which b ≡ true → R) → IsGoodStretch (KeepsSpans accepts which) first last Any (Late R) (expiry_stretch accepts b) (Late R)
+    expiry_kept R b f = work_kept R b (expired accepts b) true (λ story p. expired_kept b story (can_begin R b story f p))
+
+    update_kept : (R : Type 0) (b : Bank) (intent : Intent) → (same_bank which b ≡ true → R)
+        → IsGoodStretch (KeepsSpans accepts which) first last Any (Late R) (update_stretch accepts b intent) (Late R)
+    update_kept R b intent f = work_kept R b (updating accepts b intent) false (λ story p. updating_kept b intent story (can_begin R b story f p))
 
     migrated_safe : (story : Story) → Kept accepts which story → AllSafe (KeepsSpans accepts which) (migrated story) story
     migrated_safe story k = (
@@ -317,14 +419,14 @@ module _ (accepts : Acceptance) (which : Bank) where
       ],
     )
 
-    fuse_kept : IsGoodStretch (KeepsSpans accepts which) first last Any Early fuse_stretch Late
+    fuse_kept : IsGoodStretch (KeepsSpans accepts which) first last Any Early fuse_stretch (Late (Unit {0}))
     fuse_kept = record {
       plan = record {
         safe = λ story p. migrated_safe story p.1.kept;
         ends = λ story p. record {
           kept = kept_by (KeepsSpans accepts which) (Kept accepts which) (Kept-moves accepts which) (migrated story) story
               (safe_whole (KeepsSpans accepts which) (migrated story) story (migrated_safe story p.1.kept)) p.1.kept;
-          two = not_one_then story p.1.size;
+          two = λ any. not_one_then story p.1.size;
         };
       };
       noted = λ at story trace p cut rose. ((refl, tt), ((refl, tt), ((refl, tt), ((refl, tt), tt))));
@@ -363,58 +465,92 @@ module _ (accepts : Acceptance) (which : Bank) where
     }
 
   -- ---- a whole step
-  module _ (old new : World) where
-    within : Between (begun old) new (begun old) new
-    within = record { before = AllMoved-refl (begun old); behind = AllMoved-refl new }
+  module _ (e : Event) (old new : World) where
+    abbrev first : World
+    first = begun e old
 
-    allows : AllowsLosses (KeepsSpans accepts which) (begun old) new
+    within : Between first new first new
+    within = record { before = AllMoved-refl first; behind = AllMoved-refl new }
+
+    allows : AllowsLosses (KeepsSpans accepts which) first new
     allows at story fell = ((refl, tt), tt)
 
-    noted_kept : (moves : List Move) → Follows (record { first = moves; stretches = [] }) (begun old) new → AllGood (KeepsSpans accepts which) moves (story_of (begun old))
-        → Traced (KeepsSpans accepts which) (begun old) new
-    noted_kept moves t good = noted_along (KeepsSpans accepts which) (begun old) new Any (λ w moved. tt) allows (begun old) new within moves t good
+    noted_kept : (moves : List Move) → Follows (record { first = moves; stretches = [] }) first new → AllGood (KeepsSpans accepts which) moves (story_of first)
+        → Traced (KeepsSpans accepts which) first new
+    noted_kept moves t good = noted_along (KeepsSpans accepts which) first new Any (λ w moved. tt) allows first new within moves t good
 
-    single_kept : (stretch : Stretch) → IsGoodStretch (KeepsSpans accepts which) (begun old) new Any Early stretch Any → Early (story_of (begun old))
-        → Follows (record { first = []; stretches = stretch ∷ [] }) (begun old) new → Traced (KeepsSpans accepts which) (begun old) new
-    single_kept stretch good p t = single_along (KeepsSpans accepts which) (begun old) new Any (λ w moved. tt) allows (begun old) new within stretch Early Any good p t
+    single_kept : (stretch : Stretch) (P Q : Story → Type 0) → IsGoodStretch (KeepsSpans accepts which) first new Any P stretch Q → P (story_of first)
+        → Follows (record { first = []; stretches = stretch ∷ [] }) first new → Traced (KeepsSpans accepts which) first new
+    single_kept stretch P Q good p t = single_along (KeepsSpans accepts which) first new Any (λ w moved. tt) allows first new within stretch P Q good p t
 
-    power_kept : Early (story_of (begun old)) → Follows (power_course accepts) (begun old) new → Traced (KeepsSpans accepts which) (begun old) new
+    power_kept : Early (story_of first) → Follows (power_course accepts) first new → Traced (KeepsSpans accepts which) first new
     power_kept p t =
-        power_along (KeepsSpans accepts which) (begun old) new Any (λ w moved. tt) allows (begun old) new within accepts Early Late Late Late
-        (fuse_kept (begun old) new) (bank_kept (begun old) new bank.Bmc) (bank_kept (begun old) new bank.Pch) (tt, tt)
-        (record { kept = Kept-moves accepts which (Says (λ _. what.Power)) (story_of (begun old)) (tt, tt) p.kept; size = p.size }) t
+        power_along (KeepsSpans accepts which) first new Any (λ w moved. tt) allows first new within accepts Early (Late (Unit {0})) (Late (Unit {0})) (Late (Unit {0}))
+        (fuse_kept first new) (bank_kept first new bank.Bmc) (bank_kept first new bank.Pch) (tt, tt)
+        (record { kept = Kept-moves accepts which (Says (λ _. what.Power)) (story_of first) (tt, tt) p.kept; size = p.size }) t
 
-    taken_kept : (e : Event) → Early (story_of (begun old)) → Follows (taken accepts e (story_of old)) (begun old) new → Traced (KeepsSpans accepts which) (begun old) new
-    taken_kept event.Power p t = power_kept p t
-    taken_kept event.Off p t = noted_kept off_course.first t ((refl, tt), tt)
-    taken_kept (event.Provision root) p t = single_kept (provision_stretch root) (provision_kept (begun old) new root) p t
-    taken_kept (event.Spi b frame) p t = single_kept (spi_stretch accepts b frame) (spi_kept (begun old) new b frame) p t
-    taken_kept (event.Smbus b frame) p t =
+    -- where the bank runs at first, the store is settled
+    abbrev RunsAtFirst : Type 0
+    RunsAtFirst = standing_of which old.notes.list ≡ Running
+
+    late_first : Early (story_of first) → Late RunsAtFirst (story_of first)
+    late_first p = record { kept = p.kept; two = λ runs. settled_two (store (story_of first)) (settled_running accepts which (story_of first) p.kept runs) }
+
+    runs_same : (b : Bank) → standing_of b old.notes.list ≡ Running → same_bank which b ≡ true → RunsAtFirst
+    runs_same b runs same = subst (λ (x : Bank). standing_of x old.notes.list ≡ Running) (same_one which b same) runs
+
+    expiry_first : (b : Bank) → standing_of b old.notes.list ≡ Running → IsGoodStretch (KeepsSpans accepts which) first new Any (Late RunsAtFirst) (expiry_stretch accepts b) (Late RunsAtFirst)
+    expiry_first b runs = expiry_kept first new RunsAtFirst b (runs_same b runs)
+
+    tick_kept : (n : ℕ) → Early (story_of first) → Follows (tick_course accepts n (story_of old)) first new → Traced (KeepsSpans accepts which) first new
+    tick_kept n p t =
+        tick_along (KeepsSpans accepts which) first new Any (λ w moved. tt) allows first new within accepts n (story_of old) (Late RunsAtFirst) (Late RunsAtFirst) (Late RunsAtFirst)
+        (λ due. expiry_first bank.Bmc (due_runs bank.Bmc n (story_of old) due)) (λ there q. q) (λ due. expiry_first bank.Pch (due_runs bank.Pch n (story_of old) due)) (λ there q. q) (late_first p) t
+
+    boot_kept : (b : Bank) (pass : Bool) → standing_of b old.notes.list ≡ Running → Early (story_of first) → Follows (boot_course accepts b pass (story_of old)) first new
+        → Traced (KeepsSpans accepts which) first new
+    boot_kept b true runs p t = let stage : Stage = stage_at b (story_of old) in noted_kept (Says (λ _. pass_note b stage (next_stage stage)) ∷ []) t (pass_noted (λ that. KeepsSpans accepts which (Says (λ _. that)) (story_of first)) b stage (next_stage stage) (λ done. (tt, tt)) (λ on. (tt, tt)), tt)
+    boot_kept b false runs p t = single_kept (expiry_stretch accepts b) (Late RunsAtFirst) (Late RunsAtFirst) (expiry_first b runs) (late_first p) t
+
+    update_kept_first : (b : Bank) (intent : Intent) → standing_of b old.notes.list ≡ Running → Early (story_of first) → Follows (update_course accepts b intent) first new → Traced (KeepsSpans accepts which) first new
+    update_kept_first b intent runs p t =
+        single_kept (update_stretch accepts b intent) (Late RunsAtFirst) (Late RunsAtFirst) (update_kept first new RunsAtFirst b intent (runs_same b runs)) (late_first p) t
+
+  module _ (old new : World) where
+    taken_kept : (e : Event) → is_idle e (story_of old) ≡ false → Early (story_of (begun e old)) → Follows (taken accepts e (story_of old)) (begun e old) new → Traced (KeepsSpans accepts which) (begun e old) new
+    taken_kept event.Power on p t = power_kept event.Power old new p t
+    taken_kept event.Off on p t = noted_kept event.Off old new off_course.first t ((refl, tt), tt)
+    taken_kept (event.Provision root) on p t = single_kept (event.Provision root) old new (provision_stretch root) Early Any (provision_kept (begun (event.Provision root) old) new root) p t
+    taken_kept (event.Spi b frame) on p t = single_kept (event.Spi b frame) old new (spi_stretch accepts b frame) Early Any (spi_kept (begun (event.Spi b frame) old) new b frame) p t
+    taken_kept (event.Smbus b frame) on p t =
         let moves : List Move = smbus_judged accepts b frame (story_of old) in
-        noted_kept moves t (safe_whole (KeepsSpans accepts which) moves (story_of (begun old))
-        (smbus_safe (KeepsSpans accepts which) accepts b frame (record { passed = λ story. (tt, tt); blocked = λ cause story. (tt, tt) }) (story_of old) (story_of (begun old))))
+        noted_kept (event.Smbus b frame) old new moves t (safe_whole (KeepsSpans accepts which) moves (story_of (begun (event.Smbus b frame) old))
+        (smbus_safe (KeepsSpans accepts which) accepts b frame (record { passed = λ story. (tt, tt); blocked = λ cause story. (tt, tt) }) (story_of old) (story_of (begun (event.Smbus b frame) old))))
+    taken_kept (event.Tick n) on p t = tick_kept (event.Tick n) old new n p t
+    taken_kept (event.Boot b pass) on p t = boot_kept (event.Boot b pass) old new b pass (taken_boots (standing_of b old.notes.list) (stage_at b (story_of old)) on).0 p t
+    taken_kept (event.Update b intent) on p t = update_kept_first (event.Update b intent) old new b intent (taken_runs (standing_of b old.notes.list) on) p t
 
-    Turn-early : (e : Event) → Early (story_of (begun old)) → Turn accepts e old new → Traced (KeepsSpans accepts which) (begun old) new
+    Turn-early : (e : Event) → Early (story_of (begun e old)) → Turn accepts e old new → Traced (KeepsSpans accepts which) (begun e old) new
     Turn-early e p t = elim (Turn-cases accepts e old new t) [
-      | inl idle ↦ noted_kept ignored.first idle.1 ((tt, tt), tt)
-      | inr on ↦ taken_kept e p on.1
+      | inl idle ↦ noted_kept e old new ignored.first idle.1 ((tt, tt), tt)
+      | inr on ↦ taken_kept e on.0 p on.1
     ]
 
--- the number of the item says nothing of spans
-pub Kept-item : (accepts : Acceptance) (which : Bank) (n : ℕ) (story : Story) → Kept accepts which story → Kept accepts which (record story { item = n })
-Kept-item accepts bank.Bmc n story k = record {
+-- neither the number of the item nor what guards the banks says anything of spans
+pub Kept-item : (accepts : Acceptance) (which : Bank) (n : ℕ) (guards : Guards) (story : Story) → Kept accepts which story → Kept accepts which (record story { item = n; guards = guards })
+Kept-item accepts bank.Bmc n guards story k = record {
   closed = k.closed;
-  opened = open_map (IsOpen accepts bank.Bmc story) (IsOpen accepts bank.Bmc (record story { item = n })) (λ begin o. record { kept = o.kept; settled = o.settled }) (opens_from bank.Bmc [] story.notes) k.opened;
+  opened = open_map (IsOpen accepts bank.Bmc story) (IsOpen accepts bank.Bmc (record story { item = n; guards = guards })) (λ begin o. record { kept = o.kept; settled = o.settled }) (opens_from bank.Bmc [] story.notes) k.opened;
 }
-Kept-item accepts bank.Pch n story k = record {
+Kept-item accepts bank.Pch n guards story k = record {
   closed = k.closed;
-  opened = open_map (IsOpen accepts bank.Pch story) (IsOpen accepts bank.Pch (record story { item = n })) (λ begin o. record { kept = o.kept; settled = o.settled }) (opens_from bank.Pch [] story.notes) k.opened;
+  opened = open_map (IsOpen accepts bank.Pch story) (IsOpen accepts bank.Pch (record story { item = n; guards = guards })) (λ begin o. record { kept = o.kept; settled = o.settled }) (opens_from bank.Pch [] story.notes) k.opened;
 }
 
 -- Each step keeps the spans of each bank.
 pub Turn-spans : (accepts : Acceptance) (which : Bank) (e : Event) (old new : World) → Turn accepts e old new → length old.nv.start ≡ 32768
     → Kept accepts which (story_of old) → Kept accepts which (story_of new)
 Turn-spans accepts which e old new t size k =
-    let here : Kept accepts which (story_of (begun old)) = Kept-item accepts which (old.item + 1) (story_of old) k in
-    Traced-keeps (KeepsSpans accepts which) (Kept accepts which) (Kept-moves accepts which) (begun old) new
+    let here : Kept accepts which (story_of (begun e old)) = Kept-item accepts which (old.item + 1) (guards_at e old.notes.list old.guards) (story_of old) k in
+    Traced-keeps (KeepsSpans accepts which) (Kept accepts which) (Kept-moves accepts which) (begun e old) new
     (Turn-early accepts which old new e (record { kept = here; size = size }) t) here

@@ -22,7 +22,7 @@ use Rattle.pfr_story.specs.Story.{Story, Move, Says, Does, Asks, after, noted, o
 use Rattle.pfr_story.specs.Turn.{fault_of, fuse_stretch, bank_stretch, provision_stretch, spi_stretch, expiry_stretch, update_stretch, is_due, stretch_if, pass_note, power_course, provision_course, spi_course, smbus_course, tick_course, update_course}
 use Rattle.pfr_story.specs.World.{World, story_of, state_at, AllMoved}
 use Rattle.pfr_story.specs.Safety.{Rule, AllGood, AllSafe, AllMake, Leads}
-use Rattle.pfr_story.specs.Plans.{migrated, provisioned, filtered, smbus_judged, level_after, expired, is_dynamic, updating}
+use Rattle.pfr_story.specs.Plans.{migrated, provisioned, filtered, smbus_judged, level_after, expired, is_dynamic}
 use Rattle.pfr_story.specs.Course.{Stretch, Steps, lost, Course, Follows}
 use Rattle.pfr_story.proofs.WorldLaws.{AllMoved-refl, AllMoved-trans, faults_moved, losses_moved}
 use Rattle.pfr_story.proofs.Courses.{went_on, Steps-moved, moved_behind, fault_rose}
@@ -284,7 +284,7 @@ module _ (G : Rule) (h : AllowsBanks G) where
       let Q : Story → Type 0 = λ there. level_at bank.Pch there ≡ level_at bank.Pch (story_of old) in
       tick_along G old new Any (λ w moved. tt) (allows old new) old new (within old new) accepts n story P Q Any
       (λ due. expiry_good old new P Q accepts bank.Bmc (λ there p. expires bank.Bmc there due (p bank.Bmc))
-          (λ moves there all p. ap (λ (guard : Guard). level_after guard.watch) (other_guard bank.Bmc moves there all) ∙ p bank.Pch))
+      (λ moves there all p. ap (λ (guard : Guard). level_after guard.watch) (other_guard bank.Bmc moves there all) ∙ p bank.Pch))
       (λ there p. p bank.Pch)
       (λ due. expiry_good old new Q Any accepts bank.Pch (λ there q. expires bank.Pch there due q) (λ moves there all q. tt))
       (λ there q. tt) (λ b. refl) t

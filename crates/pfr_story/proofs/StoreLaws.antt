@@ -1,5 +1,5 @@
 -- What a step does to the store.
-use Rattle.std.proofs.Common.{◌≡◌, refl, sym, ap, subst, ℕ, List, [], ◌∷◌, ◌++◌, length, inl, inr, Result, Ok, Err}
+use Rattle.std.proofs.Common.{◌≡◌, refl, sym, ap, subst, ℕ, Bool, true, false, List, [], ◌∷◌, ◌++◌, length, inl, inr, Result, Ok, Err}
 use Rattle.std.proofs.lemmas.List.{append-nil}
 use Rattle.pfr_flash.specs.Operation.{Operation}
 use Rattle.pfr_flash.specs.Plan.{IsPart}
@@ -20,10 +20,10 @@ use Rattle.pfr_story.specs.World.{World, past_of, story_of}
 use Rattle.pfr_story.specs.Safety.{Rule, AllGood, AllSafe, Keeps}
 use Rattle.pfr_story.specs.Plans.{store, migration_in, provisioned_in}
 use Rattle.pfr_story.specs.Course.{Follows}
-use Rattle.pfr_story.specs.Turn.{off_course, ignored, taken, begun, Turn}
+use Rattle.pfr_story.specs.Turn.{power_course, off_course, provision_course, boot_course, ignored, taken, begun, Turn}
 use Rattle.pfr_story.proofs.SafetyLaws.{AllSafe-append, past_did, called_safe}
 use Rattle.pfr_story.proofs.Traces.{Traced, Traced-keeps}
-use Rattle.pfr_story.proofs.StepTraces.{AllowsBanks, noted_good, power_good, provision_traced, spi_traced, smbus_traced}
+use Rattle.pfr_story.proofs.StepTraces.{AllowsBanks, noted_good, power_good, provision_traced, spi_traced, smbus_traced, tick_traced, failed_traced, update_traced}
 use Rattle.pfr_story.proofs.Courses.{Turn-cases}
 use Rattle.pfr_story.proofs.BringRules.{Any}
 use Rattle.pfr_story.proofs.BusRules.{AllowsSpi, spi_safe, smbus_safe}
@@ -106,6 +106,9 @@ store_plan event.Off story = []
 store_plan (event.Provision root) story = operations_in root (judged_here root story)
 store_plan (event.Spi which frame) story = []
 store_plan (event.Smbus which frame) story = []
+store_plan (event.Tick n) story = []
+store_plan (event.Boot which pass) story = []
+store_plan (event.Update which intent) story = []
 
 provision_stores : (plan : List Operation) (base : Past) (root : RootSlot) (r : Result ℕ FuseFail) (story : Story) → operations_in root r ≡ plan → story.nv ≡ base
     → AllSafe (Storing plan base) (provisioned_in root r story) story
@@ -114,38 +117,65 @@ provision_stores plan base root (Ok number) story e f =
     (call_stores plan base (provision_plan number root) story e f) (tt, tt)
 provision_stores plan base root (Err cause) story e f = (tt, tt)
 
-module _ (accepts : Acceptance) (old new : World) where
+module _ (accepts : Acceptance) (e : Event) (old new : World) where
   abbrev base : Past
   base = past_of old.nv
 
+  abbrev first : World
+  first = begun e old
+
   -- the trace of a step from its begin
-  step_stored : (plan : List Operation) → Traced (Storing plan base) (begun old) new → Stored plan base (past_of new.nv)
-  step_stored plan t = stored_traced plan base (begun old) new t refl
+  step_stored : (plan : List Operation) → Traced (Storing plan base) first new → Stored plan base (past_of new.nv)
+  step_stored plan t = stored_traced plan base first new t refl
 
-  noted_stored : (plan : List Operation) (moves : List Move) → Follows (record { first = moves; stretches = [] }) (begun old) new → AllGood (Storing plan base) moves (story_of (begun old)) → Stored plan base (past_of new.nv)
-  noted_stored plan moves t good = step_stored plan (noted_good (Storing plan base) (storing_banks plan base) (begun old) new moves t good)
+  noted_stored : (plan : List Operation) (moves : List Move) → Follows (record { first = moves; stretches = [] }) first new → AllGood (Storing plan base) moves (story_of first) → Stored plan base (past_of new.nv)
+  noted_stored plan moves t good = step_stored plan (noted_good (Storing plan base) (storing_banks plan base) first new moves t good)
 
-  taken_stored : (e : Event) → Follows (taken accepts e (story_of old)) (begun old) new → Stored (store_plan e (story_of old)) base (past_of new.nv)
-  taken_stored event.Power t =
+  power_stored : Follows (power_course accepts) first new → Stored (migration_in (fuses_of (image_of base))) base (past_of new.nv)
+  power_stored t =
       let plan : List Operation = migration_in (fuses_of (image_of base)) in
       step_stored plan
-      (power_good (Storing plan base) (storing_banks plan base) (λ story. story.nv ≡ base) accepts (begun old) new
+      (power_good (Storing plan base) (storing_banks plan base) (λ story. story.nv ≡ base) accepts first new
       (λ story e. (tt, call_stores plan base (migration_in (fuses_of (store story))) story (ap (λ (p : Past). migration_in (fuses_of (image_of p))) e) e)) tt refl t)
-  taken_stored event.Off t = noted_stored [] off_course.first t (tt, tt)
-  taken_stored (event.Provision root) t =
+
+  provision_stored : (root : RootSlot) → Follows (provision_course root) first new → Stored (operations_in root (judged_here root (story_of old))) base (past_of new.nv)
+  provision_stored root t =
       let plan : List Operation = operations_in root (judged_here root (story_of old)) in
       step_stored plan
-      (provision_traced (Storing plan base) (storing_banks plan base) (λ story. story ≡ story_of (begun old)) root (begun old) new
+      (provision_traced (Storing plan base) (storing_banks plan base) (λ story. story ≡ story_of first) root first new
       (λ story e. (tt, provision_stores plan base root (judged_here root story) story (ap (λ (s : Story). operations_in root (judged_here root s)) e) (ap (λ (s : Story). s.nv) e))) refl t)
+
+  boot_stored : (b : Bank) (pass : Bool) (story : Story) → Follows (boot_course accepts b pass story) first new → Stored [] base (past_of new.nv)
+  boot_stored b true story t = noted_stored [] (boot_course accepts b true story).first t (tt, tt)
+  boot_stored b false story t = step_stored [] (failed_traced (Storing [] base) (storing_banks [] base) accepts b first new tt t)
+
+module _ (accepts : Acceptance) (old new : World) where
+  taken_stored : (e : Event) → Follows (taken accepts e (story_of old)) (begun e old) new → Stored (store_plan e (story_of old)) (past_of old.nv) (past_of new.nv)
+  taken_stored event.Power t = power_stored accepts event.Power old new t
+  taken_stored event.Off t = noted_stored accepts event.Off old new [] off_course.first t (tt, tt)
+  taken_stored (event.Provision root) t = provision_stored accepts (event.Provision root) old new root t
   taken_stored (event.Spi b frame) t =
-      step_stored [] (spi_traced (Storing [] base) (storing_banks [] base) Any accepts b frame (begun old) new (λ story p. spi_safe (Storing [] base) accepts b frame (storing_spi [] base b) story) tt t)
+      let e : Event = event.Spi b frame in
+      let base : Past = past_of old.nv in
+      step_stored accepts e old new [] (spi_traced (Storing [] base) (storing_banks [] base) Any accepts b frame (begun e old) new (λ story p. spi_safe (Storing [] base) accepts b frame (storing_spi [] base b) story) tt t)
   taken_stored (event.Smbus b frame) t =
-      step_stored [] (smbus_traced (Storing [] base) (storing_banks [] base) accepts b frame (story_of old) (begun old) new
-      (smbus_safe (Storing [] base) accepts b frame (record { passed = λ story. tt; blocked = λ cause story. tt }) (story_of old) (story_of (begun old))) t)
+      let e : Event = event.Smbus b frame in
+      let base : Past = past_of old.nv in
+      step_stored accepts e old new [] (smbus_traced (Storing [] base) (storing_banks [] base) accepts b frame (story_of old) (begun e old) new
+      (smbus_safe (Storing [] base) accepts b frame (record { passed = λ story. tt; blocked = λ cause story. tt }) (story_of old) (story_of (begun e old))) t)
+  taken_stored (event.Tick n) t =
+      let e : Event = event.Tick n in
+      let base : Past = past_of old.nv in
+      step_stored accepts e old new [] (tick_traced (Storing [] base) (storing_banks [] base) accepts n (story_of old) (begun e old) new (λ b there due same. tt) t)
+  taken_stored (event.Boot b pass) t = boot_stored accepts (event.Boot b pass) old new b pass (story_of old) t
+  taken_stored (event.Update b intent) t =
+      let e : Event = event.Update b intent in
+      let base : Past = past_of old.nv in
+      step_stored accepts e old new [] (update_traced (Storing [] base) (storing_banks [] base) accepts b intent (begun e old) new (record { updated = λ svn story. tt; refused = λ cause story. tt }) t)
 
 -- What a step does to the store: its plan, or a front of it.
 pub Turn-stored : (accepts : Acceptance) (e : Event) (old new : World) → Turn accepts e old new → Stored (store_plan e (story_of old)) (past_of old.nv) (past_of new.nv)
 Turn-stored accepts e old new t = elim (Turn-cases accepts e old new t) [
-  | inl idle ↦ noted_stored accepts old new (store_plan e (story_of old)) ignored.first idle.1 (tt, tt)
+  | inl idle ↦ noted_stored accepts e old new (store_plan e (story_of old)) ignored.first idle.1 (tt, tt)
   | inr on ↦ taken_stored accepts old new e on.1
 ]

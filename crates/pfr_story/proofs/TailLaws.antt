@@ -21,6 +21,7 @@ use Rattle.pfr_auth.specs.Trusted.{IsTrusted}
 use Rattle.pfr_auth.specs.declared.areas.Area.TheVariants.{Recovery}
 use Rattle.pfr_auth.specs.declared.fail.ActiveFail.{ActiveFail}
 use Rattle.pfr_auth.proofs.TrustedLaw.{judged_trusted, stands_whole, trusted_judged}
+use Rattle.pfr_jobs.specs.declared.job.JobKind.{JobKind}
 use Rattle.pfr_jobs.specs.declared.job.JobKind.TheVariants.{ActiveFromRecovery}
 use Rattle.pfr_rebuilt.specs.ActiveCopying.{active_page, active_pages}
 use Rattle.pfr_rebuilt.proofs.ActiveLaw.{active_few}
@@ -33,8 +34,8 @@ use Rattle.pfr_report.specs.declared.note.LockWhy.TheVariants as why
 use Rattle.pfr_report.specs.declared.note.Note.{Note}
 use Rattle.pfr_report.specs.declared.note.What.{What}
 use Rattle.pfr_report.specs.declared.note.What.TheVariants as what
-use Rattle.pfr_story.specs.Story.{Past, Story, Move, Says, after, noted, counts_of, past_at, device_of, called}
-use Rattle.pfr_story.specs.Plans.{mine, store, ready_of, judged_active, judged_recovery, restore_ops, restored, by_second, checked_again, by_recovery, by_active, by_ready, brought_up}
+use Rattle.pfr_story.specs.Story.{Past, Story, Move, Says, Plan, after, then, noted, counts_of, past_at, device_of, called}
+use Rattle.pfr_story.specs.Plans.{mine, store, ready_of, judged_active, judged_recovery, job_ops, restored, by_second, checked_again, by_recovery, by_active, by_ready, brought_up}
 use Rattle.pfr_story.specs.Promises.{count_at}
 use Rattle.pfr_story.specs.Causes.{IsNotTrusted, IsAgainst, IsDue, IsRestorable}
 use Rattle.pfr_story.proofs.Sequence.{after-append}
@@ -114,6 +115,8 @@ module _ (accepts : Acceptance) (b : Bank) where
   tail_due story (why.NoGoodImage active cause) h =
       let one : h.1.fuses ≡ h.0.fuses = fuses_one (store story) h.1.fuses h.0.fuses h.1.provisioned h.0.provisioned in
       no_image_locked story active cause h.0 (subst (λ (f : FusesState). judged_recovery accepts b f story ≡ Err cause) one h.1.judged)
+  tail_due story why.WatchdogSpent h = absurd h
+  tail_due story (why.NoRecovery recovery) h = absurd h
   tail_due story why.FlashFault h = absurd h
   tail_due story why.StoreFault h = absurd h
 
@@ -129,18 +132,19 @@ module _ (accepts : Acceptance) (b : Bank) where
       subst (λ (x : FusesState). IsValidLayout (layout_of x.provision b) (length (mine b story))) (fuses_one (store story) g.good.fuses g.fuses g.good.provisioned g.provisioned) g.good.layout
 
   -- what is noted of a bank that is restored
-  restored_noted : (fuses : FusesState) (cause : ActiveFail) (capsule : CapsuleState) (story : Story) → IsNoted (said (by_recovery accepts b fuses cause (Ok capsule) story) story) (what.Restored b 1)
-  restored_noted fuses cause capsule story =
-      let ops : List Operation = restore_ops 1 (mine b story) capsule (layout_of fuses.provision b) in
-      noted_first (restored b 1 fuses capsule story) (checked_again accepts b fuses (after (restored b 1 fuses capsule story) story)) story (what.Restored b 1)
-      (noted_next (called (device_of b) ops) (Says (λ _. what.Restored b 1) ∷ []) story (what.Restored b 1) (inl refl))
+  restored_noted : (level : ℕ) (fuses : FusesState) (capsule : CapsuleState) (story : Story)
+      → IsNoted (said (then (restored b level fuses capsule) (checked_again accepts b fuses) story) story) (what.Restored b level)
+  restored_noted level fuses capsule story =
+      let ops : List Operation = job_ops (ActiveFromRecovery level) (mine b story) capsule (layout_of fuses.provision b) in
+      noted_first (restored b level fuses capsule story) (checked_again accepts b fuses (after (restored b level fuses capsule story) story)) story (what.Restored b level)
+      (noted_next (called (device_of b) ops) (Says (λ _. what.Restored b level) ∷ []) story (what.Restored b level) (inl refl))
 
-  released_noted : (fuses : FusesState) (cause : ActiveFail) (capsule : CapsuleState) (m : Manifest) (story : Story)
-      → judged_active accepts b fuses (after (restored b 1 fuses capsule story) story) ≡ Ok m
-      → IsNoted (said (by_recovery accepts b fuses cause (Ok capsule) story) story) (what.Released b m.svn (counts_of (after (restored b 1 fuses capsule story) story)))
-  released_noted fuses cause capsule m story j =
-      let end : Story = after (restored b 1 fuses capsule story) story in
-      noted_next (restored b 1 fuses capsule story) (checked_again accepts b fuses end) story (what.Released b m.svn (counts_of end))
+  -- and released behind what made its image anew
+  released_noted : (anew : Plan) (fuses : FusesState) (m : Manifest) (story : Story) → judged_active accepts b fuses (after (anew story) story) ≡ Ok m
+      → IsNoted (said (then anew (checked_again accepts b fuses) story) story) (what.Released b m.svn (counts_of (after (anew story) story)))
+  released_noted anew fuses m story j =
+      let end : Story = after (anew story) story in
+      noted_next (anew story) (checked_again accepts b fuses end) story (what.Released b m.svn (counts_of end))
       (subst (λ (r : Result Manifest ActiveFail). IsNoted (said (by_second b r end) end) (what.Released b m.svn (counts_of end))) (sym j) (inl refl))
 
   against_by : (story : Story) (n : IsNotTrusted b (mine b story) (store story) accepts) (checked : Result Manifest ActiveFail) → AreBytes (mine b story) → judged_active accepts b n.fuses story ≡ checked
@@ -155,22 +159,22 @@ module _ (accepts : Acceptance) (b : Bank) where
       let k = against_by story h.0 (judged_active accepts b h.0.fuses story) bytes refl in
       let judged = judged_told k.1.fuses (λ _. what.Untrusted b k.0) story ∙ good_is story h.1 k.1.fuses k.1.provisioned in
       subst (λ (notes : List Note). IsNoted notes (what.Restored b 1)) (sym (by_against k.0 story (Ok h.1.good.capsule) k.1 judged))
-      (inr (restored_noted k.1.fuses k.0 h.1.good.capsule (untrusted k.0 story)))
+      (inr (restored_noted 1 k.1.fuses h.1.good.capsule (untrusted k.0 story)))
 
   -- ---- and released then
   restored_count : (fuses : FusesState) (capsule : CapsuleState) (story : Story) → count_at b (counts_of (after (restored b 1 fuses capsule story) story))
-      ≡ count_at b (counts_of story) + length (restore_ops 1 (mine b story) capsule (layout_of fuses.provision b))
+      ≡ count_at b (counts_of story) + length (job_ops (ActiveFromRecovery 1) (mine b story) capsule (layout_of fuses.provision b))
   restored_count fuses capsule story =
-      let ops : List Operation = restore_ops 1 (mine b story) capsule (layout_of fuses.provision b) in
+      let ops : List Operation = job_ops (ActiveFromRecovery 1) (mine b story) capsule (layout_of fuses.provision b) in
       let then_story : Story = after (called (device_of b) ops) story in
       ap (λ (s : Story). count_at b (counts_of s)) (after-append (called (device_of b) ops) (Says (λ _. what.Restored b 1) ∷ []) story)
       ∙ count_is b then_story ∙ ap (λ (p : Past). length p.ops) (past_called (device_of b) ops story)
       ∙ length-append (past_at (device_of b) story).ops ops ∙ ap (λ (n : ℕ). n + length ops) (sym (count_is b story))
 
-  restore_few : (image : List ℕ) (capsule : CapsuleState) (layout : Layout) → length (restore_ops 1 image capsule layout) ≤ 17 * (length image / 4096)
-  restore_few image capsule layout =
-      let strokes = strokes_of_few (active_page image capsule layout) (active_pages (ActiveFromRecovery 1) image capsule layout) in
-      omega (arith, strokes, active_few (ActiveFromRecovery 1) image capsule layout)
+  job_few : (kind : JobKind) (image : List ℕ) (capsule : CapsuleState) (layout : Layout) → length (job_ops kind image capsule layout) ≤ 17 * (length image / 4096)
+  job_few kind image capsule layout =
+      let strokes = strokes_of_few (active_page image capsule layout) (active_pages kind image capsule layout) in
+      omega (arith, strokes, active_few kind image capsule layout)
 
   good_releases : (story : Story) (g : HasGoodRecovery b (mine b story) (store story) accepts) (checked : Result Manifest ActiveFail) → judged_active accepts b g.fuses story ≡ checked
       → AreBytes (mine b story) → IsBankSize (length (mine b story)) → ReleasesSoon b (counts_of story) (34 * (length (mine b story) / 4096)) (behind story)
@@ -195,14 +199,14 @@ module _ (accepts : Acceptance) (b : Bank) where
         judged = judged;
       } in
       let end : Story = after (restored b 1 g.fuses capsule told) told in
-      let count : count_at b (counts_of end) ≡ count_at b (counts_of story) + length (restore_ops 1 (mine b told) capsule (layout_of g.fuses.provision b)) = restored_count g.fuses capsule told in
-      let few : length (restore_ops 1 (mine b told) capsule (layout_of g.fuses.provision b)) ≤ 17 * (length (mine b story) / 4096) =
-      subst (λ (image : List ℕ). length (restore_ops 1 (mine b told) capsule (layout_of g.fuses.provision b)) ≤ 17 * (length image / 4096)) (sym same) (restore_few (mine b told) capsule (layout_of g.fuses.provision b)) in
+      let count : count_at b (counts_of end) ≡ count_at b (counts_of story) + length (job_ops (ActiveFromRecovery 1) (mine b told) capsule (layout_of g.fuses.provision b)) = restored_count g.fuses capsule told in
+      let few : length (job_ops (ActiveFromRecovery 1) (mine b told) capsule (layout_of g.fuses.provision b)) ≤ 17 * (length (mine b story) / 4096) =
+      subst (λ (image : List ℕ). length (job_ops (ActiveFromRecovery 1) (mine b told) capsule (layout_of g.fuses.provision b)) ≤ 17 * (length image / 4096)) (sym same) (job_few (ActiveFromRecovery 1) (mine b told) capsule (layout_of g.fuses.provision b)) in
       record {
         svn = capsule.manifest.svn;
         then = counts_of end;
         noted = subst (λ (notes : List Note). IsNoted notes (what.Released b capsule.manifest.svn (counts_of end))) (sym (by_against cause story (Ok capsule) a judged))
-            (inr (released_noted g.fuses cause capsule capsule.manifest told (restored_judged accepts b 1 g.fuses capsule told from)));
+            (inr (released_noted (restored b 1 g.fuses capsule) g.fuses capsule.manifest told (restored_judged accepts b 1 g.fuses capsule told from)));
         forth = omega (arith, count);
         few = omega (arith, count, few);
       }
@@ -220,6 +224,11 @@ IsOf which (what.Released b svn at) = b ≡ which
 IsOf which (what.Locked b cause at) = b ≡ which
 IsOf which (what.Untrusted b cause) = b ≡ which
 IsOf which (what.Restored b level) = b ≡ which
+IsOf which (what.Expired b level) = b ≡ which
+IsOf which (what.Passed b stage) = b ≡ which
+IsOf which (what.Booted b) = b ≡ which
+IsOf which (what.Updated b dynamic svn) = b ≡ which
+IsOf which (what.Refused b cause) = b ≡ which
 IsOf which that = ⊥
 
 abbrev pub Apart : Bank → What → Type 0

@@ -1,5 +1,3 @@
-use Rattle.pfr_flash.specs.Bytes.{bytes_at}
-use Rattle.pfr_flash.specs.FlashState.{now, size_of}
 use Rattle.pfr_manifest.proofs.StretchLemmas.{manifest_table}
 use Rattle.pfr_filter.proofs.tests.table_at.Goals as goal
 

@@ -1,7 +1,4 @@
-use Rattle.std.proofs.Common.{◌≡◌, ◌∙◌, ℕ, List, length, sym, ap, arith}
-use Rattle.pfr_manifest.specs.Stretches.{writable_by}
-use Rattle.pfr_filter.specs.Frames.{first_without}
-use Rattle.pfr_filter.specs.Asking.{pages_of, numbers_from}
+use Rattle.std.proofs.Common.{arith}
 use Rattle.pfr_filter.proofs.WalkLemmas.{one_number, length-numbers_from}
 use Rattle.pfr_filter.proofs.walking.first_closed_of.Goals as goal
 

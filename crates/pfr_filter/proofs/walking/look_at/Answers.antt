@@ -1,4 +1,4 @@
-use Rattle.std.proofs.Common.{◌≡◌, ◌∙◌, ◌<◌, ◌≤◌, length, arith}
+use Rattle.std.proofs.Common.{◌<◌, ◌≤◌, length, arith}
 use Rattle.pfr_filter.proofs.WalkLemmas.{go_next, go_same, tells, tells_past}
 use Rattle.pfr_filter.proofs.walking.look_at.Goals as goal
 

@@ -1,12 +1,12 @@
 use Rattle.std.proofs.Common.{◌≡◌, ◌∙◌, ap, false, refl, sym, subst, Option, Some, None}
-use Rattle.pfr_flash.specs.FlashState.{FlashState}
+use Rattle.pfr_flash.specs.FlashState.{FlashState, size_of}
 use Rattle.pfr_flash.specs.Reading.{EndsAt}
 use Rattle.pfr_flash.specs.declared.flash.FlashFail.{FlashFail}
 use Rattle.pfr_fuses.specs.RootSlot.{layout_of}
 use Rattle.pfr_fuses.specs.declared.root_slot.RootSlot.{RootSlot}
 use Rattle.pfr_machine.specs.Worlds.{flash_in, latch_in, latches_by, sits_in}
 use Rattle.pfr_machine.proofs.CapsuleLemmas.{capsule_left}
-use Rattle.pfr_machine.proofs.DeskLemmas.{awake_mine, mine_read, mine_unread}
+use Rattle.pfr_machine.proofs.DeskLemmas.{awake_mine, desk_worked, mine_read, mine_unread, read_size}
 use Rattle.pfr_machine.proofs.desk.Desk.judge_recovery.Goals as goal
 use Rattle.pfr_machine.proofs.desk.Desk.judge_recovery.Goals.{in-Ok, in-Err+in-Some, in-Err+in-None}
 
@@ -37,3 +37,8 @@ returns-clause-can g c =
       | in-Err+in-Some w ↦ rw w.result-is tt
       | in-Err+in-None w ↦ rw w.result-is tt
     ]
+
+pub invariant_of-self : goal.invariant_of-self
+invariant_of-self g c =
+    desk_worked c.self.inside.bank c.self.inside.held.bank c.self.inside.held.bank (sits_in c.self.inside.other) (g.F.Flash.device c.self.inside.held.flash) (g.F.Flash.device c.capsule_at.new.flash) (g.F.Flash.device (flash_in c.self.inside.other)) (g.F.Flash.device c.self.inside.board.nv) (latches_by c.self.inside.bank false (latch_in c.self.inside.other)) c.self.inside.board refl
+    (read_size _ (g.F.Flash.device c.flash.result.now) (g.F.Flash.device c.capsule_at.new.flash) c.capsule_at.ensures.ends ∙ ap (λ flash. size_of (g.F.Flash.device flash)) c.flash.ensures.value) c.self.invariant

@@ -1,6 +1,6 @@
-use Rattle.std.proofs.Common.{◌≡◌, ap, false}
+use Rattle.std.proofs.Common.{ap, false}
 use Rattle.pfr_story.specs.World.{World}
-use Rattle.pfr_machine.specs.Worlds.{DeskState, Latches, flash_in, latch_in, latches_after, latches_by, line_in}
+use Rattle.pfr_machine.specs.Worlds.{Latches, flash_in, latch_in, latches_by, line_in}
 use Rattle.pfr_machine.proofs.DeskLemmas.{desk_pushed, desk_pushed_is}
 use Rattle.pfr_machine.proofs.WorldLemmas.{still_latches}
 use Rattle.pfr_machine.proofs.desk.Desk.note.Goals as goal

@@ -1,4 +1,3 @@
-use Rattle.std.proofs.Common.{◌≡◌}
 use Rattle.pfr_flash.specs.declared.names.Bank.TheVariants.{Bmc}
 use Rattle.pfr_machine.specs.Worlds.{Latches, flash_in, latch_in, latches_by, sits_in}
 use Rattle.pfr_machine.proofs.DeskLemmas.{desk_pushed_is, seated_pushed}

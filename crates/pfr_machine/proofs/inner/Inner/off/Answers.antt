@@ -8,4 +8,4 @@ pub returns-clause-follows : goal.returns-clause-follows
 returns-clause-follows g c = only_noted _ _ _ c.lose.ensures.ran
 
 pub returns-clause-leaves : goal.returns-clause-leaves
-returns-clause-leaves g c = lost_leaves 64 None _ _ c.lose.ensures.ran (AddsNotes-most 1 64 _ _ c.lose.ensures.notes (omega arith))
+returns-clause-leaves g c = lost_leaves 64 None _ _ _ c.lose.ensures.ran (AddsNotes-most 1 64 _ _ c.lose.ensures.notes (omega arith))

@@ -1,0 +1,4 @@
+use Rattle.pfr_machine.proofs.bus.judge.Given as goal
+
+abbrev pub ghosts-judge_counted : goal.ghosts-judge_counted
+ghosts-judge_counted g a = record { name = a.blank.name; parts = a.blank.parts }
