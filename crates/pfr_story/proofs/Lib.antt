@@ -29,6 +29,7 @@ pub mod RecoveryLaws
 pub mod FuseLaws
 pub mod StoreLaws
 pub mod EventLaws
+pub mod JudgedLaws
 pub mod ProvisionLaws
 pub mod FilterLaws
 pub mod GrowthLaws
@@ -38,6 +39,8 @@ pub mod Endings
 pub mod AnewLaws
 pub mod Entry
 pub mod ExpiryLaws
+pub mod QuietLaws
+pub mod ExpireLaws
 pub mod UpdateLaws
 pub mod RunLaws
 pub mod KeepingLaws

@@ -23,7 +23,6 @@ use Rattle.pfr_manifest.specs.Regions.{IsRegion}
 use Rattle.pfr_capsule.specs.CapsuleState.{CapsuleState}
 use Rattle.pfr_capsule.specs.Good.{IsGood}
 use Rattle.pfr_capsule.proofs.GoodFacts.{good_regions}
-use Rattle.pfr_capsule.proofs.GoodLaw.{judged_good}
 use Rattle.pfr_filter.specs.Asking.{bus_ops}
 use Rattle.pfr_filter.specs.declared.verdict.BusOp.{BusOp}
 use Rattle.pfr_filter.specs.declared.verdict.Verdict.TheVariants.{Pass}
@@ -52,7 +51,7 @@ use Rattle.pfr_story.proofs.SafetyLaws.{AllSafe-append, safe_whole, image_noted}
 use Rattle.pfr_story.proofs.Courses.{IsTakenBy, Turn-cases}
 use Rattle.pfr_story.proofs.BusRules.{ruled, filtered_safe, calls_safe, smbus_safe}
 use Rattle.pfr_story.proofs.Rulings.{ruling_trusted, ruled_leaves}
-use Rattle.pfr_story.proofs.RestoreLaws.{stand_for, found_good}
+use Rattle.pfr_story.proofs.RestoreLaws.{found_good, found_staged}
 use Rattle.pfr_story.proofs.BringRules.{Any, IsReady, ready_noted, ready_found, Walks, WalksBack, WalksAnew, walk_safe, level_at, expired_safe, updating_safe}
 use Rattle.pfr_story.proofs.Turns.{Turn-moved}
 use Rattle.pfr_story.proofs.Traces.{IsStamped, call_says, Traced, Traced-then, Traced-ran, Traced-whole, Traced-cut, precedes_moved, AreImages}
@@ -91,13 +90,6 @@ regions_found accepts c fuses capsule story place len found read =
     let same : found.0.fuses ≡ fuses = fuses_one (store story) found.0.fuses fuses found.0.provisioned read in
     let regions : HaveRegions c found.0.fuses found.0.capsule story = good_regions (mine c story) (store story) place len c accepts found.0 in
     subst (λ (capsule : CapsuleState). HaveRegions c fuses capsule story) found.1 (subst (λ (f : FusesState). HaveRegions c f found.0.capsule story) same regions)
-
--- what is judged well in the staging area is good
-found_staged : (accepts : Acceptance) (c : Bank) (fuses : FusesState) (capsule : CapsuleState) (story : Story) → IsReady c fuses story → AreBytes (mine c story) → judged_staging accepts c fuses story ≡ Ok capsule
-    → (g : IsGood (mine c story) (layout_of fuses.provision c).staging_at (layout_of fuses.provision c).area_len (store story) c accepts) × (g.capsule ≡ capsule)
-found_staged accepts c fuses capsule story ready bytes judged =
-    let layout : Layout = layout_of fuses.provision c in
-    judged_good (mine c story) (store story) layout.staging_at layout.area_len c accepts fuses capsule (stand_for (store story) fuses c ready.provisioned) ready.layout bytes judged
 
 module _ (accepts : Acceptance) (b : Bank) where
   own_job : (kind : JobKind) (fuses : FusesState) (capsule : CapsuleState) (story : Story) → IsSized story → IsReady b fuses story → HaveRegions b fuses capsule story
@@ -174,7 +166,7 @@ module _ (accepts : Acceptance) (b c : Bank) where
       → AllSafe (Keeping accepts b) (updated c dynamic fuses capsule story) story
   updated_keeps dynamic fuses capsule story fit j =
       let layout : Layout = layout_of fuses.provision c in
-      let found = found_staged accepts c fuses capsule story fit.1 (fit.0.images (device_of c)) j in
+      let found = found_staged accepts c fuses capsule story fit.1.provisioned fit.1.layout (fit.0.images (device_of c)) j in
       job_told (ActiveFromStaging dynamic) fuses capsule (what.Updated c dynamic capsule.manifest.svn) story fit
       (regions_found accepts c fuses capsule story layout.staging_at layout.area_len found fit.1.provisioned) (λ at. tt)
 

@@ -12,6 +12,7 @@ pub mod Turn
 pub mod Promises
 pub mod Filtering
 pub mod Bringing
+pub mod Making
 pub mod Guarding
 pub mod Updating
 pub mod Spans

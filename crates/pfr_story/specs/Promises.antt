@@ -156,7 +156,8 @@ abbrev pub IsPower : Event → Type 0
 IsPower event.Power = Unit {0}
 IsPower e = ⊥
 
--- The banks don't take the event as they stand: off and provisions where they are off, a frame where its bank doesn't run.
+-- The banks don't take the event as they stand: off and provisions where they are off; a frame, a boot or an update where its
+-- bank doesn't run, and a boot where it is done.
 abbrev pub IsIdle : Event → World → Type 0
 IsIdle e old = is_idle e (story_of old) ≡ true
 
@@ -165,12 +166,23 @@ pub record IsIgnored (old new : World) : Type 0 where
   pub counts : counts_in new ≡ counts_in old
   pub notes : added old new ≡ record { item = old.item + 1; what = Ignored } ∷ []
 
-abbrev pub StaysQuiet : Event → World → World → Type 0
-StaysQuiet e old new = IsIdle e old → IsIgnored old new
+-- ticks by which no watch expires
+abbrev pub IsUneventful : Event → World → Type 0
+IsUneventful (event.Tick n) old = (which : Bank) → is_due which n (story_of old) ≡ false
+IsUneventful e old = ⊥
+
+-- such ticks do no operation, and nothing is noted
+pub record IsUnnoted (old new : World) : Type 0 where
+  pub counts : counts_in new ≡ counts_in old
+  pub notes : added old new ≡ []
+
+pub record StaysQuiet (e : Event) (old new : World) : Type 0 where
+  pub idle : IsIdle e old → IsIgnored old new
+  pub uneventful : IsUneventful e old → IsUnnoted old new
 
 -- and no device is called
 abbrev pub CallsNone : Event → World → World → Type 0
-CallsNone e old new = IsIdle e old → SameDevices old new
+CallsNone e old new = IsIdle e old ⊎ IsUneventful e old → SameDevices old new
 
 -- The devices have power where the banks aren't off.
 abbrev pub HasPower : World → Type 0
@@ -198,6 +210,10 @@ IsSmbus which e = ⊥
 abbrev pub IsUpdate : Bank → Bool → Event → Type 0
 IsUpdate which dynamic (event.Update b intent) = (b ≡ which) × (is_dynamic intent ≡ dynamic)
 IsUpdate which dynamic e = ⊥
+
+abbrev pub IsUpdateOf : Bank → Event → Type 0
+IsUpdateOf which (event.Update b intent) = b ≡ which
+IsUpdateOf which e = ⊥
 
 abbrev pub IsPassing : Bank → Event → Type 0
 IsPassing which (event.Boot b true) = b ≡ which
@@ -233,11 +249,22 @@ BelongsTo e old (Expired which level) = IsExpiring e which old × (level ≡ lev
 BelongsTo e old (Passed which stage) = IsPassing which e × IsAtStage which stage old × (next_stage stage ≢ Done)
 BelongsTo e old (Booted which) = IsPassing which e × (stage : Stage) × IsAtStage which stage old × (next_stage stage ≡ Done)
 BelongsTo e old (Updated which dynamic svn) = Runs which old × IsUpdate which dynamic e
-BelongsTo e old (Refused which why) = Runs which old × (dynamic : Bool) × IsUpdate which dynamic e
+BelongsTo e old (Refused which why) = Runs which old × IsUpdateOf which e
 BelongsTo e old what = Unit {0}
 
 abbrev pub NotesBelong : Event → World → World → Type 0
 NotesBelong e old new = (that : What) → IsNoted (added old new) that → BelongsTo e old that
+
+-- ---- what is judged anew at a power-on alone
+
+-- no bank is locked but for a fault or by an expired watch, and none is called untrusted
+pub record JudgesNone (notes : List Note) : Type 0 where
+  pub locked : (which : Bank) (cause : LockWhy) (at : Counts) → IsNoted notes (Locked which cause at) → IsFaultLock cause ⊎ IsWatchLock cause
+  pub trusted : (which : Bank) (cause : ActiveFail) → ¬ IsNoted notes (Untrusted which cause)
+
+-- At no other event is a bank locked for its contents or called untrusted, since one that runs is trusted.
+abbrev pub JudgesAtPower : Event → World → World → Type 0
+JudgesAtPower e old new = ¬ IsPower e → JudgesNone (added old new)
 
 -- ---- provisions
 
