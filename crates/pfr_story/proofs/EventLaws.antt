@@ -29,10 +29,10 @@ use Rattle.pfr_story.specs.Story.{Story, Says, noted, counts_of, called}
 use Rattle.pfr_story.specs.World.{World, story_of, IsDark, added}
 use Rattle.pfr_story.specs.Safety.{Rule, AllSafe}
 use Rattle.pfr_story.specs.Plans.{store, migration_in, provisioned_in, refusal_of, is_dynamic}
-use Rattle.pfr_story.specs.Course.{Course, Follows}
+use Rattle.pfr_story.specs.Course.{Stretch, Steps, Course, Follows}
 use Rattle.pfr_story.specs.Standing.{standing_of, is_off, is_running}
-use Rattle.pfr_story.specs.Turn.{off_course, ignored, ignored_if, stage_at, pass_note, is_idle, taken, ticked_if, begun, Turn}
-use Rattle.pfr_story.specs.Promises.{AreOff, IsIgnored, StaysQuiet, LostEnds, LostIsDark, Runs, IsAtStage, BelongsTo, NotesBelong}
+use Rattle.pfr_story.specs.Turn.{off_course, ignored, ignored_if, is_due, stage_at, tick_course, pass_note, is_idle, taken, ticked_if, begun, Turn}
+use Rattle.pfr_story.specs.Promises.{AreOff, IsIgnored, IsUneventful, IsUnnoted, StaysQuiet, LostEnds, LostIsDark, Runs, IsAtStage, BelongsTo, NotesBelong}
 use Rattle.pfr_story.proofs.SafetyLaws.{AllSafe-append}
 use Rattle.pfr_story.proofs.Courses.{IsTakenBy, Turn-cases, taken_runs, taken_boots}
 use Rattle.pfr_story.proofs.BringRules.{level_at, AllowsUpdate}
@@ -115,7 +115,7 @@ pass_belongs b old new runs undone t =
     (pass_noted (λ (that : What). BelongsTo e old that) b at (next_stage at) (λ last. (refl, at, here, last)) (λ more. (refl, here, more)), tt)
 
 update_belongs : (b : Bank) (intent : Intent) (old : World) → Runs b old → AllowsUpdate (Belongs (event.Update b intent) old) b (is_dynamic intent)
-update_belongs b intent old runs = record { updated = λ svn story. (runs, (refl, refl)); refused = λ cause story. (runs, is_dynamic intent, (refl, refl)) }
+update_belongs b intent old runs = record { updated = λ svn story. (runs, (refl, refl)); refused = λ cause story. (runs, refl) }
 
 taken_belong : (accepts : Acceptance) (e : Event) (old new : World) → IsTakenBy accepts e old new → Traced (Belongs e old) (begun e old) new
 taken_belong accepts event.Power old new on =
@@ -165,9 +165,24 @@ is_ignored e old new (mid, first, rest) =
     let made : Made (begun e old) new = record { trace = Says (λ _. what.Ignored) ∷ []; is = story } in
     record { counts = ap (λ (s : Story). counts_of s) story; notes = added_said (begun e old) new made }
 
--- Banks that don't take an event do nothing.
+-- ticks by which no watch expires call for nothing
+nothing_due : (accepts : Acceptance) (n : ℕ) (story : Story) → is_due bank.Bmc n story ≡ false → is_due bank.Pch n story ≡ false → (tick_course accepts n story).stretches ≡ []
+nothing_due accepts n story bmc pch = rw (bmc, pch) refl
+
+is_unnoted : (accepts : Acceptance) (e : Event) (old new : World) → Turn accepts e old new → IsUneventful e old → IsUnnoted old new
+is_unnoted accepts (event.Tick n) old new (mid, first, rest) none =
+    let begin : World = begun (event.Tick n) old in
+    let last = subst (λ (ss : List Stretch). Steps ss mid new) (nothing_due accepts n (story_of old) (none bank.Bmc) (none bank.Pch)) rest in
+    let story : story_of new ≡ story_of begin = last.is ∙ first.is in
+    record { counts = ap (λ (s : Story). counts_of s) story; notes = added_said begin new (record { trace = []; is = story }) }
+is_unnoted accepts e old new t none = absurd none
+
+-- Banks that don't take an event do nothing, and ticks by which no watch expires do and note nothing.
 pub Turn-quiet : (accepts : Acceptance) (e : Event) (old new : World) → Turn accepts e old new → StaysQuiet e old new
-Turn-quiet accepts e old new t idle = is_ignored e old new (subst (λ (b : Bool). Follows (ignored_if b (taken accepts e (story_of old))) (begun e old) new) idle t)
+Turn-quiet accepts e old new t = record {
+  idle = λ idle. is_ignored e old new (subst (λ (b : Bool). Follows (ignored_if b (taken accepts e (story_of old))) (begun e old) new) idle t);
+  uneventful = is_unnoted accepts e old new t;
+}
 
 -- ---- no device has power once a loss is noted
 only_ignored : (old : World) (notes : List Note) (device : Option Device) (at : Counts) → notes ≡ record { item = old.item + 1; what = what.Ignored } ∷ [] → ¬ IsNoted notes (what.Lost device at)

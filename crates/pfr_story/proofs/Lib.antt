@@ -29,6 +29,7 @@ pub mod RecoveryLaws
 pub mod FuseLaws
 pub mod StoreLaws
 pub mod EventLaws
+pub mod JudgedLaws
 pub mod ProvisionLaws
 pub mod FilterLaws
 pub mod GrowthLaws
