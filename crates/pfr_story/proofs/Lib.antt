@@ -42,3 +42,4 @@ pub mod ExpiryLaws
 pub mod UpdateLaws
 pub mod RunLaws
 pub mod KeepingLaws
+pub mod TrustedRunLaws
