@@ -32,6 +32,7 @@ use Rattle.pfr_story.specs.Plans.{mine, store, job_ops, copied, migration_by, mi
 use Rattle.pfr_story.specs.Contents.{IsRebuilt, IsWholeBank, RestoresWhole, UpdatesWhole, MigratesWhole, ProvisionsWhole}
 use Rattle.pfr_story.proofs.Sequence.{after-append}
 use Rattle.pfr_story.proofs.SafetyLaws.{image_noted, image_called, store_called, mine_operated}
+use Rattle.pfr_story.proofs.RestoreLaws.{not_recovery, not_staging}
 use Rattle.pfr_story.proofs.FuseLaws.{profile_migrated}
 use Rattle.pfr_story.proofs.KeepLaws.{SaysFuses, migration_says}
 use Rattle.pfr_story.proofs.ProvisionLaws.{provisioned_so}
@@ -85,14 +86,14 @@ pub restores : RestoresWhole
 restores accepts b level story g whole =
     let layout : Layout = layout_of g.fuses.provision b in
     let valid = good_layout accepts b g.fuses story layout.recovery_at layout.area_len g.good g.provisioned in
-    rebuilds accepts b (ActiveFromRecovery level) (λ e. absurd cc) g.fuses story layout.recovery_at layout.area_len
+    rebuilds accepts b (ActiveFromRecovery level) (not_recovery level) g.fuses story layout.recovery_at layout.area_len
     (record { good = g.good; provisioned = g.provisioned; inside = valid.inside.recovery }) whole
 
 pub updates : UpdatesWhole
 updates accepts b dynamic story g whole =
     let layout : Layout = layout_of g.fuses.provision b in
     let valid = good_layout accepts b g.fuses story layout.staging_at layout.area_len g.good g.provisioned in
-    rebuilds accepts b (ActiveFromStaging dynamic) (λ e. absurd cc) g.fuses story layout.staging_at layout.area_len
+    rebuilds accepts b (ActiveFromStaging dynamic) (not_staging dynamic) g.fuses story layout.staging_at layout.area_len
     (record { good = g.good; provisioned = g.provisioned; inside = valid.inside.staging }) whole
 
 -- ---- calls of the store

@@ -24,24 +24,24 @@ use Rattle.pfr_story.proofs.Made.{said, noted_next, AllSay, Wrote, wrote_then, w
 use Rattle.pfr_flash.specs.declared.flash.FlashFail.TheVariants.{Fault, Lost as Loses}
 
 -- ---- how it ends
--- what is noted where a call of this device failed: that the bank is locked for it, or the loss of power
-abbrev pub IsTrouble : Bank → Device → (Counts → What) → Type 0
-IsTrouble b which w = (w ≡ what.Locked b (fault_of which)) ⊎ (w ≡ what.Lost (Some which))
+-- what is noted where a call of this device failed: that the bank is locked for it, or the loss of power, of which L is known
+abbrev pub IsTrouble : Bank → Type 0 → Device → (Counts → What) → Type 0
+IsTrouble b L which w = (w ≡ what.Locked b (fault_of which)) ⊎ ((w ≡ what.Lost (Some which)) × L)
 
 -- a call failed on the way, and that was noted
-pub record IsBroken (b : Bank) (moves : List Move) (from to : Story) : Type 0 where
+pub record IsBroken (b : Bank) (L : Type 0) (moves : List Move) (from to : Story) : Type 0 where
   pub which : Device
   pub trace : List Move
   pub cut : IsCut which moves from trace
   pub last : Counts → What
-  pub trouble : IsTrouble b which last
+  pub trouble : IsTrouble b L which last
   pub is : to ≡ noted last (after trace from)
 
-abbrev pub Ending : Bank → List Move → Story → Story → Type 0
-Ending b moves from to = (to ≡ after moves from) ⊎ IsBroken b moves from to
+abbrev pub Ending : Bank → Type 0 → List Move → Story → Story → Type 0
+Ending b L moves from to = (to ≡ after moves from) ⊎ IsBroken b L moves from to
 
-module _ (s : Stretch) (b : Bank) (locks : (d : Device) → s.on_fault d ≡ Says (what.Locked b (fault_of d)) ∷ []) (old : World) where
-  pub faulted_ends : (mid : World) → Faults s old mid → Ending b (s.plan (story_of old)) (story_of old) (story_of mid)
+module _ (s : Stretch) (b : Bank) (L : Type 0) (locks : (d : Device) → s.on_fault d ≡ Says (what.Locked b (fault_of d)) ∷ []) (old : World) where
+  pub faulted_ends : (mid : World) → Faults s old mid → Ending b L (s.plan (story_of old)) (story_of old) (story_of mid)
   faulted_ends mid f = inr (record {
     which = f.which;
     trace = f.stopped.trace;
@@ -51,28 +51,28 @@ module _ (s : Stretch) (b : Bank) (locks : (d : Device) → s.on_fault d ≡ Say
     is = f.noted.is ∙ ap (λ (moves : List Move). after moves (story_of f.at)) (locks f.which) ∙ ap (λ (t : Story). noted (what.Locked b (fault_of f.which)) t) f.stopped.is;
   })
 
-  pub lost_ends : (new : World) → LosesPower s old new → Ending b (s.plan (story_of old)) (story_of old) (story_of new)
-  lost_ends new l = inr (record {
+  pub lost_ends : L → (new : World) → LosesPower s old new → Ending b L (s.plan (story_of old)) (story_of old) (story_of new)
+  lost_ends known new l = inr (record {
     which = l.which;
     trace = l.stopped.trace;
     cut = l.stopped.cut;
     last = what.Lost (Some l.which);
-    trouble = inr refl;
+    trouble = inr (refl, known);
     is = l.noted.is ∙ ap (λ (t : Story). noted (what.Lost (Some l.which)) t) l.stopped.is;
   })
 
   -- the last stretch of a step
-  pub last_ends : (new : World) → Steps (s ∷ []) old new → Ending b (s.plan (story_of old)) (story_of old) (story_of new)
-  last_ends new (inl (mid, c, ends)) = inl (ends.is ∙ c.is)
-  last_ends new (inr (inl (mid, f, rest))) =
+  pub last_ends : L → (new : World) → Steps (s ∷ []) old new → Ending b L (s.plan (story_of old)) (story_of old) (story_of new)
+  last_ends known new (inl (mid, c, ends)) = inl (ends.is ∙ c.is)
+  last_ends known new (inr (inl (mid, f, rest))) =
       let same : story_of new ≡ story_of mid = went_on s.goes_on (Steps []) mid new (story_of new ≡ story_of mid) (λ e r. r.is) (λ r. r.is) rest in
-      subst (λ (t : Story). Ending b (s.plan (story_of old)) (story_of old) t) (sym same) (faulted_ends mid f)
-  last_ends new (inr (inr l)) = lost_ends new l
+      subst (λ (t : Story). Ending b L (s.plan (story_of old)) (story_of old) t) (sym same) (faulted_ends mid f)
+  last_ends known new (inr (inr l)) = lost_ends known new l
 
 -- a step of one stretch
-pub single_ends : (s : Stretch) (b : Bank) → ((d : Device) → s.on_fault d ≡ Says (what.Locked b (fault_of d)) ∷ []) → (first new : World) → Follows (record { first = []; stretches = s ∷ [] }) first new
-    → Ending b (s.plan (story_of first)) (story_of first) (story_of new)
-single_ends s b locks first new (mid, start, rest) = subst (λ (t : Story). Ending b (s.plan t) t (story_of new)) start.is (last_ends s b locks mid new rest)
+pub single_ends : (s : Stretch) (b : Bank) (L : Type 0) → ((d : Device) → s.on_fault d ≡ Says (what.Locked b (fault_of d)) ∷ []) → L → (first new : World) → Follows (record { first = []; stretches = s ∷ [] }) first new
+    → Ending b L (s.plan (story_of first)) (story_of first) (story_of new)
+single_ends s b L locks known first new (mid, start, rest) = subst (λ (t : Story). Ending b L (s.plan t) t (story_of new)) start.is (last_ends s b L locks mid known new rest)
 
 -- ---- what is noted first is noted however it ends
 fails_saying : (which : Device) (story : Story) (next : Move) (last : List Move) (w : Counts → What) → FailedAt which story next last → ¬ (next ≡ Says w)
@@ -98,9 +98,9 @@ cut_behind w which moves from trace (first ∷ front) next rest last plan is fai
       cut = record { front = front; next = next; rest = rest; last = last; plan = more; is = refl; failed = subst (λ (m : Move). FailedAt which (after (m ∷ front) from) next last) one failed };
     }
 
-pub ends_behind : (b : Bank) (w : Counts → What) (moves : List Move) (from to : Story) → Ending b (Says w ∷ moves) from to → Ending b moves (noted w from) to
-ends_behind b w moves from to (inl e) = inl e
-ends_behind b w moves from to (inr p) =
+pub ends_behind : (b : Bank) (L : Type 0) (w : Counts → What) (moves : List Move) (from to : Story) → Ending b L (Says w ∷ moves) from to → Ending b L moves (noted w from) to
+ends_behind b L w moves from to (inl e) = inl e
+ends_behind b L w moves from to (inr p) =
     let k = cut_behind w p.which moves from p.trace p.cut.front p.cut.next p.cut.rest p.cut.last p.cut.plan p.cut.is p.cut.failed in
     inr (record { which = p.which; trace = k.more; cut = k.cut; last = p.last; trouble = p.trouble; is = p.is ∙ ap (λ (trace : List Move). noted p.last (after trace from)) k.is })
 
@@ -109,28 +109,28 @@ no_cut [] rest next e = absurd cc
 no_cut (first ∷ front) rest next e = absurd cc
 
 -- nothing that was left to do was cut short
-pub ends_done : (b : Bank) (from to : Story) → Ending b [] from to → to ≡ from
-ends_done b from to (inl e) = e
-ends_done b from to (inr p) = absurd (no_cut p.cut.front p.cut.rest p.cut.next (sym p.cut.plan))
+pub ends_done : (b : Bank) (L : Type 0) (from to : Story) → Ending b L [] from to → to ≡ from
+ends_done b L from to (inl e) = e
+ends_done b L from to (inr p) = absurd (no_cut p.cut.front p.cut.rest p.cut.next (sym p.cut.plan))
 
 -- ---- what was made
-module _ (b : Bank) (moves : List Move) (from to : Story) where
-  abbrev pub ended_trace : Ending b moves from to → List Move
+module _ (b : Bank) (L : Type 0) (moves : List Move) (from to : Story) where
+  abbrev pub ended_trace : Ending b L moves from to → List Move
   ended_trace (inl e) = moves
   ended_trace (inr p) = p.trace ++ Says p.last ∷ []
 
-  pub ended_is : (e : Ending b moves from to) → to ≡ after (ended_trace e) from
+  pub ended_is : (e : Ending b L moves from to) → to ≡ after (ended_trace e) from
   ended_is (inl e) = e
   ended_is (inr p) = p.is ∙ sym (after-append p.trace (Says p.last ∷ []) from)
 
   -- each move is good where each of the plan is, and what is noted of trouble
-  pub ended_good : (G : Rule) → AllSafe G moves from → ((which : Device) (w : Counts → What) (story : Story) → IsTrouble b which w → G (Says w) story) → (e : Ending b moves from to) → AllGood G (ended_trace e) from
+  pub ended_good : (G : Rule) → AllSafe G moves from → ((which : Device) (w : Counts → What) (story : Story) → IsTrouble b L which w → G (Says w) story) → (e : Ending b L moves from to) → AllGood G (ended_trace e) from
   ended_good G safe told (inl e) = safe_whole G moves from safe
   ended_good G safe told (inr p) =
       AllGood-append G p.trace (Says p.last ∷ []) from (safe_cut G p.which moves p.trace from safe p.cut) (told p.which p.last (after p.trace from) p.trouble, tt)
 
   -- ---- where it is calm all of it was done
-  trouble_last : (p : IsBroken b moves from to) → IsNoted (said (ended_trace (inr p)) from) (p.last (counts_of (after p.trace from)))
+  trouble_last : (p : IsBroken b L moves from to) → IsNoted (said (ended_trace (inr p)) from) (p.last (counts_of (after p.trace from)))
   trouble_last p = noted_next p.trace (Says p.last ∷ []) from (p.last (counts_of (after p.trace from))) (inl refl)
 
 fault_noted : (b : Bank) (d : Device) (notes : List Note) (at : Counts) → IsCalm b notes → ¬ IsNoted notes (what.Locked b (fault_of d) at)
@@ -138,17 +138,17 @@ fault_noted b device.Bmc notes at calm n = calm.flash at n
 fault_noted b device.Pch notes at calm n = calm.flash at n
 fault_noted b device.Nv notes at calm n = calm.store at n
 
--- a call that failed was noted, which isn't calm where the work on the bank isn't over
-trouble_calm : (b : Bank) (which : Device) (w : Counts → What) (notes : List Note) (at : Counts) → IsTrouble b which w → IsCalm b notes → ¬ IsOver b notes → ¬ IsNoted notes (w at)
-trouble_calm b which w notes at (inl e) calm over n = fault_noted b which notes at calm (subst (λ (v : Counts → What). IsNoted notes (v at)) e n)
-trouble_calm b which w notes at (inr e) calm over n = over (calm.on (Some which) at (subst (λ (v : Counts → What). IsNoted notes (v at)) e n))
+-- a call that failed was noted, which isn't calm where the work on the bank isn't over by a loss
+trouble_calm : (b : Bank) (L : Type 0) (which : Device) (w : Counts → What) (notes : List Note) (at : Counts) → IsTrouble b L which w → IsCalm b notes → (L → ¬ IsOver b notes) → ¬ IsNoted notes (w at)
+trouble_calm b L which w notes at (inl e) calm over n = fault_noted b which notes at calm (subst (λ (v : Counts → What). IsNoted notes (v at)) e n)
+trouble_calm b L which w notes at (inr (e, known)) calm over n = over known (calm.on (Some which) at (subst (λ (v : Counts → What). IsNoted notes (v at)) e n))
 
-pub ends_whole : (b : Bank) (moves : List Move) (from to : Story) (notes : List Note) (e : Ending b moves from to) → ((that : What) → IsNoted (said (ended_trace b moves from to e) from) that → IsNoted notes that)
-    → IsCalm b notes → ¬ IsOver b notes → to ≡ after moves from
-ends_whole b moves from to notes (inl e) put calm over = e
-ends_whole b moves from to notes (inr p) put calm over =
+pub ends_whole : (b : Bank) (L : Type 0) (moves : List Move) (from to : Story) (notes : List Note) (e : Ending b L moves from to)
+    → ((that : What) → IsNoted (said (ended_trace b L moves from to e) from) that → IsNoted notes that) → IsCalm b notes → (L → ¬ IsOver b notes) → to ≡ after moves from
+ends_whole b L moves from to notes (inl e) put calm over = e
+ends_whole b L moves from to notes (inr p) put calm over =
     let at : Counts = counts_of (after p.trace from) in
-    absurd (trouble_calm b p.which p.last notes at p.trouble calm over (put (p.last at) (trouble_last b moves from to p)))
+    absurd (trouble_calm b L p.which p.last notes at p.trouble calm over (put (p.last at) (trouble_last b L moves from to p)))
 
 -- the work on a bank isn't over where no other one is held
 pub over_alone : (b : Bank) (notes : List Note) → ((c : Bank) (at : Counts) → IsNoted notes (what.Held c at) → c ≡ b) → ¬ IsOver b notes

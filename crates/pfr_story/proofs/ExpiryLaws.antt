@@ -56,9 +56,9 @@ module _ (accepts : Acceptance) (b : Bank) (level : ℕ) where
   fault_known device.Pch at story = tt
   fault_known device.Nv at story = tt
 
-  trouble_known : (which : Device) (w : Counts → What) (story : Story) → IsTrouble b which w → Saying Expiry (Says w) story
-  trouble_known which w story (inl e) = subst (λ (v : Counts → What). Saying Expiry (Says v) story) (sym e) (fault_known which (counts_of story) story)
-  trouble_known which w story (inr e) = subst (λ (v : Counts → What). Saying Expiry (Says v) story) (sym e) tt
+  trouble_known : (L : Type 0) (which : Device) (w : Counts → What) (story : Story) → IsTrouble b L which w → Saying Expiry (Says w) story
+  trouble_known L which w story (inl e) = subst (λ (v : Counts → What). Saying Expiry (Says v) story) (sym e) (fault_known which (counts_of story) story)
+  trouble_known L which w story (inr (e, known)) = subst (λ (v : Counts → What). Saying Expiry (Says v) story) (sym e) tt
 
   second_known : (judged : Result Manifest ActiveFail) (story : Story) → AllSafe (Saying Expiry) (by_second b judged story) story
   second_known (Ok m) story = (tt, tt)
@@ -101,7 +101,7 @@ module _ (accepts : Acceptance) (b : Bank) (level : ℕ) where
     level_known false e = ((refl, e), tt)
 
   -- ---- from one world to another
-  module _ (fuses : FusesState) (at end : World) (ready : IsReady b fuses (story_of at)) (ending : Ending b (expired_to accepts b level (story_of at)) (story_of at) (story_of end)) where
+  module _ (L : Type 0) (fuses : FusesState) (at end : World) (ready : IsReady b fuses (story_of at)) (ending : Ending b L (expired_to accepts b level (story_of at)) (story_of at) (story_of end)) where
     abbrev from : Story
     from = story_of at
 
@@ -112,10 +112,10 @@ module _ (accepts : Acceptance) (b : Bank) (level : ℕ) where
     work = by_level accepts b level few held
 
     -- what comes behind that it is held
-    behind : Ending b work held (story_of end)
+    behind : Ending b L work held (story_of end)
     behind =
         let expiry : Story = noted (λ _. what.Expired b level) from in
-        ends_behind b (what.Held b) work expiry (story_of end) (ends_behind b (λ _. what.Expired b level) (Says (what.Held b) ∷ work) from (story_of end) ending)
+        ends_behind b L (what.Held b) work expiry (story_of end) (ends_behind b L (λ _. what.Expired b level) (Says (what.Held b) ∷ work) from (story_of end) ending)
 
     abbrev with_expiry : List Move → List Move
     with_expiry moves = Says (λ _. what.Expired b level) ∷ Says (what.Held b) ∷ moves
@@ -124,15 +124,15 @@ module _ (accepts : Acceptance) (b : Bank) (level : ℕ) where
     made_noted moves is that n = subst (λ (notes : List Note). IsNoted notes that) (sym (added_said at end (record { trace = with_expiry moves; is = is }))) n
 
     pub expiry_noted : IsNoted (added at end) (what.Expired b level)
-    expiry_noted = made_noted (ended_trace b work held (story_of end) behind) (ended_is b work held (story_of end) behind) (what.Expired b level) (inl refl)
+    expiry_noted = made_noted (ended_trace b L work held (story_of end) behind) (ended_is b L work held (story_of end) behind) (what.Expired b level) (inl refl)
 
     -- What is known of its notes.
     pub expiry_known : AllMoved at end → (that : What) → IsNoted (added at end) that → KnownBefore Expiry that (story_of end)
     expiry_known moved =
         Traced-known Expiry at end (record {
-          trace = with_expiry (ended_trace b work held (story_of end) behind);
-          is = ended_is b work held (story_of end) behind;
-          good = ((refl, refl), (refl, ended_good b work held (story_of end) (Saying Expiry) (level_known fuses from ready few refl) trouble_known behind));
+          trace = with_expiry (ended_trace b L work held (story_of end) behind);
+          is = ended_is b L work held (story_of end) behind;
+          good = ((refl, refl), (refl, ended_good b L work held (story_of end) (Saying Expiry) (level_known fuses from ready few refl) (trouble_known L) behind));
           moved = moved;
         })
 
@@ -140,8 +140,8 @@ module _ (accepts : Acceptance) (b : Bank) (level : ℕ) where
     pub spent_noted : few ≡ false → IsNoted (added at end) (what.Locked b why.WatchdogSpent (counts_of held))
     spent_noted e =
         let lock : List Move = Says (what.Locked b why.WatchdogSpent) ∷ [] in
-        let locked : Ending b lock held (story_of end) = subst (λ (below : Bool). Ending b (by_level accepts b level below held) held (story_of end)) e behind in
-        let is = ends_done b (noted (what.Locked b why.WatchdogSpent) held) (story_of end) (ends_behind b (what.Locked b why.WatchdogSpent) [] held (story_of end) locked) in
+        let locked : Ending b L lock held (story_of end) = subst (λ (below : Bool). Ending b L (by_level accepts b level below held) held (story_of end)) e behind in
+        let is = ends_done b L (noted (what.Locked b why.WatchdogSpent) held) (story_of end) (ends_behind b L (what.Locked b why.WatchdogSpent) [] held (story_of end) locked) in
         made_noted lock is (what.Locked b why.WatchdogSpent (counts_of held)) (inr (inr (inl refl)))
 
     -- ---- where it is calm it is restored and released, or locked for the want of a capsule
@@ -184,12 +184,12 @@ module _ (accepts : Acceptance) (b : Bank) (level : ℕ) where
           let moves : List Move = Asks device.Nv ∷ Asks (device_of b) ∷ Says (what.Locked b (why.NoRecovery cause)) ∷ [] in
           absurd (none cause (counts_of held) (made_noted moves is (what.Locked b (why.NoRecovery cause) (counts_of held)) (inr (inr (inl refl)))))
 
-      pub restored_noted : (notes : List Note) → ((that : What) → IsNoted (added at end) that → IsNoted notes that) → few ≡ true → IsCalm b notes → ¬ IsOver b notes
+      pub restored_noted : (notes : List Note) → ((that : What) → IsNoted (added at end) that → IsNoted notes that) → few ≡ true → IsCalm b notes → (L → ¬ IsOver b notes)
           → ((cause : CapsuleFail) (then : Counts) → ¬ IsNoted notes (what.Locked b (why.NoRecovery cause) then)) → RestoredAndReleased b level (added at end)
       restored_noted notes put e calm over none =
-          let trace : List Move = ended_trace b work held (story_of end) behind in
-          let here : (that : What) → IsNoted (said trace held) that → IsNoted notes that = λ that n. put that (made_noted trace (ended_is b work held (story_of end) behind) that (inr (inr n))) in
-          let whole : story_of end ≡ after work held = ends_whole b work held (story_of end) notes behind here calm over in
+          let trace : List Move = ended_trace b L work held (story_of end) behind in
+          let here : (that : What) → IsNoted (said trace held) that → IsNoted notes that = λ that n. put that (made_noted trace (ended_is b L work held (story_of end) behind) that (inr (inr n))) in
+          let whole : story_of end ≡ after work held = ends_whole b L work held (story_of end) notes behind here calm over in
           let plan : work ≡ Asks device.Nv ∷ Asks (device_of b) ∷ by_capsule accepts b fuses level (judged_recovery accepts b fuses held) held =
           ap (λ (below : Bool). by_level accepts b level below held) e ∙ level_is fuses from ready in
           whole_by (judged_recovery accepts b fuses held) refl (whole ∙ ap (λ (moves : List Move). after moves held) plan) (λ cause then n. none cause then (put (what.Locked b (why.NoRecovery cause) then) n))

@@ -39,6 +39,8 @@ pub mod Endings
 pub mod AnewLaws
 pub mod Entry
 pub mod ExpiryLaws
+pub mod QuietLaws
+pub mod ExpireLaws
 pub mod UpdateLaws
 pub mod RunLaws
 pub mod KeepingLaws

@@ -91,9 +91,9 @@ module _ (accepts : Acceptance) (b : Bank) (dynamic : Bool) (fuses : FusesState)
   fault_known device.Pch at story = tt
   fault_known device.Nv at story = tt
 
-  trouble_known : (which : Device) (w : Counts → What) (story : Story) → IsTrouble b which w → Saying Update (Says w) story
+  trouble_known : (which : Device) (w : Counts → What) (story : Story) → IsTrouble b (Unit {0}) which w → Saying Update (Says w) story
   trouble_known which w story (inl e) = subst (λ (v : Counts → What). Saying Update (Says v) story) (sym e) (fault_known which (counts_of story) story)
-  trouble_known which w story (inr e) = subst (λ (v : Counts → What). Saying Update (Says v) story) (sym e) tt
+  trouble_known which w story (inr (e, known)) = subst (λ (v : Counts → What). Saying Update (Says v) story) (sym e) tt
 
   second_known : (again : Result Manifest ActiveFail) (story : Story) → AllSafe (Saying Update) (by_second b again story) story
   second_known (Ok m) story = (tt, tt)
@@ -140,7 +140,7 @@ module _ (accepts : Acceptance) (b : Bank) (dynamic : Bool) (fuses : FusesState)
 
 -- ---- from one world to another
 module _ (accepts : Acceptance) (b : Bank) (intent : Intent) (fuses : FusesState) (first new : World) (ready : IsReady b fuses (story_of first))
-    (t : IsTrusted (mine b (story_of first)) (store (story_of first)) b accepts) (ending : Ending b (updating accepts b intent (story_of first)) (story_of first) (story_of new)) (moved : AllMoved first new) where
+    (t : IsTrusted (mine b (story_of first)) (store (story_of first)) b accepts) (ending : Ending b (Unit {0}) (updating accepts b intent (story_of first)) (story_of first) (story_of new)) (moved : AllMoved first new) where
   abbrev dynamic : Bool
   dynamic = is_dynamic intent
 
@@ -156,10 +156,10 @@ module _ (accepts : Acceptance) (b : Bank) (intent : Intent) (fuses : FusesState
   abbrev work : Result CapsuleState CapsuleFail → List Move
   work answer = Asks device.Nv ∷ Asks (device_of b) ∷ by_staged accepts b dynamic fuses answer there
 
-  behind : Ending b (work found) there (story_of new)
+  behind : Ending b (Unit {0}) (work found) there (story_of new)
   behind =
       let moves : List Move = Asks device.Nv ∷ updated_with accepts b dynamic (ready_of b there) there in
-      subst (λ (ms : List Move). Ending b ms there (story_of new)) (staged_is accepts b dynamic fuses start ready t) (ends_behind b (what.Held b) moves start (story_of new) ending)
+      subst (λ (ms : List Move). Ending b (Unit {0}) ms there (story_of new)) (staged_is accepts b dynamic fuses start ready t) (ends_behind b (Unit {0}) (what.Held b) moves start (story_of new) ending)
 
   abbrev with_held : List Move → List Move
   with_held moves = Says (what.Held b) ∷ moves
@@ -170,18 +170,18 @@ module _ (accepts : Acceptance) (b : Bank) (intent : Intent) (fuses : FusesState
   known : (that : What) → IsNoted (added first new) that → KnownBefore (Update accepts b dynamic fuses start) that (story_of new)
   known =
       Traced-known (Update accepts b dynamic fuses start) first new (record {
-        trace = with_held (ended_trace b (work found) there (story_of new) behind);
-        is = ended_is b (work found) there (story_of new) behind;
-        good = (refl, ended_good b (work found) there (story_of new) (Saying (Update accepts b dynamic fuses start)) (staged_known accepts b dynamic fuses start ready t found refl) (trouble_known accepts b dynamic fuses start) behind);
+        trace = with_held (ended_trace b (Unit {0}) (work found) there (story_of new) behind);
+        is = ended_is b (Unit {0}) (work found) there (story_of new) behind;
+        good = (refl, ended_good b (Unit {0}) (work found) there (story_of new) (Saying (Update accepts b dynamic fuses start)) (staged_known accepts b dynamic fuses start ready t found refl) (trouble_known accepts b dynamic fuses start) behind);
         moved = moved;
       })
 
   -- where it is calm all of it was done
   whole : IsCalm b (added first new) → story_of new ≡ after (work found) there
   whole calm =
-      ends_whole b (work found) there (story_of new) (added first new) behind
-      (λ that n. make_noted (ended_trace b (work found) there (story_of new) behind) (ended_is b (work found) there (story_of new) behind) that (inr n)) calm
-      (over_alone b (added first new) (λ c at n. (known (what.Held c at) n).1))
+      ends_whole b (Unit {0}) (work found) there (story_of new) (added first new) behind
+      (λ that n. make_noted (ended_trace b (Unit {0}) (work found) there (story_of new) behind) (ended_is b (Unit {0}) (work found) there (story_of new) behind) that (inr n)) calm
+      (λ lost. over_alone b (added first new) (λ c at n. (known (what.Held c at) n).1))
 
   whole_by : (answer : Result CapsuleState CapsuleFail) → found ≡ answer → IsCalm b (added first new) → story_of new ≡ after (work answer) there
   whole_by answer j calm = whole calm ∙ ap (λ (r : Result CapsuleState CapsuleFail). after (work r) there) j
@@ -191,10 +191,10 @@ module _ (accepts : Acceptance) (b : Bank) (intent : Intent) (fuses : FusesState
   nothing_done cause j =
       let plain : List Move = Asks device.Nv ∷ Asks (device_of b) ∷ Says (λ _. what.Refused b (refusing.Capsule cause)) ∷ Asks (device_of b) ∷ Says (what.Released b t.manifest.svn) ∷ [] in
       let is : work found ≡ plain = ap (λ (r : Result CapsuleState CapsuleFail). work r) j ∙ refused_is accepts b dynamic fuses start ready t cause in
-      let e : Ending b plain there (story_of new) = subst (λ (ms : List Move). Ending b ms there (story_of new)) is behind in
-      let good = ended_good b plain there (story_of new) Still (tt, (tt, (tt, (tt, (tt, tt))))) (λ which w story trouble. tt) e in
-      ap (λ (s : Story). counts_of s) (ended_is b plain there (story_of new) e)
-      ∙ kept_by Still (λ s. counts_of s ≡ counts_of start) (still_keeps (counts_of start)) (ended_trace b plain there (story_of new) e) there good refl
+      let e : Ending b (Unit {0}) plain there (story_of new) = subst (λ (ms : List Move). Ending b (Unit {0}) ms there (story_of new)) is behind in
+      let good = ended_good b (Unit {0}) plain there (story_of new) Still (tt, (tt, (tt, (tt, (tt, tt))))) (λ which w story trouble. tt) e in
+      ap (λ (s : Story). counts_of s) (ended_is b (Unit {0}) plain there (story_of new) e)
+      ∙ kept_by Still (λ s. counts_of s ≡ counts_of start) (still_keeps (counts_of start)) (ended_trace b (Unit {0}) plain there (story_of new) e) there good refl
 
   -- ---- by the contents where it is held
   module _ (have : HaveBytes new) (size : IsBankSize (length (mine b start))) where
@@ -265,7 +265,7 @@ module _ (accepts : Acceptance) (b : Bank) (intent : Intent) (fuses : FusesState
 
     updates_at : UpdatesAt accepts b dynamic new (added first new) (counts_in first)
     updates_at = record {
-      held = make_noted (ended_trace b (work found) there (story_of new) behind) (ended_is b (work found) there (story_of new) behind) (what.Held b (counts_in first)) (inl refl);
+      held = make_noted (ended_trace b (Unit {0}) (work found) there (story_of new) behind) (ended_is b (Unit {0}) (work found) there (story_of new) behind) (what.Held b (counts_in first)) (inl refl);
       refused = λ cause n. by_counts (λ image nv. HasBadStaging cause b image nv accepts) (record { fuses = fuses; provisioned = ready_there.provisioned; judged = (known (what.Refused b (refusing.Capsule cause)) n).1 });
       refuses = λ cause calm. by_counts (λ image nv. HasBadStaging cause b image nv accepts → IsNoted (added first new) (what.Refused b (refusing.Capsule cause))) (λ h. refuses_so cause calm h);
       updated = λ svn n.
@@ -281,7 +281,7 @@ updates_by : (accepts : Acceptance) (b : Bank) (intent : Intent) (old new : Worl
 updates_by accepts b intent old new have size t f =
     let first : World = begun (event.Update b intent) old in
     let ready : IsReady b t.fuses (story_of first) = trusted_ready accepts b (story_of first) t in
-    let ending = single_ends (update_stretch accepts b intent) b (λ d. refl) first new f in
+    let ending = single_ends (update_stretch accepts b intent) b (Unit {0}) (λ d. refl) tt first new f in
     let moved : AllMoved first new = follows_moved (update_course accepts b intent) first new f in
     record {
       at = counts_in old;
