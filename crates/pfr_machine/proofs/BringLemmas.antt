@@ -4,6 +4,7 @@ use Rattle.pfr_flash.specs.Bytes.{AreBytes}
 use Rattle.pfr_flash.specs.FlashState.{now, size_of}
 use Rattle.pfr_flash.specs.Holding.{HoldsBytes}
 use Rattle.pfr_flash.specs.Layout.{IsBankSize, IsValidLayout}
+use Rattle.pfr_flash.specs.declared.layout.Layout.{Layout}
 use Rattle.pfr_flash.specs.declared.names.Bank.{Bank}
 use Rattle.pfr_flash.proofs.HoldingLemmas.{now_bytes}
 use Rattle.pfr_engine.specs.Acceptance.{Acceptance}
@@ -16,12 +17,15 @@ use Rattle.pfr_capsule.specs.declared.fail.CapsuleFail.{CapsuleFail}
 use Rattle.pfr_auth.specs.Areas.{judge_area}
 use Rattle.pfr_auth.specs.declared.areas.Area.{Area}
 use Rattle.pfr_auth.specs.declared.fail.ActiveFail.{ActiveFail}
+use Rattle.pfr_jobs.specs.declared.job.JobKind.TheVariants.{ActiveFromStaging}
+use Rattle.pfr_report.specs.declared.note.What.TheVariants.{Updated}
 use Rattle.pfr_story.specs.Story.{Story, Plan, after, then, device_of}
 use Rattle.pfr_story.specs.World.{World, story_of, state_at}
 use Rattle.pfr_story.specs.Goes.{Ran, Goes}
 use Rattle.pfr_story.specs.Plans.{mine, asks, judged_active, judged_recovery, judged_staging, restored, updated, by_second, checked_again, by_active, tail}
 use Rattle.pfr_story.specs.declared.stop.Stop.{Stop}
-use Rattle.pfr_story.proofs.RestoreLaws.{restored_judged, updated_judged}
+use Rattle.pfr_story.proofs.AnewLaws.{anew_judged}
+use Rattle.pfr_story.proofs.RestoreLaws.{found_staged, not_staging, restored_judged}
 use Rattle.pfr_machine.specs.Worlds.{DeskState, Stays}
 use Rattle.pfr_machine.specs.Ready.{HaltsIn, EndsSeated, DistrustedBy}
 use Rattle.pfr_machine.specs.declared.desk.Halt.{Halt}
@@ -84,8 +88,19 @@ module _ (accepts : Acceptance) (fuses : FusesState) where
     pub updated_trusted : (dynamic : Bool) → judged_staging accepts old.bank fuses (story_of old.world) ≡ Ok capsule → Ran (updated old.bank dynamic fuses capsule (story_of old.world)) old.world mid.world → mid.bank ≡ old.bank
         → IsOk (judged_active accepts mid.bank fuses (story_of mid.world))
     updated_trusted dynamic judged p same =
+        let layout : Layout = layout_of fuses.provision old.bank in
+        let good = found_staged accepts old.bank fuses capsule (story_of old.world) found here_valid here_bytes judged in
         judged_anew (updated old.bank dynamic fuses capsule) capsule.manifest old mid
-        (updated_judged accepts old.bank dynamic fuses capsule (story_of old.world) (record { provisioned = found; layout = here_valid; size = here_size; bytes = here_bytes; judged = judged })) p same
+        (anew_judged accepts old.bank (ActiveFromStaging dynamic) (not_staging dynamic) (Updated old.bank dynamic capsule.manifest.svn) (story_of old.world) fuses capsule (record {
+          place = layout.staging_at;
+          len = layout.area_len;
+          good = good.0;
+          capsule_is = good.1;
+          provisioned = found;
+          inside = here_valid.inside.staging;
+          size = here_size;
+          bytes = here_bytes;
+        })) p same
 
   -- ---- the capsule in an area was judged
   abbrev judged_in : Area → Bank → Story → Result CapsuleState CapsuleFail

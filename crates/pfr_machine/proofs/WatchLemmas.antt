@@ -30,7 +30,7 @@ use Rattle.pfr_story.proofs.Courses.{Steps-next}
 use Rattle.pfr_story.proofs.Sequence.{Ran-append, Ran-refl, Stopped-next}
 use Rattle.pfr_machine.specs.Inside.{IsWhole}
 use Rattle.pfr_machine.specs.Ready.{AreBrought, Brings, BroughtUp, LeavesSeated, LeavesWhole}
-use Rattle.pfr_machine.specs.Watching.{AreUp, BringsDue, ExpiresBoth, clocked, due_stretches}
+use Rattle.pfr_machine.specs.Watching.{AreUp, BringsDue, ExpiresDue, clocked, due_stretches}
 use Rattle.pfr_machine.specs.Working.{work_stretch}
 use Rattle.pfr_machine.specs.Worlds.{AddsNotes, DeskState, with_note}
 use Rattle.pfr_machine.specs.declared.working.Dark.{Dark}
@@ -101,31 +101,35 @@ brought_one : (b : Bank) (old new : World) → AreUp old → BroughtUp b 7 old n
 brought_one b old new up u =
     let on = both_up b 7 old new up u in record { bmc = on bank.Bmc; pch = on bank.Pch; notes = AddsNotes-most 7 14 old.notes new.notes u.notes (omega arith); nv = u.nv }
 
-module _ (F : Type 0) (first second : Stretch) where
-  -- only the BMC's did, or neither did
-  first_alone : (due : Bool) (old mid : World) → (due ≡ true → AreUp old) → BringsDue {F = F} due first bank.Bmc 7 old (Ok mid) → ExpiresBoth {F = F} (stretch_if due first []) 14 old (Ok mid)
-  first_alone true old mid up h = (one_brought first old mid h.0, inr (brought_one bank.Bmc old mid (up refl) h.1))
-  first_alone false old mid up h =
-      let same : mid ≡ old = cc in (subst (λ (w : World). Ran [] old w) (sym same) (Ran-refl old), inl same)
+module _ (F : Type 0) (accepts : Acceptance) where
+  abbrev expiry_at : Bank → Stretch
+  expiry_at b = expiry_stretch accepts b
 
-  -- only the PCH's did
-  second_alone : (old : World) (r : Result World (Dark F)) → AreUp old → Brings second bank.Pch 7 old r → ExpiresBoth (second ∷ []) 14 old r
-  second_alone old (Ok new) up h = (one_brought second old new h.0, inr (brought_one bank.Pch old new up h.1))
-  second_alone old (Err dark) up h = (one_lost second old dark.inner h.0, h.1, AddsNotes-most 7 14 old.notes dark.inner.notes h.2 (omega arith))
+  pub due_lost : (due next : Bool) (old : World) (dark : Dark F) → BringsDue due (expiry_at bank.Bmc) bank.Bmc 7 old (Err dark) → ExpiresDue accepts due next 14 old (Err dark)
+  due_lost true next old dark h = (inr (inr h.0), h.1, AddsNotes-most 7 14 old.notes dark.inner.notes h.2 (omega arith), refl)
+  due_lost false next old dark h = absurd cc
 
-  module _ (a : first.goes_on ≡ true) (z : second.goes_on ≡ true) where
-    second_then : (due : Bool) (old mid : World) (r : Result World (Dark F)) → AreUp old → BringsDue {F = F} due first bank.Bmc 7 old (Ok mid) → Brings second bank.Pch 7 mid r
-        → ExpiresBoth (stretch_if due first (second ∷ [])) 14 old r
-    second_then true old mid (Ok new) up h k = (both_steps first second old mid new a z h.0 k.0, inr (brought_both old mid new up h.1 k.1))
-    second_then true old mid (Err dark) up h k = (second_lost first second old mid dark.inner a h.0 k.0, k.1, AddsNotes-then 7 7 old.notes mid.notes dark.inner.notes h.1.notes k.2)
-    second_then false old mid r up h k =
-        let same : mid ≡ old = cc in second_alone old r up (subst (λ (w : World). Brings second bank.Pch 7 w r) same k)
+  -- where the BMC's didn't
+  second_alone : (next : Bool) (old : World) (r : Result World (Dark F)) → (next ≡ true → AreUp old) → BringsDue next (expiry_at bank.Pch) bank.Pch 7 old r → ExpiresDue accepts false next 14 old r
+  second_alone true old (Ok new) up h = (one_brought (expiry_at bank.Pch) old new h.0, inr (refl, brought_one bank.Pch old new (up refl) h.1))
+  second_alone true old (Err dark) up h = (one_lost (expiry_at bank.Pch) old dark.inner h.0, h.1, AddsNotes-most 7 14 old.notes dark.inner.notes h.2 (omega arith), refl)
+  second_alone false old r up h =
+      subst (λ (x : Result World (Dark F)). ExpiresDue accepts false false 14 old x) (sym h) (Ran-refl old, inl (refl, refl))
 
-    pub due_both : (due next : Bool) (old mid : World) (r : Result World (Dark F)) → (due ≡ true → AreUp old) → (next ≡ true → AreUp old) → BringsDue {F = F} due first bank.Bmc 7 old (Ok mid) → BringsDue next second bank.Pch 7 mid r
-        → ExpiresBoth (stretch_if due first (stretch_if next second [])) 14 old r
-    due_both due true old mid r some other h k = second_then due old mid r (other refl) h k
-    due_both due false old mid r some other h k =
-        subst (λ (x : Result World (Dark F)). ExpiresBoth (stretch_if due first []) 14 old x) (sym k) (first_alone due old mid some h)
+  -- where it did
+  second_then : (next : Bool) (old mid : World) (r : Result World (Dark F)) → AreUp old → CrossesOrFaults (expiry_at bank.Bmc) old mid × BroughtUp bank.Bmc 7 old mid → BringsDue next (expiry_at bank.Pch) bank.Pch 7 mid r
+      → ExpiresDue accepts true next 14 old r
+  second_then true old mid (Ok new) up h k = (both_steps (expiry_at bank.Bmc) (expiry_at bank.Pch) old mid new refl refl h.0 k.0, inr (refl, brought_both old mid new up h.1 k.1))
+  second_then true old mid (Err dark) up h k =
+      (second_lost (expiry_at bank.Bmc) (expiry_at bank.Pch) old mid dark.inner refl h.0 k.0, k.1, AddsNotes-then 7 7 old.notes mid.notes dark.inner.notes h.1.notes k.2, refl)
+  second_then false old mid r up h k =
+      subst (λ (x : Result World (Dark F)). ExpiresDue accepts true false 14 old x) (sym k) (one_brought (expiry_at bank.Bmc) old mid h.0, inr (refl, brought_one bank.Bmc old mid up h.1))
+
+  pub due_both : (due next : Bool) (old mid : World) (r : Result World (Dark F)) → (due ≡ true → AreUp old) → (next ≡ true → AreUp old) → BringsDue {F = F} due (expiry_at bank.Bmc) bank.Bmc 7 old (Ok mid)
+      → BringsDue next (expiry_at bank.Pch) bank.Pch 7 mid r → ExpiresDue accepts due next 14 old r
+  due_both true next old mid r some other h k = second_then next old mid r (some refl) h k
+  due_both false next old mid r some other h k =
+      let same : mid ≡ old = cc in second_alone next old r other (subst (λ (w : World). BringsDue next (expiry_at bank.Pch) bank.Pch 7 w r) same k)
 
 -- ---- ticks
 -- a bank whose watch expires runs

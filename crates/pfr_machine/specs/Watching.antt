@@ -1,5 +1,5 @@
 -- What is done where watches tick and expire.
-use Rattle.std.specs.Prelude.{◌≡◌, ◌≢◌, ℕ, ◌⊎◌, Bool, true, false, List, [], Result, Ok, Err}
+use Rattle.std.specs.Prelude.{◌≡◌, ◌≢◌, ◌⊎◌, ◌||◌, ℕ, Bool, true, false, List, [], Result, Ok, Err}
 use Rattle.pfr_flash.specs.declared.names.Bank.{Bank}
 use Rattle.pfr_flash.specs.declared.names.Bank.TheVariants as bank
 use Rattle.pfr_engine.specs.Acceptance.{Acceptance}
@@ -29,7 +29,11 @@ BringsDue false stretch which most old r = r ≡ Ok old
 abbrev pub due_stretches : Acceptance → Bool → Bool → List Stretch
 due_stretches accepts bmc pch = stretch_if bmc (expiry_stretch accepts bank.Bmc) (stretch_if pch (expiry_stretch accepts bank.Pch) [])
 
--- Work on the banks whose watches expired, one after the other; nothing was done where there were none.
-abbrev pub ExpiresBoth : {F : Type 0} → List Stretch → ℕ → World → Result World (Dark F) → Type 0
-ExpiresBoth stretches most old (Ok new) = Steps stretches old new × ((new ≡ old) ⊎ AreBrought most old new)
-ExpiresBoth stretches most old (Err dark) = Steps stretches old dark.inner × IsDark dark.inner × AddsNotes most old.notes dark.inner.notes
+-- where one did, both banks are released or locked, and else nothing was done
+abbrev pub LeavesDue : Bool → ℕ → World → World → Type 0
+LeavesDue any most old new = ((any ≡ false) × (new ≡ old)) ⊎ ((any ≡ true) × AreBrought most old new)
+
+-- Work on the banks whose watches expired, one after the other.
+abbrev pub ExpiresDue : {F : Type 0} → Acceptance → Bool → Bool → ℕ → World → Result World (Dark F) → Type 0
+ExpiresDue accepts bmc pch most old (Ok new) = Steps (due_stretches accepts bmc pch) old new × LeavesDue (bmc || pch) most old new
+ExpiresDue accepts bmc pch most old (Err dark) = Steps (due_stretches accepts bmc pch) old dark.inner × IsDark dark.inner × AddsNotes most old.notes dark.inner.notes × ((bmc || pch) ≡ true)

@@ -10,14 +10,16 @@ ghost use Rattle.pfr_report.specs.Texts.{AllText};
 ghost use Rattle.pfr_story.specs.Bringing.{BringsUpCalm, PowerReleases};
 ghost use Rattle.pfr_story.specs.Course.{Calm};
 ghost use Rattle.pfr_story.specs.Filtering.{FiltersSo};
+ghost use Rattle.pfr_story.specs.Guarding.{Boots, Expires, GuardsFollow};
 ghost use Rattle.pfr_story.specs.Guards.{first_guards};
-ghost use Rattle.pfr_story.specs.Promises.{ReleasesTrusted, LocksHaveCauses, RestoresGood, ProvisionsSo, FaultsAreNoted, FaultsHaveCauses, LossesAreNoted, LostEnds, LostIsDark, NotesOff, StaysQuiet, CallsNone, HasPower, DistrustsWithCause, NotesBelong, AreOff, IsKnownSlot, Runs};
+ghost use Rattle.pfr_story.specs.Promises.{ReleasesTrusted, LocksHaveCauses, RestoresGood, ProvisionsSo, FaultsAreNoted, FaultsHaveCauses, LossesAreNoted, LostEnds, LostIsDark, NotesOff, StaysQuiet, CallsNone, HasPower, DistrustsWithCause, NotesBelong, AreOff, IsKnownSlot, JudgesAtPower, Runs};
 ghost use Rattle.pfr_story.specs.Recovery.{CountsRise, StaysRecoverable};
 ghost use Rattle.pfr_story.specs.Run.{armed, takes_arm};
 ghost use Rattle.pfr_story.specs.Spans.{ReleasedSpans};
 ghost use Rattle.pfr_story.specs.Standing.{standing_of, standing_by};
 ghost use Rattle.pfr_story.specs.Story.{device_of};
 ghost use Rattle.pfr_story.specs.Turn.{Turn, begun, course, is_idle};
+ghost use Rattle.pfr_story.specs.Updating.{Updates};
 ghost use Rattle.pfr_story.specs.World.{AllMoved, AreDevices, IsDark, NoneLost, NoneRose, added, state_at, story_of};
 ghost use Rattle.pfr_story.specs.declared.line.Line.TheVariants as line;
 ghost use Rattle.pfr_machine.specs.Inside.{HasSizes};
@@ -118,8 +120,17 @@ impl<F: Flash, E: Engine + Drop> Platform<F, E> {
         ensures restores { OnOk result (RestoresGood (E.accepts self.old.engine) self.old.world self.new.world) }
         ensures brings_up { OnOk result (BringsUpCalm event.now (E.accepts self.old.engine) self.old.world self.new.world) }
         ensures provisions { OnOk result (ProvisionsSo event.now self.old.world self.new.world) }
+        // At no event but a power-on is a bank called untrusted, or locked for its contents.
+        ensures judges { OnOk result (JudgesAtPower event.now self.old.world self.new.world) }
         // Frames on the buses of a bank that runs are judged by what it is trusted by.
         ensures filters { OnOk result (FiltersSo event.now (E.accepts self.old.engine) self.old.world self.new.world) }
+        // An update of a bank that runs is judged before anything is written.
+        ensures updates { OnOk result (Updates event.now (E.accepts self.old.engine) self.old.world self.new.world) }
+        // A bank whose watch expires is restored or locked, a stage that is passed is noted, and what guards the banks is moved by
+        // the ticks of the event and by the notes alone.
+        ensures expires { OnOk result (Expires event.now (E.accepts self.old.engine) self.old.world self.new.world) }
+        ensures boots { OnOk result (Boots event.now self.old.world self.new.world) }
+        ensures guards { OnOk result (GuardsFollow event.now self.old.world self.new.world) }
         ensures belongs { OnOk result (NotesBelong event.now self.old.world self.new.world) }
 
         // So far each bank was trusted throughout each span in which it stood released, and in none of them a byte was written that

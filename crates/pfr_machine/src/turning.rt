@@ -1,5 +1,5 @@
 // What is done at each event.
-ghost use Rattle.std.specs.Prelude.{◌≡◌, ◌≢◌, ◌*◌, ◌<◌, ◌≤◌, ◌∷◌, [], length, true, false, OnOk, OnErr};
+ghost use Rattle.std.specs.Prelude.{◌≡◌, ◌≢◌, ◌⊎◌, ◌*◌, ◌<◌, ◌≤◌, ◌∷◌, [], length, true, false, OnOk, OnErr};
 ghost use Rattle.pfr_auth.specs.Trusted.{IsTrusted};
 ghost use Rattle.pfr_flash.specs.FlashState.{now};
 ghost use Rattle.pfr_flash.specs.declared.names.Bank.{Bank};
@@ -7,7 +7,7 @@ ghost use Rattle.pfr_flash.specs.declared.names.Bank.TheVariants.{Bmc, Pch};
 ghost use Rattle.pfr_report.specs.Texts.{AllText};
 ghost use Rattle.pfr_story.specs.Course.{Follows, Steps};
 ghost use Rattle.pfr_story.specs.Goes.{Ran};
-ghost use Rattle.pfr_story.specs.Promises.{IsIdle, IsKnownSlot, Runs};
+ghost use Rattle.pfr_story.specs.Promises.{IsIdle, IsKnownSlot, IsUneventful, Runs};
 ghost use Rattle.pfr_story.specs.Standing.{standing_of, is_off, is_running, Off};
 ghost use Rattle.pfr_story.specs.Story.{device_of};
 ghost use Rattle.pfr_story.specs.Turn.{bank_stretch, course, ignored, is_idle, next_item, off_course, power_course, taken, unreadable};
@@ -169,6 +169,7 @@ impl<F: Flash> Inner<F> {
         ensures follows { Follows (taken (E.accepts engine.now) event.now (story_of self)) (clocked event.now self) result }
         ensures leaves { LeavesWhole 64 self result }
         ensures dark { added self result ≢ [] → standing_of Bmc result.notes.list ≡ Off → IsDark result }
+        ensures untouched { IsUneventful event.now self → SameDevices self result }
         ensures spelled { IsKnownSlot event.now }
     {
         match event {
@@ -192,7 +193,7 @@ impl<F: Flash> Inner<F> {
         ensures follows { Follows (course (E.accepts engine.now) event.now (story_of self)) (clocked event.now self) result }
         ensures leaves { LeavesWhole 64 self result }
         ensures dark { is_idle event.now (story_of self) ≡ false → added self result ≢ [] → standing_of Bmc result.notes.list ≡ Off → IsDark result }
-        ensures untouched { IsIdle event.now self → SameDevices self result }
+        ensures untouched { IsIdle event.now self ⊎ IsUneventful event.now self → SameDevices self result }
         ensures spelled { standing_of Bmc self.notes.list ≢ Off → IsKnownSlot event.now }
     {
         if self.is_idle(event) {

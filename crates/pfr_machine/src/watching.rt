@@ -12,16 +12,16 @@ ghost use Rattle.pfr_story.specs.Course.{Follows, Steps};
 ghost use Rattle.pfr_story.specs.Goes.{Ran};
 ghost use Rattle.pfr_story.specs.Guards.{guard_at};
 ghost use Rattle.pfr_story.specs.Plans.{level_after, recovered_with};
-ghost use Rattle.pfr_story.specs.Promises.{Runs};
+ghost use Rattle.pfr_story.specs.Promises.{IsUneventful, Runs};
 ghost use Rattle.pfr_story.specs.Standing.{standing_of, Off};
 ghost use Rattle.pfr_story.specs.Story.{Says, device_of};
 ghost use Rattle.pfr_story.specs.Turn.{boot_course, expiry_stretch, is_due, pass_note, stage_at, tick_course};
-ghost use Rattle.pfr_story.specs.World.{IsDark, added, state_at, story_of};
+ghost use Rattle.pfr_story.specs.World.{IsDark, SameDevices, added, state_at, story_of};
 ghost use Rattle.pfr_watch.specs.Stages.{next_stage};
 ghost use Rattle.pfr_watch.specs.Watching.{unless_done};
 ghost use Rattle.pfr_machine.specs.Inside.{IsWhole};
 ghost use Rattle.pfr_machine.specs.Ready.{Brings, EndsSeated, LeavesWhole};
-ghost use Rattle.pfr_machine.specs.Watching.{AreUp, BringsDue, ExpiresBoth, clocked, due_stretches};
+ghost use Rattle.pfr_machine.specs.Watching.{AreUp, BringsDue, ExpiresDue, clocked};
 ghost use Rattle.pfr_machine.specs.Worlds.{IsAwake, with_note};
 
 use crate::desk::{Desk, Halt};
@@ -131,7 +131,7 @@ impl<F: Flash> Inner<F> {
         requires room { 14 ≤ self.notes.spare }
         requires bmc { bmc ≡ true → AreUp self }
         requires pch { pch ≡ true → AreUp self }
-        ensures { ExpiresBoth (due_stretches (E.accepts engine.now) bmc pch) 14 self result }
+        ensures { ExpiresDue (E.accepts engine.now) bmc pch 14 self result }
     {
         self.expire_if(bmc, Bank::Bmc, engine)?
             .expire_if(pch, Bank::Pch, engine)
@@ -155,6 +155,7 @@ impl<F: Flash> Inner<F> {
         ensures follows { Follows (tick_course (E.accepts engine.now) n (story_of self)) (clocked (Tick n) self) result }
         ensures leaves { LeavesWhole 64 self result }
         ensures dark { added self result ≢ [] → standing_of Bmc result.notes.list ≡ Off → IsDark result }
+        ensures untouched { IsUneventful (Tick n) self → SameDevices self result }
     {
         let (bmc, pch) = self.tick_watches(n);
         match self.expire_due(bmc, pch, engine) {
