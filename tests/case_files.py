@@ -6,8 +6,8 @@ import hashlib
 import os
 import re
 
+import foreseer
 import frame_scripts
-import framer
 import maker
 import restorer
 from case_reader import CaseFault
@@ -150,7 +150,11 @@ class Files:
 
     def restored(self, bank, target, level="1"):
         """restored BANK TARGET [LEVEL]: the bank's bytes as a restore at a level leaves them, 1 where none is told."""
-        self.held[target] = restorer.restored(self.get(bank), self.get("nv"), bank, int(level))
+        self.held[target] = restorer.restored(self.get(bank), self.get("nv"), bank, level)
+
+    def updated(self, bank, target, intent):
+        """updated BANK TARGET INTENT: the bank's bytes as an update leaves them, `active` or `full`."""
+        self.restored(bank, target, intent)
 
     def cut_restore(self, bank, target, nth, tear):
         """cut_restore BANK TARGET N TEAR: the same where the nth operation was torn so, and nothing more was done."""
@@ -176,7 +180,8 @@ class Files:
     def foresee(self, name, *words):
         """foresee NAME [BMC PCH NV SCRIPT [WEAR]]: what a script makes of a platform: its report, and what it leaves."""
         bmc, pch, nv, script, *wear = words or ("bmc", "pch", "nv", "script")
-        found = framer.foreseen(*map(self.get, (bmc, pch, nv)), self.get(script).decode(), *map(int, wear))
+        images, texts = map(self.get, (bmc, pch, nv)), [self.get(name).decode() for name in ("engine", script)]
+        found = foreseer.foreseen(*images, *texts, *map(int, wear))
         for part, content in zip(found._fields, found):
             self.held[f"{name}.{part}"] = content
 
@@ -190,7 +195,7 @@ class Files:
             raise CaseFault(f"{line.place}: no line {word}")
         try:
             return method(*rest, block=line.block) if word in ("text", "script") else method(*rest)
-        except (TypeError, ValueError, KeyError, CaseFault, framer.Unforeseen) as error:
+        except (TypeError, ValueError, KeyError, CaseFault, foreseer.Unforeseen) as error:
             raise CaseFault(f"{line.place}: {error}") from None
 
     def written(self):
@@ -200,7 +205,7 @@ class Files:
 
 LINES = (
     "platform source copy text script fill zeros folder seal turn put number into append keep change repeat"
-    " restored cut_restore frames drawn sweep foresee".split()
+    " restored updated cut_restore frames drawn sweep foresee".split()
 )
 
 
