@@ -129,7 +129,7 @@ def set_option(description, parts, path, text):
         table["image"] = shifted(table["image"], int(text))
     elif names[-1] == "commands":
         table["commands"] = text.ljust(64, "0")
-    elif names[-1] in ("x", "y", "revision", "oem"):
+    elif names[-1] in ("x", "y", "revision", "oem", "pages"):
         table[names[-1]] = text
     else:
         table[names[-1]] = int(text, 0)
