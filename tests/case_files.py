@@ -6,6 +6,7 @@ import hashlib
 import os
 import re
 
+import day_scripts
 import foreseer
 import frame_scripts
 import maker
@@ -173,6 +174,10 @@ class Files:
         """drawn N: the files of a platform and a script of frames, drawn from the number."""
         self.held.update(frame_scripts.drawn_files(int(number)))
 
+    def drawn_day(self, number):
+        """drawn_day N: the files of a platform and a script of boots, ticks, updates and frames, drawn from the number."""
+        self.held.update(day_scripts.drawn_files(int(number)))
+
     def sweep(self, name):
         """sweep NAME: a script that gives the BMC all frames of a kind."""
         self.held["script"] = frame_scripts.sweep_script(name)
@@ -205,7 +210,7 @@ class Files:
 
 LINES = (
     "platform source copy text script fill zeros folder seal turn put number into append keep change repeat"
-    " restored updated cut_restore frames drawn sweep foresee".split()
+    " restored updated cut_restore frames drawn drawn_day sweep foresee".split()
 )
 
 

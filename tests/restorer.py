@@ -121,8 +121,8 @@ def done_to(image, at, piece):
     """The image once an operation is done: an erase where it has no bytes, or a program of these."""
     if piece is None:
         return maker.place(image, at, maker.blank(PAGE))
-    old = image[at : at + len(piece)]
-    return maker.place(image, at, bytes(a & b for a, b in zip(old, piece)))
+    old, new = (int.from_bytes(part, "little") for part in (image[at : at + len(piece)], piece))
+    return maker.place(image, at, (old & new).to_bytes(len(piece), "little"))
 
 
 def torn_to(image, at, piece, tear):
