@@ -56,13 +56,13 @@ use Rattle.pfr_story.proofs.StoreLaws.{Stored, Stored-none}
 use Rattle.pfr_story.proofs.ProvisionLaws.{whole_part}
 
 -- ---- the devices, one by one
-past_noted : (d : Device) (w : Counts → What) (story : Story) → past_at d (noted w story) ≡ past_at d story
+pub past_noted : (d : Device) (w : Counts → What) (story : Story) → past_at d (noted w story) ≡ past_at d story
 past_noted device.Bmc w story = refl
 past_noted device.Pch w story = refl
 past_noted device.Nv w story = refl
 
 -- an operation of one device leaves the others
-past_other : (which d : Device) (op : Operation) (story : Story) → d ≢ which → past_at d (operated which op story) ≡ past_at d story
+pub past_other : (which d : Device) (op : Operation) (story : Story) → d ≢ which → past_at d (operated which op story) ≡ past_at d story
 past_other device.Bmc device.Bmc op story apart = absurd (apart refl)
 past_other device.Pch device.Pch op story apart = absurd (apart refl)
 past_other device.Nv device.Nv op story apart = absurd (apart refl)
@@ -74,7 +74,7 @@ past_other device.Nv device.Bmc op story apart = refl
 past_other device.Nv device.Pch op story apart = refl
 
 -- by device, of a step
-same_ops : (e : Event) (d : Device) (old new : World) → past_at d (story_of new) ≡ past_at d (story_of (begun e old)) → (state_at d new).ops ≡ (state_at d old).ops
+pub same_ops : (e : Event) (d : Device) (old new : World) → past_at d (story_of new) ≡ past_at d (story_of (begun e old)) → (state_at d new).ops ≡ (state_at d old).ops
 same_ops e device.Bmc old new same = ap (λ (p : Past). p.ops) same
 same_ops e device.Pch old new same = ap (λ (p : Past). p.ops) same
 same_ops e device.Nv old new same = ap (λ (p : Past). p.ops) same
