@@ -144,8 +144,8 @@ ends_parts b L moves more from to (inl e) = inr (inl (e ∙ after-append moves m
 ends_parts b L moves more from to (inr p) = elim (cut_in p.which moves more from p.trace p.cut.front p.cut.next p.cut.rest p.cut.last p.cut.plan p.cut.is p.cut.failed) [
   | inl cut ↦ inl (record { which = p.which; trace = p.trace; cut = cut; last = p.last; trouble = p.trouble; is = p.is })
   | inr k ↦
-    let is : to ≡ noted p.last (after k.0 (after moves from)) = p.is ∙ ap (λ (trace : List Move). noted p.last (after trace from)) k.1 ∙ ap (λ (s : Story). noted p.last s) (after-append moves k.0 from) in
-    inr (inr (record { which = p.which; trace = k.0; cut = k.2; last = p.last; trouble = p.trouble; is = is }))
+      let is : to ≡ noted p.last (after k.0 (after moves from)) = p.is ∙ ap (λ (trace : List Move). noted p.last (after trace from)) k.1 ∙ ap (λ (s : Story). noted p.last s) (after-append moves k.0 from) in
+      inr (inr (record { which = p.which; trace = k.0; cut = k.2; last = p.last; trouble = p.trouble; is = is }))
 ]
 
 -- nothing that was left to do was cut short

@@ -220,11 +220,10 @@ module _ (accepts : Acceptance) (b : Bank) (level : ℕ) (first new : World) (ha
       let capsule : CapsuleState = k.1 in
       let good = found_good accepts b fuses capsule held ready_held.provisioned ready_held.layout (subst AreBytes (sym (mine_there accepts b level fuses start ready)) bytes) k.2 in
       let at_end = restored_anew accepts b level Losing fuses p.at p.end ready ending p.stands.size bytes p.moved k.0 capsule k.2 here in
-      let anew = anew_later accepts b (ActiveFromRecovery level) fuses capsule (mine b held) (story_of p.end) (story_of new) p.kept.mine p.kept.store at_end in
-      (
+      let anew = anew_later accepts b (ActiveFromRecovery level) fuses capsule (mine b held) (story_of p.end) (story_of new) p.kept.mine p.kept.store at_end in (
         record { fuses = fuses; provisioned = ready_held.provisioned; good = good.0 },
         made_so accepts b (ActiveFromRecovery level) fuses good.0.capsule (mine b held) new
-          (subst (λ (c : CapsuleState). IsAnew accepts b (ActiveFromRecovery level) fuses c (mine b held) (story_of new)) (sym good.1) anew),
+            (subst (λ (c : CapsuleState). IsAnew accepts b (ActiveFromRecovery level) fuses c (mine b held) (story_of new)) (sym good.1) anew),
       )
 
   expires_at : ExpiresAt accepts b level new notes (counts_of held)
@@ -449,17 +448,20 @@ module _ (accepts : Acceptance) (old new : World) (bmc : IsBankSize (size_of old
   failed_here which on f =
       let first : World = begun (event.Boot which false) old in
       let runs : Runs which old = (taken_boots (standing_of which old.notes.list) (stage_at which (story_of old)) on).0 in
-      inl ((refl, on), record {
-        at = first;
-        end = new;
-        stands = stands_here (event.Boot which false) which runs;
-        ending = single_ends (expiry_stretch accepts which) which (Wrote (Elsewhere bank.Pch) new new) (λ d. refl) (wrote_none (Elsewhere bank.Pch) new new refl) first new f;
-        before = wrote_none (Early which) first first refl;
-        behind = wrote_none (Elsewhere which) new new refl;
-        kept = record { mine = refl; store = refl };
-        moved = follows_moved (boot_course accepts which false (story_of old)) first new f;
-        left = AllMoved-refl new;
-      })
+      inl (
+        (refl, on),
+        record {
+          at = first;
+          end = new;
+          stands = stands_here (event.Boot which false) which runs;
+          ending = single_ends (expiry_stretch accepts which) which (Wrote (Elsewhere bank.Pch) new new) (λ d. refl) (wrote_none (Elsewhere bank.Pch) new new refl) first new f;
+          before = wrote_none (Early which) first first refl;
+          behind = wrote_none (Elsewhere which) new new refl;
+          kept = record { mine = refl; store = refl };
+          moved = follows_moved (boot_course accepts which false (story_of old)) first new f;
+          left = AllMoved-refl new;
+        },
+      )
 
   failed_other : (b : Bank) → ¬ (b ≡ other_bank b) → Follows (boot_course accepts b false (story_of old)) (begun (event.Boot b false) old) new → Outcome accepts (event.Boot b false) (other_bank b) old new
   failed_other b other f =

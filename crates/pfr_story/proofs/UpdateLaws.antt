@@ -146,10 +146,15 @@ module _ (accepts : Acceptance) (b : Bank) (dynamic : Bool) (fuses : FusesState)
     staged_known (Ok capsule) j =
         let ops = job_ops (ActiveFromStaging dynamic) (mine b held) capsule (layout_of fuses.provision b) in
         let made : List Move = updated b dynamic fuses capsule held in
-        let left : Story = after made held in
-        (tt, (tt, AllSafe-append (Saying Update) made (checked_again accepts b fuses left) held
-          (AllSafe-append (Saying Update) _ (Says (λ _. what.Updated b dynamic capsule.manifest.svn) ∷ []) held (call_says Update (device_of b) ops held) ((capsule, j, refl), tt))
-          (tt, second_known (judged_active accepts b fuses left) left)))
+        let left : Story = after made held in (
+          tt,
+          (
+            tt,
+            AllSafe-append (Saying Update) made (checked_again accepts b fuses left) held
+                (AllSafe-append (Saying Update) _ (Says (λ _. what.Updated b dynamic capsule.manifest.svn) ∷ []) held (call_says Update (device_of b) ops held) ((capsule, j, refl), tt))
+                (tt, second_known (judged_active accepts b fuses left) left),
+          ),
+        )
     staged_known (Err cause) j = subst (λ (moves : List Move). AllSafe (Saying Update) moves held) (sym (refused_is cause)) (tt, (tt, (j, (tt, (tt, tt)))))
 
 -- ---- from one world to another
@@ -304,12 +309,11 @@ module _ (accepts : Acceptance) (b : Bank) (intent : Intent) (fuses : FusesState
         let k = (known (what.Updated b dynamic svn) n).1 in
         let capsule : CapsuleState = k.0 in
         let good = found_staged accepts b fuses capsule there ready_there.provisioned ready_there.layout bytes k.1 in
-        let anew = updated_anew capsule k.1 (subst (λ (x : ℕ). IsNoted (added first new) (what.Updated b dynamic x)) (sym k.2) n) in
-        (
+        let anew = updated_anew capsule k.1 (subst (λ (x : ℕ). IsNoted (added first new) (what.Updated b dynamic x)) (sym k.2) n) in (
           record { fuses = fuses; provisioned = ready_there.provisioned; good = good.0 },
           sym k.2 ∙ ap (λ (c : CapsuleState). c.manifest.svn) (sym good.1),
           made_so accepts b (ActiveFromStaging dynamic) fuses good.0.capsule (mine b there) new
-            (subst (λ (c : CapsuleState). IsAnew accepts b (ActiveFromStaging dynamic) fuses c (mine b there) (story_of new)) (sym good.1) anew),
+              (subst (λ (c : CapsuleState). IsAnew accepts b (ActiveFromStaging dynamic) fuses c (mine b there) (story_of new)) (sym good.1) anew),
         )
 
     abbrev UpdatesAndReleases : ℕ → Type 0
@@ -321,9 +325,11 @@ module _ (accepts : Acceptance) (b : Bank) (intent : Intent) (fuses : FusesState
         let hold : Note = record { item = start.item; what = what.Held b (counts_of start) } in
         let then : Counts = counts_of (after (updated b dynamic fuses capsule there) there) in
         let anew = anew_releases accepts b (ActiveFromStaging dynamic) (not_staging dynamic) (what.Updated b dynamic svn) there fuses capsule (made_from capsule j) in
-        let notes = behind_next (what.Updated b dynamic svn) (what.Released b svn then) hold _ anew in
-        (then, subst (λ (all : List Note). IsNotedBehind (what.Updated b dynamic svn) (what.Released b svn then) all)
-          (sym (added_said first new (record { trace = with_held (work (Ok capsule)); is = whole_by (Ok capsule) j calm }))) notes)
+        let notes = behind_next (what.Updated b dynamic svn) (what.Released b svn then) hold _ anew in (
+          then,
+          subst (λ (all : List Note). IsNotedBehind (what.Updated b dynamic svn) (what.Released b svn then) all)
+              (sym (added_said first new (record { trace = with_held (work (Ok capsule)); is = whole_by (Ok capsule) j calm }))) notes,
+        )
 
     -- it is refused, and released again
     abbrev IsRefused : CapsuleFail → Type 0
