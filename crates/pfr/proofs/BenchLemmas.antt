@@ -21,12 +21,19 @@ use Rattle.pfr_story.specs.Spans.{ReleasedSpans}
 use Rattle.pfr_story.specs.Promises.{FaultsAreNoted, ReleasesTrusted, LocksHaveCauses, FaultsHaveCauses}
 use Rattle.pfr_story.specs.Guards.{Guards}
 use Rattle.pfr_story.proofs.Bytes.{HaveBytes, have_bytes}
+use Rattle.pfr_story.proofs.Entry.{TrustedRunning}
+use Rattle.pfr_story.proofs.ExpireLaws.{Turn-boots, Turn-expires}
+use Rattle.pfr_story.proofs.FilterLaws.{Turn-filters}
+use Rattle.pfr_story.proofs.GuardLaws.{Turn-guards}
+use Rattle.pfr_story.proofs.JudgedLaws.{Turn-judges}
 use Rattle.pfr_story.proofs.NoteLaws.{Turn-distrusts, Turn-restores}
 use Rattle.pfr_story.proofs.FaultLaws.{Turn-told}
 use Rattle.pfr_story.proofs.BringLaws.{Turn-brings, Turn-powers}
 use Rattle.pfr_story.proofs.RecoveryLaws.{Turn-recoverable}
 use Rattle.pfr_story.proofs.RiseLaws.{Turn-counted}
-use Rattle.pfr_story.proofs.RunLaws.{IsFresh, IsLater, IsLater-refl, Reached-spans, Reached-releases, Reached-causes, Reached-faults, Reached-told, Reached-with, armed_story, failed_armed}
+use Rattle.pfr_story.proofs.UpdateLaws.{Turn-updates}
+use Rattle.pfr_story.proofs.RunLaws.{IsFresh, IsLater, Reached-spans, Reached-releases, Reached-causes, Reached-faults, Reached-told, armed_story, failed_armed}
+use Rattle.pfr_story.proofs.TrustedRunLaws.{IsUnderway, fresh_underway, underway_trusted, Reached-with}
 use Rattle.pfr_machine.specs.Inside.{HasSizes}
 use Rattle.pfr.specs.Benches.{fresh_of, end_of, StandsAs, HasRun, IsRun}
 use Rattle.pfr.specs.Promises.{TellsOfFaults, TellsIn, IsUnheard, IsRunWith, HasReleasedSpans, ReleasesTrustedBanks, HasDueLocks, BringsBanksUp, BringsUpIn, KeepsFuses, StaysProvisioned}
@@ -59,8 +66,8 @@ releases_as accepts old w item spare guards p bank.Bmc svn at noted = p bank.Bmc
 releases_as accepts old w item spare guards p bank.Pch svn at noted = p bank.Pch svn at noted
 
 locks_as : (accepts : Acceptance) (old w : World) (item spare : ℕ) (guards : Guards) → LocksHaveCauses accepts old w → LocksHaveCauses accepts old (as_if w item spare guards)
-locks_as accepts old w item spare guards p bank.Bmc cause at noted other = p bank.Bmc cause at noted other
-locks_as accepts old w item spare guards p bank.Pch cause at noted other = p bank.Pch cause at noted other
+locks_as accepts old w item spare guards p bank.Bmc cause at noted no_fault no_watch = p bank.Bmc cause at noted no_fault no_watch
+locks_as accepts old w item spare guards p bank.Pch cause at noted no_fault no_watch = p bank.Pch cause at noted no_fault no_watch
 
 faults_as : (old w : World) (item spare : ℕ) (guards : Guards) → FaultsHaveCauses old w → FaultsHaveCauses old (as_if w item spare guards)
 faults_as old w item spare guards p = record { flash = flash; store = λ which at noted. p.store which at noted }
@@ -107,13 +114,13 @@ has_provision : (bench : Bench) → HasRun bench → StaysProvisioned bench
 has_provision bench has = has.kept
 
 -- of each item of a run what its step did says this
-run_with : (bench : Bench) (Goes : Item → World → World → Type 0)
-    → ((i : Item) (old new : World) → IsLater (fresh_of bench) old → HaveBytes new → Did (acceptance bench.engine) bench.script.tears i old new → Goes i old new)
+run_with : (bench : Bench) (has : HasRun bench) (Goes : Item → World → World → Type 0)
+    → ((i : Item) (old new : World) → IsUnderway (acceptance bench.engine) (fresh_of bench) old → HaveBytes new → Did (acceptance bench.engine) bench.script.tears i old new → Goes i old new)
     → (items : List Item) → IsRun items bench → IsRunWith Goes items bench
-run_with bench Goes did items run = record {
+run_with bench has Goes did items run = record {
   end = run.end;
-  reached = Reached-with (acceptance bench.engine) bench.script.tears Goes (fresh_of bench) did items (fresh_of bench) run.end
-      (IsLater-refl (fresh_of bench)) (held_at bench run.end run.left) run.reached;
+  reached = Reached-with (acceptance bench.engine) bench.script.tears Goes (fresh_of bench) has.sizes.nv did items (fresh_of bench) run.end
+      (fresh_underway (acceptance bench.engine) (fresh_of bench) (fresh_start bench has)) (held_at bench run.end run.left) run.reached;
   left = run.left;
 }
 
@@ -130,7 +137,7 @@ has_told bench has =
     record {
       whole = of_end (λ (w : World). FaultsAreNoted (fresh_of bench) w) bench has (told_as (fresh_of bench) has.run.end (end_of bench).item (end_of bench).notes.spare (end_of bench).guards
           (Reached-told accepts bench.script.tears (take has.count bench.script.items) (fresh_of bench) has.run.end has.run.reached));
-      each = run_with bench TellsIn (λ i old new before held did. did_tells accepts bench.script.tears i old new did);
+      each = run_with bench has TellsIn (λ i old new underway held did. did_tells accepts bench.script.tears i old new did);
     }
 
 -- no size of a device changes in a run
@@ -141,21 +148,29 @@ later_sizes first w sizes later = record {
   nv = ap (λ (start : List ℕ). length start) later.precedes.nv.start ∙ sizes.nv;
 }
 
-did_brings : (accepts : Acceptance) (tears : List (List ℕ)) (i : Item) (old new : World) → HasSizes old → HaveBytes new → Did accepts tears i old new → BringsUpIn accepts i old new
-did_brings accepts tears (item.Event e) old new sizes held t = record {
+did_brings : (accepts : Acceptance) (tears : List (List ℕ)) (i : Item) (old new : World) → HasSizes old → TrustedRunning accepts old → HaveBytes new → Did accepts tears i old new → BringsUpIn accepts i old new
+did_brings accepts tears (item.Event e) old new sizes trusted held t = record {
   calm = Turn-brings accepts e old new t held;
+  powers = Turn-powers accepts e old new t held sizes.bmc sizes.pch;
   distrusts = Turn-distrusts accepts e old new t;
   restores = Turn-restores accepts e old new t held;
+  judges = Turn-judges accepts e old new t trusted;
+  filters = Turn-filters accepts e old new t trusted;
+  updates = Turn-updates accepts e old new t held sizes.bmc sizes.pch trusted;
+  expires = Turn-expires accepts e old new t held sizes.bmc sizes.pch trusted;
+  boots = Turn-boots accepts e old new t;
+  guards = Turn-guards accepts e old new t;
   counted = Turn-counted accepts e old new t;
-  powers = Turn-powers accepts e old new t held sizes.bmc sizes.pch;
   recoverable = Turn-recoverable accepts e old new t held sizes.bmc sizes.pch sizes.nv;
 }
-did_brings accepts tears (item.Arm arm) old new sizes held is = tt
+did_brings accepts tears (item.Arm arm) old new sizes trusted held is = tt
 
 brings_up : (bench : Bench) → HasRun bench → BringsBanksUp bench
 brings_up bench has =
-    run_with bench (BringsUpIn (acceptance bench.engine))
-    (λ i old new before held did. did_brings (acceptance bench.engine) bench.script.tears i old new (later_sizes (fresh_of bench) old has.sizes before) held did)
+    let accepts = acceptance bench.engine in
+    run_with bench has (BringsUpIn accepts)
+    (λ i old new underway held did. did_brings accepts bench.script.tears i old new (later_sizes (fresh_of bench) old has.sizes underway.later)
+    (underway_trusted accepts (fresh_of bench) old underway) held did)
 
 -- ---- of each bench
 of_each : (P : Bench → Type 0) → ((bench : Bench) → HasRun bench → P bench) → (option : Option Bench) → IfSome option HasRun → IfSome option P

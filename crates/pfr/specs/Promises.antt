@@ -12,8 +12,11 @@ use Rattle.pfr_story.specs.World.{NoneFailed, World, story_of}
 use Rattle.pfr_story.specs.Run.{Did, Reached}
 use Rattle.pfr_story.specs.Spans.{ReleasedSpans}
 use Rattle.pfr_story.specs.Bringing.{BringsUpCalm, PowerReleases}
+use Rattle.pfr_story.specs.Filtering.{FiltersSo}
+use Rattle.pfr_story.specs.Guarding.{Boots, Expires, GuardsFollow}
 use Rattle.pfr_story.specs.Recovery.{CountsRise, StaysRecoverable}
-use Rattle.pfr_story.specs.Promises.{FaultsAreNoted, ReleasesTrusted, LocksHaveCauses, FaultsHaveCauses, DistrustsWithCause, RestoresGood}
+use Rattle.pfr_story.specs.Promises.{FaultsAreNoted, ReleasesTrusted, LocksHaveCauses, FaultsHaveCauses, DistrustsWithCause, JudgesAtPower, RestoresGood}
+use Rattle.pfr_story.specs.Updating.{Updates}
 use Rattle.pfr.specs.Benches.{fresh_of, end_of, StandsAs, IsRun}
 use Rattle.pfr.specs.declared.finished.Bench.{Bench}
 
@@ -39,15 +42,25 @@ KeepsFuses bench = NeverGoesBack (fresh_of bench).nv bench.nv.device
 abbrev pub StaysProvisioned : Bench → Type 0
 StaysProvisioned bench = KeepsProvision (fresh_of bench).nv bench.nv.device
 
--- What an event does to banks: a power-on brings each up by the contents where it is held, unless a call failed while it was in
--- work, and releases each that has a good capsule in its recovery area; none is called untrusted or restored without cause; the
--- counts of the notes rise; and a good capsule stays, from each moment to the next.
+-- What an event does to banks.
 pub record BringsUpSo (accepts : Acceptance) (event : Event) (old new : World) : Type 0 where
+  -- A power-on brings each up by the contents where it is held, unless a call failed while it was in work, and releases each that has a
+  -- good capsule in its recovery area.
   pub calm : BringsUpCalm event accepts old new
+  pub powers : PowerReleases (λ bank image nv. HasGoodRecovery bank image nv accepts) event old new
+  -- None is called untrusted or restored without cause, and at no other event is one judged anew.
   pub distrusts : DistrustsWithCause accepts old new
   pub restores : RestoresGood accepts old new
+  pub judges : JudgesAtPower event old new
+  -- Frames of a bank that runs are judged by what it is trusted by, and updates before anything is written.
+  pub filters : FiltersSo event accepts old new
+  pub updates : Updates event accepts old new
+  -- A watch that expires restores or locks its bank, stages that are passed are noted, and all that guards banks follows the notes.
+  pub expires : Expires event accepts old new
+  pub boots : Boots event old new
+  pub guards : GuardsFollow event old new
+  -- The counts of the notes rise; and a good capsule stays, from each moment to the next.
   pub counted : CountsRise old new
-  pub powers : PowerReleases (λ bank image nv. HasGoodRecovery bank image nv accepts) event old new
   pub recoverable : StaysRecoverable (λ bank image nv. HasGoodRecovery bank image nv accepts) old new
 
 abbrev pub BringsUpIn : Acceptance → Item → World → World → Type 0
@@ -77,6 +90,8 @@ pub record TellsOfFaults (bench : Bench) : Type 0 where
   pub each : (items : List Item) → IsRun items bench → IsRunWith TellsIn items bench
 
 -- In the run each power-on released each bank that was trusted, restored and released each that wasn't and had a good capsule, and
--- locked each that had a cause, unless a device failed; and no event, whatever failed, took a bank's good capsule away.
+-- locked each that had a cause, unless a device failed; each frame of a bank that ran passed or was blocked as it should, each update
+-- was done from a good capsule alone, and each watch that expired restored or locked its bank; and no event, whatever failed, took a
+-- bank's good capsule away.
 abbrev pub BringsBanksUp : Bench → Type 0
 BringsBanksUp bench = (items : List Item) → IsRun items bench → IsRunWith (BringsUpIn (acceptance bench.engine)) items bench

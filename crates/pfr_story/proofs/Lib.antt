@@ -45,3 +45,4 @@ pub mod ExpireLaws
 pub mod UpdateLaws
 pub mod RunLaws
 pub mod KeepingLaws
+pub mod TrustedRunLaws

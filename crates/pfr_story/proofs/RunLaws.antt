@@ -36,7 +36,7 @@ use Rattle.pfr_story.proofs.WorldLaws.{faults_moved, losses_moved, NoneLost-at, 
 use Rattle.pfr_story.proofs.Courses.{opening}
 use Rattle.pfr_story.proofs.Made.{Made, Steps-made, notes_after}
 use Rattle.pfr_story.proofs.Traces.{Precedes, Precedes-refl, Precedes-after, Precedes-trans, KnownBefore, noted_append, noted_right}
-use Rattle.pfr_story.proofs.Bytes.{HaveBytes, have_before, images_then}
+use Rattle.pfr_story.proofs.Bytes.{HaveBytes, images_then}
 use Rattle.pfr_story.proofs.Facts.{Setting, Fact}
 use Rattle.pfr_story.proofs.Turns.{Turn-moved, step_of, Turn-known}
 use Rattle.pfr_story.proofs.NoteLaws.{at_moment, lock_due}
@@ -357,16 +357,6 @@ Reached-more did items k d i old mid new h e t r =
     subst (λ (xs : List Item). Reached did xs old new)
     (sym (take_more items k d h ∙ ap (λ (x : Item). take k items ++ x ∷ []) e))
     (Reached-push did (take k items) i old mid new r t)
-
--- what holds of each item besides, in a run from a first world, where the devices had bytes
-pub Reached-with : (accepts : Acceptance) (tears : List (List ℕ)) (Q : Item → World → World → Type 0) (first : World)
-    → ((i : Item) (a b : World) → IsLater first a → HaveBytes b → Did accepts tears i a b → Q i a b)
-    → (items : List Item) (old new : World) → IsLater first old → HaveBytes new → Reached (Did accepts tears) items old new → Reached (λ i a b. Did accepts tears i a b × Q i a b) items old new
-Reached-with accepts tears Q first holds [] old new before held r = r
-Reached-with accepts tears Q first holds (i ∷ items) old new before held (mid, d, r) =
-    let later = Reached-later accepts tears items mid new r in
-    let next = IsLater-trans first old mid before (IsLater-did accepts tears i old mid d) in
-    (mid, (d, holds i old mid before (have_before mid new later.precedes held) d), Reached-with accepts tears Q first holds items mid new next held r)
 
 -- ---- what is left can be done
 with_arm_arms : (w : ArmWhat) (nth : ℕ) (tear : List ℕ) (d : FlashState) (n : ℕ) → cond (is_counted w) 1 0 + n ≤ d.arms → n ≤ (with_arm w nth tear d).arms
