@@ -1,6 +1,5 @@
 -- How a stretch of one bank ends: all of it was done, or a call failed, which is noted.
 use Rattle.std.proofs.Common.{◌≡◌, ◌∙◌, refl, sym, ap, subst, List, [], ◌∷◌, ◌++◌, ◌⊎◌, inl, inr, Some}
-use Rattle.pfr_flash.specs.Operation.{Operation, IsTorn}
 use Rattle.pfr_flash.specs.declared.names.Bank.{Bank}
 use Rattle.pfr_flash.specs.declared.names.Bank.TheVariants as bank
 use Rattle.pfr_flash.specs.declared.names.Counts.{Counts}
@@ -11,12 +10,11 @@ use Rattle.pfr_report.specs.declared.note.Note.{Note}
 use Rattle.pfr_report.specs.declared.note.What.{What}
 use Rattle.pfr_report.specs.declared.note.What.TheVariants as what
 use Rattle.pfr_story.specs.Story.{Story, Move, Says, Does, Asks, after, moved_by, noted, operated, counts_of, FailedAt, asking, unbegun, torn, IsCut}
-use Rattle.pfr_story.specs.World.{World, story_of, AllMoved}
+use Rattle.pfr_story.specs.World.{World, story_of}
 use Rattle.pfr_story.specs.Course.{Stretch, Crosses, Faults, LosesPower, Steps, lost, Course, Follows}
 use Rattle.pfr_story.specs.Safety.{Rule, AllGood, AllSafe}
 use Rattle.pfr_story.specs.Bringing.{IsOver, IsCalm}
 use Rattle.pfr_story.specs.Turn.{fault_of}
-use Rattle.pfr_story.proofs.WorldLaws.{AllMoved-trans}
 use Rattle.pfr_story.proofs.Sequence.{after-append}
 use Rattle.pfr_story.proofs.SafetyLaws.{AllGood-append, safe_whole, safe_cut}
 use Rattle.pfr_story.proofs.Courses.{went_on}

@@ -40,7 +40,7 @@ use Rattle.pfr_story.specs.Plans.{mine, store, judged_recovery, restored, level_
 use Rattle.pfr_story.specs.Standing.{Standing, Off, Held, Running, Locked, standing_of, is_running}
 use Rattle.pfr_story.specs.Turn.{expiry_stretch, is_due, stretch_if, stage_at, pass_note, is_idle, tick_course, boot_course, taken, begun, Turn}
 use Rattle.pfr_story.specs.Causes.{HasBadRecovery}
-use Rattle.pfr_story.specs.Promises.{AtCounts, IsExpiring, IsAtStage, Runs}
+use Rattle.pfr_story.specs.Promises.{AtCounts, IsExpiring, Runs}
 use Rattle.pfr_story.specs.Bringing.{IsOver, IsCalm, IsNotedBehind}
 use Rattle.pfr_story.specs.Making.{IsMadeFrom}
 use Rattle.pfr_story.specs.Guarding.{IsReached, IsReleasedAt, ExpiresAt, ExpiresBy, Expires, Boots}

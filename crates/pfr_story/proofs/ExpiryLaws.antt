@@ -1,5 +1,5 @@
 -- What comes of an expired watch of one bank, whose fuses can be read.
-use Rattle.std.proofs.Common.{◌≡◌, ◌∙◌, refl, sym, ap, subst, ℕ, Bool, true, false, List, [], ◌∷◌, ◌++◌, length, ◌⊎◌, inl, inr, Option, Result, Ok, Err}
+use Rattle.std.proofs.Common.{◌≡◌, ◌∙◌, refl, sym, ap, subst, ℕ, Bool, true, false, List, [], ◌∷◌, length, inl, inr, Result, Ok, Err}
 use Rattle.std.specs.Prelude.{nat_lt}
 use Rattle.pfr_flash.specs.Bytes.{AreBytes}
 use Rattle.pfr_flash.specs.Layout.{IsBankSize}
@@ -15,7 +15,6 @@ use Rattle.pfr_manifest.specs.declared.manifest.Manifest.{Manifest}
 use Rattle.pfr_capsule.specs.CapsuleState.{CapsuleState}
 use Rattle.pfr_capsule.specs.declared.fail.CapsuleFail.{CapsuleFail}
 use Rattle.pfr_auth.specs.declared.fail.ActiveFail.{ActiveFail}
-use Rattle.pfr_jobs.specs.declared.job.JobKind.{JobKind}
 use Rattle.pfr_jobs.specs.declared.job.JobKind.TheVariants.{ActiveFromRecovery}
 use Rattle.pfr_report.specs.Texts.{IsNoted}
 use Rattle.pfr_report.specs.declared.note.LockWhy.{LockWhy}
@@ -25,14 +24,14 @@ use Rattle.pfr_report.specs.declared.note.What.{What}
 use Rattle.pfr_report.specs.declared.note.What.TheVariants as what
 use Rattle.pfr_story.specs.Story.{Story, Move, Says, Asks, after, noted, counts_of, device_of}
 use Rattle.pfr_story.specs.World.{World, story_of, AllMoved, added}
-use Rattle.pfr_story.specs.Safety.{AllGood, AllSafe}
-use Rattle.pfr_story.specs.Plans.{mine, store, ready_of, judged_active, judged_recovery, job_ops, restored, by_second, checked_again, by_capsule, recovered_with, by_level, expired_to}
+use Rattle.pfr_story.specs.Safety.{AllSafe}
+use Rattle.pfr_story.specs.Plans.{mine, judged_active, judged_recovery, job_ops, restored, by_second, checked_again, by_capsule, recovered_with, by_level, expired_to}
 use Rattle.pfr_story.specs.Bringing.{IsOver, IsCalm, IsNotedBehind}
 use Rattle.pfr_story.specs.Turn.{fault_of}
 use Rattle.pfr_story.proofs.SafetyLaws.{AllSafe-append, image_noted}
 use Rattle.pfr_story.proofs.RestoreLaws.{not_recovery, found_good}
 use Rattle.pfr_story.proofs.BringRules.{IsReady, ready_noted, ready_is}
-use Rattle.pfr_story.proofs.Traces.{Saying, call_says, Traced, Traced-known, KnownBefore}
+use Rattle.pfr_story.proofs.Traces.{Saying, call_says, Traced-known, KnownBefore}
 use Rattle.pfr_story.proofs.Made.{said, added_said, behind_next}
 use Rattle.pfr_story.proofs.Endings.{IsTrouble, IsBroken, Ending, ends_behind, ends_done, ended_trace, ended_is, ended_good, ends_whole}
 use Rattle.pfr_story.proofs.AnewLaws.{MadeFrom, IsAnew, anew_releases}

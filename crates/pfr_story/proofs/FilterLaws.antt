@@ -1,7 +1,6 @@
 -- Frames on the buses of a bank that runs are judged by what it is trusted by.
-use Rattle.std.proofs.Common.{◌≡◌, ◌≢◌, ◌∙◌, refl, sym, ap, subst, ℕ, List, [], ◌∷◌, ◌++◌, ◌⊎◌, inl, inr, true, Option, Some, Result, Ok, Err}
-use Rattle.std.specs.Prelude.{◌↔◌, ◌+◌, not}
-use Rattle.std.proofs.lemmas.Bool.{false≢true}
+use Rattle.std.proofs.Common.{◌≡◌, ◌≢◌, ◌∙◌, refl, sym, ap, subst, ℕ, List, [], ◌∷◌, ◌++◌, ◌⊎◌, inl, inr, Option, Some, Result, Ok, Err}
+use Rattle.std.specs.Prelude.{◌↔◌, ◌+◌}
 use Rattle.std.proofs.lemmas.List.{append-nil}
 use Rattle.pfr_flash.specs.FlashState.{now}
 use Rattle.pfr_flash.specs.Operation.{Operation, play}
@@ -36,7 +35,7 @@ use Rattle.pfr_story.specs.World.{World, story_of, state_at, added}
 use Rattle.pfr_story.specs.Safety.{Rule, AllGood, AllSafe, Keeps}
 use Rattle.pfr_story.specs.Plans.{mine, store, Ruling, by_verdict, by_ruling, filtered, bus_calls, judge_smbus, smbus_note, smbus_by}
 use Rattle.pfr_story.specs.Course.{Steps, lost, Follows}
-use Rattle.pfr_story.specs.Standing.{Standing, Running, standing_of, is_running}
+use Rattle.pfr_story.specs.Standing.{standing_of}
 use Rattle.pfr_story.specs.Turn.{spi_stretch, spi_course, smbus_course, begun, Turn}
 use Rattle.pfr_story.specs.Promises.{IsUntroubled, Runs}
 use Rattle.pfr_story.specs.Filtering.{FiltersBy, FiltersSpi, FiltersSmbus, FiltersSo}

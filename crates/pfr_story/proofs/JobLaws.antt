@@ -1,5 +1,5 @@
 -- How a job on a bank's active image ends: where it is told to be done, the image is made anew, whatever failed behind that.
-use Rattle.std.proofs.Common.{◌≡◌, ◌∙◌, refl, sym, ap, subst, ℕ, List, [], ◌∷◌, ◌++◌, append_assoc, ◌⊎◌, inl, inr, Some, Option, Result, Ok, Err}
+use Rattle.std.proofs.Common.{◌≡◌, refl, sym, ap, subst, List, [], ◌∷◌, ◌++◌, append_assoc, ◌⊎◌, inl, inr, Some, Option, Result, Ok, Err}
 use Rattle.pfr_flash.specs.Operation.{Operation}
 use Rattle.pfr_flash.specs.declared.names.Bank.{Bank}
 use Rattle.pfr_flash.specs.declared.names.Bank.TheVariants as bank
@@ -17,7 +17,7 @@ use Rattle.pfr_jobs.specs.declared.job.JobKind.TheVariants.{RecoveryFromStaging}
 use Rattle.pfr_report.specs.declared.note.LockWhy.{LockWhy}
 use Rattle.pfr_report.specs.declared.note.What.{What}
 use Rattle.pfr_report.specs.declared.note.What.TheVariants as what
-use Rattle.pfr_story.specs.Story.{Past, Story, Move, Says, Does, Asks, after, noted, counts_of, device_of}
+use Rattle.pfr_story.specs.Story.{Story, Move, Says, Does, Asks, after, noted, counts_of, device_of}
 use Rattle.pfr_story.specs.Safety.{Rule, AllGood, AllSafe, Keeps}
 use Rattle.pfr_story.specs.Plans.{mine, store, judged_active, job_ops, copied, by_second, checked_again}
 use Rattle.pfr_story.specs.Turn.{fault_of}

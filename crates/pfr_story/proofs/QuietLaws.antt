@@ -22,7 +22,6 @@ use Rattle.pfr_script.specs.declared.event.Intent.{Intent}
 use Rattle.pfr_watch.specs.Stages.{next_stage}
 use Rattle.pfr_watch.specs.declared.watch.Watch.{Watch}
 use Rattle.pfr_report.specs.declared.note.LockWhy.{LockWhy}
-use Rattle.pfr_report.specs.declared.note.LockWhy.TheVariants as why
 use Rattle.pfr_report.specs.declared.note.What.{What}
 use Rattle.pfr_report.specs.declared.note.What.TheVariants as what
 use Rattle.pfr_story.specs.Guards.{guard_at, watch_after}
@@ -30,8 +29,8 @@ use Rattle.pfr_story.specs.Story.{Story, Says, Does, Asks, noted, operated, coun
 use Rattle.pfr_story.specs.World.{World, story_of}
 use Rattle.pfr_story.specs.Course.{Course, Follows}
 use Rattle.pfr_story.specs.Safety.{Rule, AllGood, AllSafe, Keeps}
-use Rattle.pfr_story.specs.Plans.{mine, store, job_ops, copied, brought_up, migrated, migration_in, provisioned, provisioned_in, filtered, smbus_judged, expired, is_dynamic, updating}
-use Rattle.pfr_story.specs.Turn.{fault_of, bank_stretch, unreadable, fuse_stretch, provision_stretch, spi_stretch, expiry_stretch, update_stretch, stage_at, ignored, taken, power_course, off_course, provision_course, spi_course, smbus_course, update_course, boot_course}
+use Rattle.pfr_story.specs.Plans.{mine, store, job_ops, copied, migration_in, provisioned_in, smbus_judged, is_dynamic}
+use Rattle.pfr_story.specs.Turn.{fault_of, bank_stretch, fuse_stretch, provision_stretch, spi_stretch, expiry_stretch, update_stretch, stage_at, ignored, taken, power_course, off_course, provision_course, spi_course, smbus_course, update_course, boot_course}
 use Rattle.pfr_story.specs.Promises.{IsWatchLock}
 use Rattle.pfr_story.proofs.SafetyLaws.{AllSafe-append, safe_whole}
 use Rattle.pfr_story.proofs.BringRules.{Any, level_at, Walks, WalksAnew, walk_safe, updating_safe, AllowsBank, expired_allowed}

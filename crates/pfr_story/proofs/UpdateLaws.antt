@@ -1,30 +1,25 @@
 -- An update of a bank that runs is judged before anything is written.
-use Rattle.std.proofs.Common.{◌≡◌, ◌≢◌, ◌∙◌, refl, sym, ap, subst, ℕ, Bool, true, false, List, [], ◌∷◌, ◌++◌, length, inl, inr, Result, Ok, Err}
-use Rattle.std.specs.Prelude.{not}
-use Rattle.std.proofs.lemmas.Bool.{false≢true}
+use Rattle.std.proofs.Common.{◌≡◌, ◌≢◌, ◌∙◌, refl, sym, ap, subst, ℕ, Bool, List, [], ◌∷◌, length, inl, inr, Result, Ok, Err}
 use Rattle.pfr_flash.specs.Bytes.{AreBytes}
-use Rattle.pfr_flash.specs.FlashState.{now, size_of}
+use Rattle.pfr_flash.specs.FlashState.{size_of}
 use Rattle.pfr_flash.specs.Layout.{IsBankSize}
 use Rattle.pfr_flash.specs.declared.layout.Layout.{Layout}
 use Rattle.pfr_flash.specs.declared.names.Bank.{Bank}
-use Rattle.pfr_flash.specs.declared.names.Bank.TheVariants as bank
 use Rattle.pfr_flash.specs.declared.names.Counts.{Counts}
 use Rattle.pfr_flash.specs.declared.names.Device.{Device}
 use Rattle.pfr_flash.specs.declared.names.Device.TheVariants as device
 use Rattle.pfr_engine.specs.Acceptance.{Acceptance}
 use Rattle.pfr_fuses.specs.FusesState.{FusesState}
-use Rattle.pfr_fuses.specs.FusesOf.{fuses_of}
 use Rattle.pfr_fuses.specs.RootSlot.{layout_of}
 use Rattle.pfr_manifest.specs.declared.manifest.Manifest.{Manifest}
 use Rattle.pfr_capsule.specs.CapsuleState.{CapsuleState}
-use Rattle.pfr_capsule.specs.Good.{IsGood}
 use Rattle.pfr_capsule.specs.declared.fail.CapsuleFail.{CapsuleFail}
-use Rattle.pfr_capsule.proofs.GoodLaw.{judged_good, good_found}
+use Rattle.pfr_capsule.proofs.GoodLaw.{good_found}
 use Rattle.pfr_auth.specs.Trusted.{IsTrusted}
 use Rattle.pfr_auth.specs.Judge.{judge_active}
 use Rattle.pfr_auth.specs.declared.fail.ActiveFail.{ActiveFail}
 use Rattle.pfr_auth.proofs.TrustedLaw.{trusted_judged}
-use Rattle.pfr_jobs.specs.declared.job.JobKind.TheVariants.{ActiveFromStaging, RecoveryFromStaging}
+use Rattle.pfr_jobs.specs.declared.job.JobKind.TheVariants.{ActiveFromStaging}
 use Rattle.pfr_recoverable.proofs.StaysLaw.{fuses_one}
 use Rattle.pfr_script.specs.declared.event.Event.{Event}
 use Rattle.pfr_script.specs.declared.event.Event.TheVariants as event
@@ -36,22 +31,22 @@ use Rattle.pfr_report.specs.declared.note.Refusal.TheVariants as refusing
 use Rattle.pfr_report.specs.declared.note.What.{What}
 use Rattle.pfr_report.specs.declared.note.What.TheVariants as what
 use Rattle.pfr_story.specs.Story.{Story, Move, Says, Does, Asks, after, noted, counts_of, past_at, device_of}
-use Rattle.pfr_story.specs.World.{World, story_of, counts_in, state_at, AllMoved, added}
+use Rattle.pfr_story.specs.World.{World, story_of, counts_in, AllMoved, added}
 use Rattle.pfr_story.specs.Course.{Follows}
-use Rattle.pfr_story.specs.Safety.{Rule, AllGood, AllSafe, Keeps}
+use Rattle.pfr_story.specs.Safety.{Rule, AllSafe, Keeps}
 use Rattle.pfr_story.specs.Plans.{mine, store, ready_of, judged_active, judged_staging, job_ops, updated, by_second, checked_again, by_active, by_staged, updated_with, is_dynamic, updating}
-use Rattle.pfr_story.specs.Standing.{Standing, Running, standing_of, is_running}
+use Rattle.pfr_story.specs.Standing.{standing_of}
 use Rattle.pfr_story.specs.Turn.{fault_of, update_stretch, update_course, begun, Turn}
 use Rattle.pfr_story.specs.Causes.{HasBadStaging, HasGoodStaging}
-use Rattle.pfr_story.specs.Promises.{AtCounts, Runs}
-use Rattle.pfr_story.specs.Bringing.{IsOver, IsCalm, IsNotedBehind}
+use Rattle.pfr_story.specs.Promises.{AtCounts}
+use Rattle.pfr_story.specs.Bringing.{IsCalm, IsNotedBehind}
 use Rattle.pfr_story.specs.Making.{IsMadeFrom}
 use Rattle.pfr_story.specs.Updating.{UpdatesAt, UpdatesBy, Updates}
 use Rattle.pfr_story.proofs.SafetyLaws.{AllSafe-append, image_noted, kept_by}
 use Rattle.pfr_story.proofs.RestoreLaws.{not_staging, stand_for, found_staged}
 use Rattle.pfr_story.proofs.BringRules.{IsReady, ready_noted, ready_is, AllowsBank, AllowsUpdate, updating_allowed}
-use Rattle.pfr_story.proofs.Courses.{Turn-cases, Steps-moved}
-use Rattle.pfr_story.proofs.Traces.{Precedes, precedes_moved, Saying, call_says, Traced, Traced-known, KnownBefore}
+use Rattle.pfr_story.proofs.Courses.{Turn-cases}
+use Rattle.pfr_story.proofs.Traces.{Precedes, precedes_moved, Saying, call_says, Traced-known, KnownBefore}
 use Rattle.pfr_story.proofs.Made.{said, added_said, behind_next}
 use Rattle.pfr_story.proofs.Bytes.{HaveBytes, images_then}
 use Rattle.pfr_story.proofs.NoteLaws.{at_moment}
