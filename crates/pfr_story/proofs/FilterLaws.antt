@@ -51,6 +51,7 @@ use Rattle.pfr_story.proofs.Traces.{Traced, Traced-keeps, Traced-known, KnownBef
 use Rattle.pfr_story.proofs.Made.{said, noted_next, added_said}
 use Rattle.pfr_story.proofs.StepTraces.{IsGoodStretch, single_along}
 use Rattle.pfr_story.proofs.Facts.{NoDevice}
+use Rattle.pfr_story.proofs.Entry.{takes}
 use Rattle.pfr_story.proofs.StoreLaws.{Stored, Stored-none}
 use Rattle.pfr_story.proofs.ProvisionLaws.{whole_part}
 
@@ -73,20 +74,20 @@ past_other device.Nv device.Bmc op story apart = refl
 past_other device.Nv device.Pch op story apart = refl
 
 -- by device, of a step
-same_ops : (d : Device) (old new : World) → past_at d (story_of new) ≡ past_at d (story_of (begun old)) → (state_at d new).ops ≡ (state_at d old).ops
-same_ops device.Bmc old new e = ap (λ (p : Past). p.ops) e
-same_ops device.Pch old new e = ap (λ (p : Past). p.ops) e
-same_ops device.Nv old new e = ap (λ (p : Past). p.ops) e
+same_ops : (e : Event) (d : Device) (old new : World) → past_at d (story_of new) ≡ past_at d (story_of (begun e old)) → (state_at d new).ops ≡ (state_at d old).ops
+same_ops e device.Bmc old new same = ap (λ (p : Past). p.ops) same
+same_ops e device.Pch old new same = ap (λ (p : Past). p.ops) same
+same_ops e device.Nv old new same = ap (λ (p : Past). p.ops) same
 
-does_part : (d : Device) (plan : List Operation) (old new : World) → Stored plan (past_at d (story_of (begun old))) (past_at d (story_of new)) → DoesPart plan (state_at d old) (state_at d new)
-does_part device.Bmc plan old new s = record { added = s.added; is = s.is; part = s.part }
-does_part device.Pch plan old new s = record { added = s.added; is = s.is; part = s.part }
-does_part device.Nv plan old new s = record { added = s.added; is = s.is; part = s.part }
+does_part : (e : Event) (d : Device) (plan : List Operation) (old new : World) → Stored plan (past_at d (story_of (begun e old))) (past_at d (story_of new)) → DoesPart plan (state_at d old) (state_at d new)
+does_part e device.Bmc plan old new s = record { added = s.added; is = s.is; part = s.part }
+does_part e device.Pch plan old new s = record { added = s.added; is = s.is; part = s.part }
+does_part e device.Nv plan old new s = record { added = s.added; is = s.is; part = s.part }
 
-now_played : (d : Device) (plan : List Operation) (old new : World) → image_at d (story_of new) ≡ play (image_at d (story_of (begun old))) plan → now (state_at d new) ≡ play (now (state_at d old)) plan
-now_played device.Bmc plan old new e = e
-now_played device.Pch plan old new e = e
-now_played device.Nv plan old new e = e
+now_played : (e : Event) (d : Device) (plan : List Operation) (old new : World) → image_at d (story_of new) ≡ play (image_at d (story_of (begun e old))) plan → now (state_at d new) ≡ play (now (state_at d old)) plan
+now_played e device.Bmc plan old new same = same
+now_played e device.Pch plan old new same = same
+now_played e device.Nv plan old new same = same
 
 -- ---- what a frame that passes does
 did_nothing : (past : Past) → past ≡ with_all past []
@@ -152,9 +153,9 @@ module _ (b : Bank) (v : Verdict) (from : Story) where
   says_backed (Asks which ∷ trace) story good = (tt, says_backed trace story good.1)
 
 -- ---- a frame on the SPI bus
-module _ (accepts : Acceptance) (b : Bank) (frame : List ℕ) (old new : World) (t : IsTrusted (mine b (story_of (begun old))) (store (story_of (begun old))) b accepts) where
+module _ (accepts : Acceptance) (b : Bank) (frame : List ℕ) (old new : World) (t : IsTrusted (mine b (story_of (begun (event.Spi b frame) old))) (store (story_of (begun (event.Spi b frame) old))) b accepts) where
   abbrev from_here : Story
-  from_here = story_of (begun old)
+  from_here = story_of (begun (event.Spi b frame) old)
 
   abbrev rules : Ruling
   rules = record { manifest = t.manifest; layout = layout_of t.fuses.provision b }
@@ -169,7 +170,7 @@ module _ (accepts : Acceptance) (b : Bank) (frame : List ℕ) (old new : World) 
   abbrev Filters : Rule
   Filters = Filtering b verdict from_here
 
-  filtered_good : IsGoodStretch Filters (begun old) new Any (λ story. story ≡ from_here) (spi_stretch accepts b frame) Any
+  filtered_good : IsGoodStretch Filters (begun (event.Spi b frame) old) new Any (λ story. story ≡ from_here) (spi_stretch accepts b frame) Any
   filtered_good = record {
     plan = record { safe = λ story p. subst (λ (s : Story). AllSafe Filters (filtered accepts b frame s) s) (sym p.1) safe; ends = λ story p. tt };
     noted = λ which story trace p cut rose. (tt, (tt, tt));
@@ -179,9 +180,9 @@ module _ (accepts : Acceptance) (b : Bank) (frame : List ℕ) (old new : World) 
       safe : AllSafe Filters (filtered accepts b frame from_here) from_here
       safe = subst (λ (moves : List Move). AllSafe Filters moves from_here) (sym plan_is) (verdict_done b verdict from_here verdict refl)
 
-  filtered_traced : Follows (spi_course accepts b frame) (begun old) new → Traced Filters (begun old) new
+  filtered_traced : Follows (spi_course accepts b frame) (begun (event.Spi b frame) old) new → Traced Filters (begun (event.Spi b frame) old) new
   filtered_traced f =
-      single_along Filters (begun old) new Any (λ w moved. tt) (λ which story fell. (tt, tt)) (begun old) new (record { before = AllMoved-refl (begun old); behind = AllMoved-refl new })
+      single_along Filters (begun (event.Spi b frame) old) new Any (λ w moved. tt) (λ which story fell. (tt, tt)) (begun (event.Spi b frame) old) new (record { before = AllMoved-refl (begun (event.Spi b frame) old); behind = AllMoved-refl new })
       (spi_stretch accepts b frame) (λ story. story ≡ from_here) Any filtered_good refl f
 
   -- ---- all of them were made, or a call failed
@@ -192,7 +193,7 @@ module _ (accepts : Acceptance) (b : Bank) (frame : List ℕ) (old new : World) 
     pub troubled : ¬ IsUntroubled b (added old new)
 
   note_made : (moves : List Move) (that : What) → story_of new ≡ after moves from_here → IsNoted (said moves from_here) that → IsNoted (added old new) that
-  note_made moves that e n = subst (λ (notes : List Note). IsNoted notes that) (sym (added_said (begun old) new (record { trace = moves; is = e }))) n
+  note_made moves that e n = subst (λ (notes : List Note). IsNoted notes that) (sym (added_said (begun (event.Spi b frame) old) new (record { trace = moves; is = e }))) n
 
   module _ (mid : World) (e : story_of mid ≡ from_here) where
     cut_here : (which : Device) (trace : List Move) → IsCut which (filtered accepts b frame (story_of mid)) (story_of mid) trace → IsCut which (by_verdict b verdict from_here) from_here trace
@@ -251,28 +252,28 @@ module _ (accepts : Acceptance) (b : Bank) (frame : List ℕ) (old new : World) 
       let base : Past = past_at d from_here in
       let here : Stored (bus_ops op) base (past_at d (story_of new)) = subst (λ (w : Verdict). Stored (bus_plan w) base (past_at d (story_of new))) k.1.0 stored in
       let ops = whole_part base (past_at d k.0) (bus_ops op) (past_at d (story_of new)) here k.1.1 (begins_at d k.0 (story_of new) k.2) in
-      now_played d (bus_ops op) old new
+      now_played (event.Spi b frame) d (bus_ops op) old new
       (ap (λ (start : List ℕ). play start (past_at d (story_of new)).ops) here.start ∙ ap (λ (all : List Operation). play base.start all) ops ∙ play-append base.start base.ops (bus_ops op))
 
-  filters_by : Follows (spi_course accepts b frame) (begun old) new → FiltersBy verdict b old new
+  filters_by : Follows (spi_course accepts b frame) (begun (event.Spi b frame) old) new → FiltersBy verdict b old new
   filters_by f =
       let traced = filtered_traced f in
       let stood : StoodBy b verdict from_here (story_of new) =
-      Traced-keeps Filters (StoodBy b verdict from_here) (filtering_keeps b verdict from_here) (begun old) new traced (Stored-none (bus_plan verdict) (past_at (device_of b) from_here), λ other apart. refl) in
-      let known = Traced-known (IsBacked b verdict from_here) (begun old) new
+      Traced-keeps Filters (StoodBy b verdict from_here) (filtering_keeps b verdict from_here) (begun (event.Spi b frame) old) new traced (Stored-none (bus_plan verdict) (past_at (device_of b) from_here), λ other apart. refl) in
+      let known = Traced-known (IsBacked b verdict from_here) (begun (event.Spi b frame) old) new
       (record { trace = traced.trace; is = traced.is; good = says_backed b verdict from_here traced.trace from_here traced.good; moved = traced.moved }) in
       let end = ended f.0 f.1.is f.2 in
       record {
         passed = λ op n. (known (what.BusPassed b op) n).1.0;
         passes = λ op is calm. elim end [ inl e ↦ passed_noted op is e | inr broken ↦ absurd (broken.troubled calm) ];
         blocked = λ cause. (λ n. (known (what.BusBlocked b cause) n).1, λ is. blocked_noted cause is end);
-        part = does_part (device_of b) (bus_plan verdict) old new stood.0;
+        part = does_part (event.Spi b frame) (device_of b) (bus_plan verdict) old new stood.0;
         whole = λ op n. passed_whole op stood.0 (known (what.BusPassed b op) n);
-        others = λ other apart. same_ops other old new (stood.1 other apart);
+        others = λ other apart. same_ops (event.Spi b frame) other old new (stood.1 other apart);
       }
 
 spi_filters : (accepts : Acceptance) (b : Bank) (frame : List ℕ) (old new : World) → IsTrusted (now (state_at (device_of b) old)) (now old.nv) b accepts
-    → Follows (spi_course accepts b frame) (begun old) new → FiltersSpi accepts b frame old new
+    → Follows (spi_course accepts b frame) (begun (event.Spi b frame) old) new → FiltersSpi accepts b frame old new
 spi_filters accepts bank.Bmc frame old new t f = record {
   trusted = t;
   by = subst (λ (n : ℕ). FiltersBy (verdict_on frame t.manifest (layout_of t.fuses.provision bank.Bmc) n old.guards.bmc.latch) bank.Bmc old new) (length-play old.bmc.start old.bmc.ops)
@@ -297,17 +298,17 @@ judged_blocked b (Ok passed) cause e = absurd cc
 judged_blocked b (Err other) cause e = let same : other ≡ cause = cc in ap (λ (c : SmbusCause). Err c) same
 
 -- one note is made, of what was judged
-module _ (accepts : Acceptance) (b : Bank) (frame : List ℕ) (old new : World) (t : IsTrusted (mine b (story_of old)) (store (story_of old)) b accepts) (f : Follows (smbus_course accepts b frame (story_of old)) (begun old) new) where
+module _ (accepts : Acceptance) (b : Bank) (frame : List ℕ) (old new : World) (t : IsTrusted (mine b (story_of old)) (store (story_of old)) b accepts) (f : Follows (smbus_course accepts b frame (story_of old)) (begun (event.Smbus b frame) old) new) where
   abbrev judged_so : Judged
   judged_so = judge_smbus t.manifest.rules frame
 
-  tells_is : story_of new ≡ noted (λ _. smbus_note b judged_so) (story_of (begun old))
+  tells_is : story_of new ≡ noted (λ _. smbus_note b judged_so) (story_of (begun (event.Smbus b frame) old))
   tells_is =
       f.2.is ∙ f.1.is
-      ∙ ap (λ (found : Option Ruling). after (smbus_by b frame found (story_of old)) (story_of (begun old))) (trusted_ruling accepts b (story_of old) t)
+      ∙ ap (λ (found : Option Ruling). after (smbus_by b frame found (story_of old)) (story_of (begun (event.Smbus b frame) old))) (trusted_ruling accepts b (story_of old) t)
 
   tells_one : added old new ≡ record { item = old.item + 1; what = smbus_note b judged_so } ∷ []
-  tells_one = added_said (begun old) new (record { trace = Says (λ _. smbus_note b judged_so) ∷ []; is = tells_is })
+  tells_one = added_said (begun (event.Smbus b frame) old) new (record { trace = Says (λ _. smbus_note b judged_so) ∷ []; is = tells_is })
 
   tells : (that : What) → IsNoted (added old new) that ↔ (smbus_note b judged_so ≡ that)
   tells that = (
@@ -326,10 +327,10 @@ module _ (accepts : Acceptance) (b : Bank) (frame : List ℕ) (old new : World) 
 
   stays_still : (d : Device) → (state_at d new).ops ≡ (state_at d old).ops
   stays_still d =
-      same_ops d old new (ap (λ (s : Story). past_at d s) tells_is ∙ past_noted d (λ _. smbus_note b judged_so) (story_of (begun old)))
+      same_ops (event.Smbus b frame) d old new (ap (λ (s : Story). past_at d s) tells_is ∙ past_noted d (λ _. smbus_note b judged_so) (story_of (begun (event.Smbus b frame) old)))
 
 smbus_filters : (accepts : Acceptance) (b : Bank) (frame : List ℕ) (old new : World) → IsTrusted (now (state_at (device_of b) old)) (now old.nv) b accepts
-    → Follows (smbus_course accepts b frame (story_of old)) (begun old) new → FiltersSmbus accepts b frame old new
+    → Follows (smbus_course accepts b frame (story_of old)) (begun (event.Smbus b frame) old) new → FiltersSmbus accepts b frame old new
 smbus_filters accepts bank.Bmc frame old new t f = record {
   trusted = t;
   passed = tells_passed accepts bank.Bmc frame old new t f;
@@ -344,16 +345,15 @@ smbus_filters accepts bank.Pch frame old new t f = record {
 }
 
 -- ---- a whole step
--- a bank that runs takes its frames
-takes : (s : Standing) → s ≡ Running → ¬ (not (is_running s) ≡ true)
-takes s runs idle = false≢true (subst (λ (x : Standing). not (is_running x) ≡ true) runs idle)
-
 -- Frames on the buses of a bank that runs are judged by what it is trusted by.
 pub Turn-filters : (accepts : Acceptance) (e : Event) (old new : World) → Turn accepts e old new
     → ((which : Bank) → Runs which old → IsTrusted (now (state_at (device_of which) old)) (now old.nv) which accepts) → FiltersSo e accepts old new
 Turn-filters accepts event.Power old new t trusted = tt
 Turn-filters accepts event.Off old new t trusted = tt
 Turn-filters accepts (event.Provision root) old new t trusted = tt
+Turn-filters accepts (event.Tick n) old new t trusted = tt
+Turn-filters accepts (event.Boot b pass) old new t trusted = tt
+Turn-filters accepts (event.Update b intent) old new t trusted = tt
 Turn-filters accepts (event.Spi b frame) old new t trusted = λ runs. elim (Turn-cases accepts (event.Spi b frame) old new t) [
   | inl idle ↦ absurd (takes (standing_of b old.notes.list) runs idle.0)
   | inr on ↦ spi_filters accepts b frame old new (trusted b runs) on.1
