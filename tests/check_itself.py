@@ -134,7 +134,6 @@ CHANGES = (
     ("foresee @found", "foresee @found\nturn @found.bmc 0 01"),
     ("foresee @found", "foresee @found\nturn @found.pch 0x100 80"),
     ("foresee @found", "foresee @found\nturn @found.nv 0x7fff 01"),
-    ("times 2", "times 1"),
     ("times 2", "times two"),
 )
 
