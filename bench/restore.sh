@@ -1,7 +1,8 @@
 #!/usr/bin/env bash
-# Times `run` with the script `power` where it restores a bank of 64 MiB with 24 MiB of static regions, against the host's
-# own tools in the same run and in turn: dd, which reads and writes the bytes that the run does, and sha256sum over those
-# that it hashes. It prints the ratio to both together. It is no part of the gate, and asks nothing of the figures.
+# Times `run` where it restores a bank of 64 MiB with 24 MiB of static regions at a power-on, and where it updates that bank
+# from its staging area, against the host's own tools in the same run and in turn: dd, which reads and writes the bytes that
+# each run does, and sha256sum over those that it hashes. It prints the ratio of each to both together. It is no part of the
+# gate, and asks nothing of the figures.
 #
 #     bench/restore.sh [program]
 #

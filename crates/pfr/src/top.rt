@@ -115,7 +115,8 @@ pub fn pfr<S: Shelf, K: Sink>(
     ensures spans { IfSome result.bench HasReleasedSpans }
     ensures releases { IfSome result.bench ReleasesTrustedBanks }
 
-    // Each lock has its cause, and at a power-on banks are locked, restored and released where they are to be.
+    // Each lock has its cause. At a power-on banks are locked, restored and released where they are to be; and at each
+    // event frames are filtered, updates judged and watches kept as a step promises it.
     ensures locks { IfSome result.bench HasDueLocks }
     ensures causes { IfSome result.bench BringsBanksUp }
 

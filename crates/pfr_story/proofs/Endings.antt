@@ -1,6 +1,5 @@
 -- How a stretch of one bank ends: all of it was done, or a call failed, which is noted.
 use Rattle.std.proofs.Common.{◌≡◌, ◌∙◌, refl, sym, ap, subst, List, [], ◌∷◌, ◌++◌, ◌⊎◌, inl, inr, Some}
-use Rattle.pfr_flash.specs.Operation.{Operation, IsTorn}
 use Rattle.pfr_flash.specs.declared.names.Bank.{Bank}
 use Rattle.pfr_flash.specs.declared.names.Bank.TheVariants as bank
 use Rattle.pfr_flash.specs.declared.names.Counts.{Counts}
@@ -10,17 +9,17 @@ use Rattle.pfr_report.specs.Texts.{IsNoted}
 use Rattle.pfr_report.specs.declared.note.Note.{Note}
 use Rattle.pfr_report.specs.declared.note.What.{What}
 use Rattle.pfr_report.specs.declared.note.What.TheVariants as what
-use Rattle.pfr_story.specs.Story.{Story, Move, Says, Does, Asks, after, noted, counts_of, FailedAt, asking, unbegun, torn, IsCut}
-use Rattle.pfr_story.specs.World.{World, story_of, AllMoved}
-use Rattle.pfr_story.specs.Course.{Stretch, Crosses, Faults, LosesPower, Steps, lost, Follows}
+use Rattle.pfr_story.specs.Story.{Story, Move, Says, Does, Asks, after, moved_by, noted, operated, counts_of, FailedAt, asking, unbegun, torn, IsCut}
+use Rattle.pfr_story.specs.World.{World, story_of}
+use Rattle.pfr_story.specs.Course.{Stretch, Crosses, Faults, LosesPower, Steps, lost, Course, Follows}
 use Rattle.pfr_story.specs.Safety.{Rule, AllGood, AllSafe}
 use Rattle.pfr_story.specs.Bringing.{IsOver, IsCalm}
 use Rattle.pfr_story.specs.Turn.{fault_of}
-use Rattle.pfr_story.proofs.WorldLaws.{AllMoved-trans}
 use Rattle.pfr_story.proofs.Sequence.{after-append}
 use Rattle.pfr_story.proofs.SafetyLaws.{AllGood-append, safe_whole, safe_cut}
 use Rattle.pfr_story.proofs.Courses.{went_on}
-use Rattle.pfr_story.proofs.Made.{said, noted_next, AllSay, Wrote, wrote_then, wrote_by, wrote_cut}
+use Rattle.pfr_story.proofs.Traces.{Traced, Traced-then, Traced-ran, Traced-whole, Traced-cut}
+use Rattle.pfr_story.proofs.Made.{said, notes_after, noted_next, Wrote}
 use Rattle.pfr_flash.specs.declared.flash.FlashFail.TheVariants.{Fault, Lost as Loses}
 
 -- ---- how it ends
@@ -108,6 +107,45 @@ no_cut : (front rest : List Move) (next : Move) → ¬ (front ++ (next ∷ rest)
 no_cut [] rest next e = absurd cc
 no_cut (first ∷ front) rest next e = absurd cc
 
+-- ---- in the first part of what is to be done, or behind it
+-- where it was cut: in the first part, or behind it, with this trace of the second
+abbrev IsCutIn : Device → List Move → List Move → Story → List Move → Type 0
+IsCutIn which moves more from trace = IsCut which moves from trace ⊎ ((behind : List Move) × (trace ≡ moves ++ behind) × IsCut which more (after moves from) behind)
+
+in_next : (which : Device) (move : Move) (moves more : List Move) (from : Story) (trace whole : List Move) → whole ≡ move ∷ trace → IsCutIn which moves more (moved_by move from) trace
+    → IsCutIn which (move ∷ moves) more from whole
+in_next which move moves more from trace whole is (inl k) = inl (record {
+  front = move ∷ k.front;
+  next = k.next;
+  rest = k.rest;
+  last = k.last;
+  plan = ap (λ (ms : List Move). move ∷ ms) k.plan;
+  is = is ∙ ap (λ (ms : List Move). move ∷ ms) k.is;
+  failed = k.failed;
+})
+in_next which move moves more from trace whole is (inr k) = inr (k.0, is ∙ ap (λ (ms : List Move). move ∷ ms) k.1, k.2)
+
+cut_in : (which : Device) (moves more : List Move) (from : Story) (trace front : List Move) (next : Move) (rest last : List Move)
+    → moves ++ more ≡ front ++ (next ∷ rest) → trace ≡ front ++ last → FailedAt which (after front from) next last → IsCutIn which moves more from trace
+cut_in which [] more from trace front next rest last plan is failed = inr (trace, refl, record { front = front; next = next; rest = rest; last = last; plan = plan; is = is; failed = failed })
+cut_in which (move ∷ moves) more from trace [] next rest last plan is failed =
+    let same : next ≡ move = cc in
+    inl (record { front = []; next = move; rest = moves; last = last; plan = refl; is = is; failed = subst (λ (m : Move). FailedAt which from m last) same failed })
+cut_in which (move ∷ moves) more from trace (first ∷ front) next rest last plan is failed =
+    let one : first ≡ move = cc in
+    let left : moves ++ more ≡ front ++ (next ∷ rest) = cc in
+    in_next which move moves more from (front ++ last) trace (is ∙ ap (λ (m : Move). m ∷ (front ++ last)) one)
+    (cut_in which moves more (moved_by move from) (front ++ last) front next rest last left refl (subst (λ (m : Move). FailedAt which (after front (moved_by m from)) next last) one failed))
+
+pub ends_parts : (b : Bank) (L : Type 0) (moves more : List Move) (from to : Story) → Ending b L (moves ++ more) from to → IsBroken b L moves from to ⊎ Ending b L more (after moves from) to
+ends_parts b L moves more from to (inl e) = inr (inl (e ∙ after-append moves more from))
+ends_parts b L moves more from to (inr p) = elim (cut_in p.which moves more from p.trace p.cut.front p.cut.next p.cut.rest p.cut.last p.cut.plan p.cut.is p.cut.failed) [
+  | inl cut ↦ inl (record { which = p.which; trace = p.trace; cut = cut; last = p.last; trouble = p.trouble; is = p.is })
+  | inr k ↦
+      let is : to ≡ noted p.last (after k.0 (after moves from)) = p.is ∙ ap (λ (trace : List Move). noted p.last (after trace from)) k.1 ∙ ap (λ (s : Story). noted p.last s) (after-append moves k.0 from) in
+      inr (inr (record { which = p.which; trace = k.0; cut = k.2; last = p.last; trouble = p.trouble; is = is }))
+]
+
 -- nothing that was left to do was cut short
 pub ends_done : (b : Bank) (L : Type 0) (from to : Story) → Ending b L [] from to → to ≡ from
 ends_done b L from to (inl e) = e
@@ -155,34 +193,53 @@ pub over_alone : (b : Bank) (notes : List Note) → ((c : Bank) (at : Counts) �
 over_alone bank.Bmc notes alone over = let e = alone bank.Pch over.0 over.1 in absurd (let never : bank.Pch ≡ bank.Bmc = e in cc)
 over_alone bank.Pch notes alone over = over
 
--- ---- stretches that note only such
--- each of its moves notes only what is so
-pub record SaysOnly (P : What → Type 0) (s : Stretch) : Type 0 where
-  pub plan : (story : Story) → AllSay P (s.plan story)
-  pub fault : (which : Device) → AllSay P (s.on_fault which)
+-- ---- stretches whose moves are all good, wherever they begin
+pub record IsKept (G : Rule) (s : Stretch) : Type 0 where
+  pub plan : (story : Story) → AllSafe G (s.plan story) story
+  pub fault : (which : Device) (story : Story) → AllGood G (s.on_fault which) story
 
-abbrev pub AllSayOnly : (What → Type 0) → List Stretch → Type 0
-AllSayOnly P [] = Unit {0}
-AllSayOnly P (s ∷ ss) = SaysOnly P s × AllSayOnly P ss
+abbrev pub AllKept : Rule → List Stretch → Type 0
+AllKept G [] = Unit {0}
+AllKept G (s ∷ ss) = IsKept G s × AllKept G ss
 
-module _ (P : What → Type 0) (losses : (which : Device) (at : Counts) → P (what.Lost (Some which) at)) where
-  pub crossed_wrote : (s : Stretch) → SaysOnly P s → (old mid : World) → Crosses s old mid → Wrote P old mid
-  crossed_wrote s only old mid c = wrote_by P (s.plan (story_of old)) old mid c.is (only.plan (story_of old))
+module _ (G : Rule) where
+  pub crossed_traced : (s : Stretch) → IsKept G s → (old mid : World) → Crosses s old mid → Traced G old mid
+  crossed_traced s kept old mid c = Traced-whole G (s.plan (story_of old)) old mid c (kept.plan (story_of old))
 
-  pub faulted_wrote : (s : Stretch) → SaysOnly P s → (old mid : World) → Faults s old mid → Wrote P old mid
-  faulted_wrote s only old mid f =
-      wrote_then P old f.at mid (wrote_cut P (s.plan (story_of old)) f.which Fault old f.at f.stopped (only.plan (story_of old)))
-      (wrote_by P (s.on_fault f.which) f.at mid f.noted.is (only.fault f.which))
+  pub faulted_traced : (s : Stretch) → IsKept G s → (old mid : World) → Faults s old mid → Traced G old mid
+  faulted_traced s kept old mid f =
+      Traced-then G old f.at mid (Traced-cut G (s.plan (story_of old)) f.which Fault old f.at f.stopped (kept.plan (story_of old)))
+      (Traced-ran G (s.on_fault f.which) f.at mid f.noted (kept.fault f.which (story_of f.at)))
 
-  pub lost_wrote : (s : Stretch) → SaysOnly P s → (old new : World) → LosesPower s old new → Wrote P old new
-  lost_wrote s only old new l =
-      wrote_then P old l.at new (wrote_cut P (s.plan (story_of old)) l.which Loses old l.at l.stopped (only.plan (story_of old)))
-      (wrote_by P (lost l.which) l.at new l.noted.is ((λ at. losses l.which at), tt))
+  module _ (losses : (which : Device) (story : Story) → G (Says (what.Lost (Some which))) story) where
+    pub lost_traced : (s : Stretch) → IsKept G s → (old new : World) → LosesPower s old new → Traced G old new
+    lost_traced s kept old new l =
+        Traced-then G old l.at new (Traced-cut G (s.plan (story_of old)) l.which Loses old l.at l.stopped (kept.plan (story_of old)))
+        (Traced-ran G (lost l.which) l.at new l.noted (losses l.which (story_of l.at), tt))
 
-  pub steps_wrote : (ss : List Stretch) → AllSayOnly P ss → (old new : World) → Steps ss old new → Wrote P old new
-  steps_wrote [] only old new p = wrote_by P [] old new p.is tt
-  steps_wrote (s ∷ ss) only old new (inl (mid, c, rest)) = wrote_then P old mid new (crossed_wrote s only.0 old mid c) (steps_wrote ss only.1 mid new rest)
-  steps_wrote (s ∷ ss) only old new (inr (inl (mid, f, rest))) =
-      wrote_then P old mid new (faulted_wrote s only.0 old mid f)
-      (went_on s.goes_on (Steps ss) mid new (Wrote P mid new) (λ e r. steps_wrote ss only.1 mid new r) (λ r. wrote_by P [] mid new r.is tt) rest)
-  steps_wrote (s ∷ ss) only old new (inr (inr l)) = lost_wrote s only.0 old new l
+    pub steps_traced : (ss : List Stretch) → AllKept G ss → (old new : World) → Steps ss old new → Traced G old new
+    steps_traced [] kept old new p = Traced-ran G [] old new p tt
+    steps_traced (s ∷ ss) kept old new (inl (mid, c, rest)) = Traced-then G old mid new (crossed_traced s kept.0 old mid c) (steps_traced ss kept.1 mid new rest)
+    steps_traced (s ∷ ss) kept old new (inr (inl (mid, f, rest))) =
+        Traced-then G old mid new (faulted_traced s kept.0 old mid f)
+        (went_on s.goes_on (Steps ss) mid new (Traced G mid new) (λ e r. steps_traced ss kept.1 mid new r) (λ r. Traced-ran G [] mid new r tt) rest)
+    steps_traced (s ∷ ss) kept old new (inr (inr l)) = lost_traced s kept.0 old new l
+
+    pub course_traced : (c : Course) (first new : World) → AllGood G c.first (story_of first) → AllKept G c.stretches → Follows c first new → Traced G first new
+    course_traced c first new good kept (mid, start, rest) = Traced-then G first mid new (Traced-ran G c.first first mid start good) (steps_traced c.stretches kept mid new rest)
+
+  -- and the notes that they make
+  module _ (P : What → Type 0) (says : (w : Counts → What) (story : Story) → G (Says w) story → P (w (counts_of story))) where
+    good_said : (trace : List Move) (story : Story) → AllGood G trace story → (that : What) → IsNoted (said trace story) that → P that
+    good_said [] story good that n = absurd n
+    good_said (Says w ∷ trace) story good that (inl e) = subst P e (says w story good.0)
+    good_said (Says w ∷ trace) story good that (inr n) = good_said trace (noted w story) good.1 that n
+    good_said (Does which op ∷ trace) story good that n = good_said trace (operated which op story) good.1 that n
+    good_said (Asks which ∷ trace) story good that n = good_said trace story good.1 that n
+
+    pub traced_wrote : (a b : World) → Traced G a b → Wrote P a b
+    traced_wrote a b t = record {
+      more = said t.trace (story_of a);
+      is = ap (λ (s : Story). s.notes) t.is ∙ notes_after t.trace (story_of a);
+      all = good_said t.trace (story_of a) t.good;
+    }

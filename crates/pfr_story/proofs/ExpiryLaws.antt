@@ -1,6 +1,5 @@
 -- What comes of an expired watch of one bank, whose fuses can be read.
-use Rattle.std.proofs.Common.{◌≡◌, ◌∙◌, refl, sym, ap, subst, ℕ, Bool, true, false, List, [], ◌∷◌, ◌++◌, length, inl, inr, Result, Ok, Err}
-use Rattle.std.proofs.lemmas.Bool.{false≢true}
+use Rattle.std.proofs.Common.{◌≡◌, ◌∙◌, refl, sym, ap, subst, ℕ, Bool, true, false, List, [], ◌∷◌, length, inl, inr, Result, Ok, Err}
 use Rattle.std.specs.Prelude.{nat_lt}
 use Rattle.pfr_flash.specs.Bytes.{AreBytes}
 use Rattle.pfr_flash.specs.Layout.{IsBankSize}
@@ -25,30 +24,37 @@ use Rattle.pfr_report.specs.declared.note.What.{What}
 use Rattle.pfr_report.specs.declared.note.What.TheVariants as what
 use Rattle.pfr_story.specs.Story.{Story, Move, Says, Asks, after, noted, counts_of, device_of}
 use Rattle.pfr_story.specs.World.{World, story_of, AllMoved, added}
-use Rattle.pfr_story.specs.Safety.{AllGood, AllSafe}
-use Rattle.pfr_story.specs.Plans.{mine, store, ready_of, judged_active, judged_recovery, job_ops, restored, by_second, checked_again, by_capsule, recovered_with, by_level, expired_to}
-use Rattle.pfr_story.specs.Causes.{HasBadRecovery}
+use Rattle.pfr_story.specs.Safety.{AllSafe}
+use Rattle.pfr_story.specs.Plans.{mine, judged_active, judged_recovery, job_ops, restored, by_second, checked_again, by_capsule, recovered_with, by_level, expired_to}
 use Rattle.pfr_story.specs.Bringing.{IsOver, IsCalm, IsNotedBehind}
-use Rattle.pfr_story.specs.Guarding.{RestoredAndReleased}
 use Rattle.pfr_story.specs.Turn.{fault_of}
 use Rattle.pfr_story.proofs.SafetyLaws.{AllSafe-append, image_noted}
 use Rattle.pfr_story.proofs.RestoreLaws.{not_recovery, found_good}
 use Rattle.pfr_story.proofs.BringRules.{IsReady, ready_noted, ready_is}
-use Rattle.pfr_story.proofs.Traces.{Saying, call_says, Traced, Traced-known, KnownBefore}
+use Rattle.pfr_story.proofs.Traces.{Saying, call_says, Traced-known, KnownBefore}
 use Rattle.pfr_story.proofs.Made.{said, added_said, behind_next}
-use Rattle.pfr_story.proofs.Endings.{IsTrouble, Ending, ends_behind, ends_done, ended_trace, ended_is, ended_good, ends_whole}
-use Rattle.pfr_story.proofs.AnewLaws.{MadeFrom, anew_releases}
+use Rattle.pfr_story.proofs.Endings.{IsTrouble, IsBroken, Ending, ends_behind, ends_done, ended_trace, ended_is, ended_good, ends_whole}
+use Rattle.pfr_story.proofs.AnewLaws.{MadeFrom, IsAnew, anew_releases}
+use Rattle.pfr_story.proofs.JobLaws.{copying, whole_job, job_ends, IsOther, cut_untold}
 
-module _ (accepts : Acceptance) (b : Bank) (level : ℕ) where
-  abbrev pub few : Bool
-  few = nat_lt level 4
+-- where a bank is held behind its expiry
+abbrev pub held_from : Bank → ℕ → Story → Story
+held_from b level from = noted (what.Held b) (noted (λ _. what.Expired b level) from)
 
-  -- what is known of each note
+module _ (accepts : Acceptance) (b : Bank) (level : ℕ) (fuses : FusesState) (from : Story) where
+  abbrev there : Story
+  there = held_from b level from
+
+  abbrev judged_there : Result CapsuleState CapsuleFail
+  judged_there = judged_recovery accepts b fuses there
+
+  -- what is known of each note, by what stands in the recovery area then
   abbrev pub Expiry : What → Story → Type 0
   Expiry (what.Expired c l) story = (c ≡ b) × (l ≡ level)
   Expiry (what.Held c at) story = c ≡ b
-  Expiry (what.Locked c why.WatchdogSpent at) story = (c ≡ b) × (few ≡ false)
-  Expiry (what.Locked c (why.NoRecovery cause) at) story = (c ≡ b) × (few ≡ true) × (at ≡ counts_of story) × HasBadRecovery cause b (mine b story) (store story) accepts
+  Expiry (what.Restored c l) story = (nat_lt level 4 ≡ true) × (capsule : CapsuleState) × (judged_there ≡ Ok capsule)
+  Expiry (what.Locked c why.WatchdogSpent at) story = nat_lt level 4 ≡ false
+  Expiry (what.Locked c (why.NoRecovery cause) at) story = (nat_lt level 4 ≡ true) × (at ≡ counts_of there) × (judged_there ≡ Err cause)
   Expiry that story = Unit {0}
 
   fault_known : (which : Device) (at : Counts) (story : Story) → Expiry (what.Locked b (fault_of which) at) story
@@ -64,132 +70,156 @@ module _ (accepts : Acceptance) (b : Bank) (level : ℕ) where
   second_known (Ok m) story = (tt, tt)
   second_known (Err cause) story = tt
 
-  -- where it is held behind its expiry
-  abbrev pub held_from : Story → Story
-  held_from from = noted (what.Held b) (noted (λ _. what.Expired b level) from)
-
-  module _ (fuses : FusesState) (from : Story) (ready : IsReady b fuses from) where
-    abbrev there : Story
-    there = held_from from
-
-    ready_there : IsReady b fuses there
+  module _ (ready : IsReady b fuses from) where
+    pub ready_there : IsReady b fuses there
     ready_there = ready_noted b fuses (what.Held b) (noted (λ _. what.Expired b level) from) (ready_noted b fuses (λ _. what.Expired b level) from ready)
 
-    mine_there : mine b there ≡ mine b from
+    pub mine_there : mine b there ≡ mine b from
     mine_there = image_noted (device_of b) (what.Held b) (noted (λ _. what.Expired b level) from) ∙ image_noted (device_of b) (λ _. what.Expired b level) from
-
-    abbrev judged_there : Result CapsuleState CapsuleFail
-    judged_there = judged_recovery accepts b fuses there
 
     -- it is restored, or locked for the want of a capsule
     level_is : by_level accepts b level true there ≡ Asks device.Nv ∷ Asks (device_of b) ∷ by_capsule accepts b fuses level judged_there there
     level_is = ap (λ (r : Result FusesState LockWhy). Asks device.Nv ∷ recovered_with accepts b level r there) (ready_is b fuses there ready_there.provisioned ready_there.layout)
 
     -- ---- each of its notes is known
-    capsule_known : (judged : Result CapsuleState CapsuleFail) → few ≡ true → judged_there ≡ judged → AllSafe (Saying Expiry) (by_capsule accepts b fuses level judged there) there
+    capsule_known : (judged : Result CapsuleState CapsuleFail) → nat_lt level 4 ≡ true → judged_there ≡ judged → AllSafe (Saying Expiry) (by_capsule accepts b fuses level judged there) there
     capsule_known (Ok capsule) e j =
         let ops = job_ops (ActiveFromRecovery level) (mine b there) capsule (layout_of fuses.provision b) in
         let made : List Move = restored b level fuses capsule there in
         let left : Story = after made there in
         AllSafe-append (Saying Expiry) made (checked_again accepts b fuses left) there
-        (AllSafe-append (Saying Expiry) _ (Says (λ _. what.Restored b level) ∷ []) there (call_says Expiry (device_of b) ops there) (tt, tt))
+        (AllSafe-append (Saying Expiry) _ (Says (λ _. what.Restored b level) ∷ []) there (call_says Expiry (device_of b) ops there) ((e, capsule, j), tt))
         (tt, second_known (judged_active accepts b fuses left) left)
-    capsule_known (Err cause) e j = ((refl, e, refl, record { fuses = fuses; provisioned = ready.provisioned; judged = j }), tt)
+    capsule_known (Err cause) e j = ((e, refl, j), tt)
 
-    level_known : (below : Bool) → few ≡ below → AllSafe (Saying Expiry) (by_level accepts b level below there) there
+    level_known : (below : Bool) → nat_lt level 4 ≡ below → AllSafe (Saying Expiry) (by_level accepts b level below there) there
     level_known true e = subst (λ (moves : List Move). AllSafe (Saying Expiry) moves there) (sym level_is) (tt, (tt, capsule_known judged_there e refl))
-    level_known false e = ((refl, e), tt)
+    level_known false e = (e, tt)
 
-  -- ---- from one world to another
-  module _ (L : Type 0) (fuses : FusesState) (at end : World) (ready : IsReady b fuses (story_of at)) (ending : Ending b L (expired_to accepts b level (story_of at)) (story_of at) (story_of end)) where
-    abbrev from : Story
-    from = story_of at
+-- ---- from one world to another
+module _ (accepts : Acceptance) (b : Bank) (level : ℕ) (L : Type 0) (fuses : FusesState) (at end : World) (ready : IsReady b fuses (story_of at))
+    (ending : Ending b L (expired_to accepts b level (story_of at)) (story_of at) (story_of end)) where
+  abbrev start : Story
+  start = story_of at
 
-    abbrev held : Story
-    held = held_from from
+  abbrev held : Story
+  held = held_from b level start
 
-    abbrev work : List Move
-    work = by_level accepts b level few held
+  abbrev found : Result CapsuleState CapsuleFail
+  found = judged_recovery accepts b fuses held
 
-    -- what comes behind that it is held
-    behind : Ending b L work held (story_of end)
-    behind =
-        let expiry : Story = noted (λ _. what.Expired b level) from in
-        ends_behind b L (what.Held b) work expiry (story_of end) (ends_behind b L (λ _. what.Expired b level) (Says (what.Held b) ∷ work) from (story_of end) ending)
+  abbrev work : List Move
+  work = by_level accepts b level (nat_lt level 4) held
 
-    abbrev with_expiry : List Move → List Move
-    with_expiry moves = Says (λ _. what.Expired b level) ∷ Says (what.Held b) ∷ moves
+  abbrev by_found : Result CapsuleState CapsuleFail → List Move
+  by_found answer = Asks device.Nv ∷ Asks (device_of b) ∷ by_capsule accepts b fuses level answer held
 
-    made_noted : (moves : List Move) → story_of end ≡ after moves held → (that : What) → IsNoted (said (with_expiry moves) from) that → IsNoted (added at end) that
-    made_noted moves is that n = subst (λ (notes : List Note). IsNoted notes that) (sym (added_said at end (record { trace = with_expiry moves; is = is }))) n
+  -- what comes behind that it is held
+  behind : Ending b L work held (story_of end)
+  behind =
+      let expiry : Story = noted (λ _. what.Expired b level) start in
+      ends_behind b L (what.Held b) work expiry (story_of end) (ends_behind b L (λ _. what.Expired b level) (Says (what.Held b) ∷ work) start (story_of end) ending)
 
-    pub expiry_noted : IsNoted (added at end) (what.Expired b level)
-    expiry_noted = made_noted (ended_trace b L work held (story_of end) behind) (ended_is b L work held (story_of end) behind) (what.Expired b level) (inl refl)
+  work_is : (answer : Result CapsuleState CapsuleFail) → nat_lt level 4 ≡ true → found ≡ answer → work ≡ by_found answer
+  work_is answer e j =
+      ap (λ (below : Bool). by_level accepts b level below held) e ∙ level_is accepts b level fuses start ready
+      ∙ ap (λ (r : Result CapsuleState CapsuleFail). by_found r) j
 
-    -- What is known of its notes.
-    pub expiry_known : AllMoved at end → (that : What) → IsNoted (added at end) that → KnownBefore Expiry that (story_of end)
-    expiry_known moved =
-        Traced-known Expiry at end (record {
-          trace = with_expiry (ended_trace b L work held (story_of end) behind);
-          is = ended_is b L work held (story_of end) behind;
-          good = ((refl, refl), (refl, ended_good b L work held (story_of end) (Saying Expiry) (level_known fuses from ready few refl) (trouble_known L) behind));
+  abbrev with_expiry : List Move → List Move
+  with_expiry moves = Says (λ _. what.Expired b level) ∷ Says (what.Held b) ∷ moves
+
+  added_with : (moves : List Move) → story_of end ≡ after moves held → added at end ≡ said (with_expiry moves) start
+  added_with moves is = added_said at end (record { trace = with_expiry moves; is = is })
+
+  made_noted : (moves : List Move) → story_of end ≡ after moves held → (that : What) → IsNoted (said (with_expiry moves) start) that → IsNoted (added at end) that
+  made_noted moves is that n = subst (λ (notes : List Note). IsNoted notes that) (sym (added_with moves is)) n
+
+  pub expiry_noted : IsNotedBehind (what.Expired b level) (what.Held b (counts_of held)) (added at end)
+  expiry_noted =
+      let trace : List Move = ended_trace b L work held (story_of end) behind in
+      subst (λ (notes : List Note). IsNotedBehind (what.Expired b level) (what.Held b (counts_of held)) notes) (sym (added_with trace (ended_is b L work held (story_of end) behind)))
+      (record { before = []; item = start.item; behind = record { item = start.item; what = what.Held b (counts_of start) } ∷ said trace held; is = refl; noted = inl refl })
+
+  -- What is known of its notes.
+  pub expiry_known : AllMoved at end → (that : What) → IsNoted (added at end) that → KnownBefore (Expiry accepts b level fuses start) that (story_of end)
+  expiry_known moved =
+      let Known : What → Story → Type 0 = Expiry accepts b level fuses start in
+      Traced-known Known at end (record {
+        trace = with_expiry (ended_trace b L work held (story_of end) behind);
+        is = ended_is b L work held (story_of end) behind;
+        good = ((refl, refl), (refl, ended_good b L work held (story_of end) (Saying Known) (level_known accepts b level fuses start ready (nat_lt level 4) refl) (trouble_known accepts b level fuses start L) behind));
+        moved = moved;
+      })
+
+  -- The fourth expiry locks it, whatever fails.
+  pub spent_noted : nat_lt level 4 ≡ false → IsNoted (added at end) (what.Locked b why.WatchdogSpent (counts_of held))
+  spent_noted e =
+      let lock : List Move = Says (what.Locked b why.WatchdogSpent) ∷ [] in
+      let locked : Ending b L lock held (story_of end) = subst (λ (below : Bool). Ending b L (by_level accepts b level below held) held (story_of end)) e behind in
+      let is = ends_done b L (noted (what.Locked b why.WatchdogSpent) held) (story_of end) (ends_behind b L (what.Locked b why.WatchdogSpent) [] held (story_of end) locked) in
+      made_noted lock is (what.Locked b why.WatchdogSpent (counts_of held)) (inr (inr (inl refl)))
+
+  -- ---- where it is calm it is restored and released, or locked for the want of a capsule
+  module _ (notes : List Note) (put : (that : What) → IsNoted (added at end) that → IsNoted notes that) (e : nat_lt level 4 ≡ true) (calm : IsCalm b notes) (over : L → ¬ IsOver b notes) where
+    whole_by : (answer : Result CapsuleState CapsuleFail) → found ≡ answer → story_of end ≡ after (by_found answer) held
+    whole_by answer j =
+        let trace : List Move = ended_trace b L work held (story_of end) behind in
+        let here : (that : What) → IsNoted (said trace held) that → IsNoted notes that = λ that n. put that (made_noted trace (ended_is b L work held (story_of end) behind) that (inr (inr n))) in
+        ends_whole b L work held (story_of end) notes behind here calm over ∙ ap (λ (moves : List Move). after moves held) (work_is answer e j)
+
+    pub locked_noted : (cause : CapsuleFail) → found ≡ Err cause → IsNoted (added at end) (what.Locked b (why.NoRecovery cause) (counts_of held))
+    locked_noted cause j = made_noted (by_found (Err cause)) (whole_by (Err cause) j) (what.Locked b (why.NoRecovery cause) (counts_of held)) (inr (inr (inl refl)))
+
+    pub restored_noted : (capsule : CapsuleState) → MadeFrom accepts b fuses capsule held → found ≡ Ok capsule
+        → IsNotedBehind (what.Restored b level) (what.Released b capsule.manifest.svn (counts_of (after (restored b level fuses capsule held) held))) (added at end)
+    restored_noted capsule from j =
+        let this : What = what.Restored b level in
+        let that : What = what.Released b capsule.manifest.svn (counts_of (after (restored b level fuses capsule held) held)) in
+        let expiry : Note = record { item = start.item; what = what.Expired b level } in
+        let hold : Note = record { item = start.item; what = what.Held b (counts_of start) } in
+        let anew = anew_releases accepts b (ActiveFromRecovery level) (not_recovery level) this held fuses capsule from in
+        subst (λ (all : List Note). IsNotedBehind this that all) (sym (added_with (by_found (Ok capsule)) (whole_by (Ok capsule) j))) (behind_next this that expiry _ (behind_next this that hold _ anew))
+
+  -- ---- what it is made from, and what is made where a restore is told
+  module _ (size : IsBankSize (length (mine b start))) (bytes : AreBytes (mine b start)) where
+    pub made_from : (capsule : CapsuleState) → found ≡ Ok capsule → MadeFrom accepts b fuses capsule held
+    made_from capsule j =
+        let layout : Layout = layout_of fuses.provision b in
+        let r = ready_there accepts b level fuses start ready in
+        let same : mine b start ≡ mine b held = sym (mine_there accepts b level fuses start ready) in
+        let held_bytes : AreBytes (mine b held) = subst AreBytes same bytes in
+        let good = found_good accepts b fuses capsule held r.provisioned r.layout held_bytes j in
+        record {
+          place = layout.recovery_at;
+          len = layout.area_len;
+          good = good.0;
+          capsule_is = good.1;
+          provisioned = r.provisioned;
+          inside = r.layout.inside.recovery;
+          size = subst (λ (image : List ℕ). IsBankSize (length image)) same size;
+          bytes = held_bytes;
+        }
+
+    restored_untold : (capsule : CapsuleState) → AllMoved at end → IsBroken b L (copying accepts b (ActiveFromRecovery level) (not_recovery level) (what.Restored b level) held fuses capsule) held (story_of end)
+        → ¬ IsNoted (added at end) (what.Restored b level)
+    restored_untold capsule moved p n =
+        let told : What = what.Restored b level in
+        let moves : List Move = copying accepts b (ActiveFromRecovery level) (not_recovery level) told held fuses capsule in
+        let cut = cut_untold accepts b (ActiveFromRecovery level) (not_recovery level) told held fuses capsule L (λ cause then e. cc) (λ d then e. cc) (story_of end) p in
+        (Traced-known (IsOther told) at end (record {
+          trace = with_expiry (ended_trace b L moves held (story_of end) (inr p));
+          is = ended_is b L moves held (story_of end) (inr p);
+          good = ((λ e. cc), ((λ e. cc), cut));
           moved = moved;
-        })
+        }) told n).1 refl
 
-    -- The fourth expiry locks it, whatever fails.
-    pub spent_noted : few ≡ false → IsNoted (added at end) (what.Locked b why.WatchdogSpent (counts_of held))
-    spent_noted e =
-        let lock : List Move = Says (what.Locked b why.WatchdogSpent) ∷ [] in
-        let locked : Ending b L lock held (story_of end) = subst (λ (below : Bool). Ending b L (by_level accepts b level below held) held (story_of end)) e behind in
-        let is = ends_done b L (noted (what.Locked b why.WatchdogSpent) held) (story_of end) (ends_behind b L (what.Locked b why.WatchdogSpent) [] held (story_of end) locked) in
-        made_noted lock is (what.Locked b why.WatchdogSpent (counts_of held)) (inr (inr (inl refl)))
-
-    -- ---- where it is calm it is restored and released, or locked for the want of a capsule
-    module _ (size : IsBankSize (length (mine b from))) (bytes : AreBytes (mine b from)) where
-      made_from : (capsule : CapsuleState) → judged_recovery accepts b fuses held ≡ Ok capsule → MadeFrom accepts b fuses capsule held
-      made_from capsule j =
-          let layout : Layout = layout_of fuses.provision b in
-          let r = ready_there fuses from ready in
-          let same : mine b from ≡ mine b held = sym (mine_there fuses from ready) in
-          let held_bytes : AreBytes (mine b held) = subst AreBytes same bytes in
-          let found = found_good accepts b fuses capsule held r.provisioned r.layout held_bytes j in
-          record {
-            place = layout.recovery_at;
-            len = layout.area_len;
-            good = found.0;
-            capsule_is = found.1;
-            provisioned = r.provisioned;
-            inside = r.layout.inside.recovery;
-            size = subst (λ (image : List ℕ). IsBankSize (length image)) same size;
-            bytes = held_bytes;
-          }
-
-      whole_by : (judged : Result CapsuleState CapsuleFail) → judged_recovery accepts b fuses held ≡ judged
-          → story_of end ≡ after (Asks device.Nv ∷ Asks (device_of b) ∷ by_capsule accepts b fuses level judged held) held
-          → ((cause : CapsuleFail) (then : Counts) → ¬ IsNoted (added at end) (what.Locked b (why.NoRecovery cause) then)) → RestoredAndReleased b level (added at end)
-      whole_by (Ok capsule) j is none =
-          let moves : List Move = Asks device.Nv ∷ Asks (device_of b) ∷ by_capsule accepts b fuses level (Ok capsule) held in
-          let expiry : Note = record { item = from.item; what = what.Expired b level } in
-          let hold : Note = record { item = from.item; what = what.Held b (counts_of from) } in
-          let then : Counts = counts_of (after (restored b level fuses capsule held) held) in
-          let released : What = what.Released b capsule.manifest.svn then in
-          let anew = anew_releases accepts b (ActiveFromRecovery level) (not_recovery level) (what.Restored b level) held fuses capsule (made_from capsule j) in
-          let front = behind_next (what.Restored b level) released expiry _ (behind_next (what.Restored b level) released hold _ anew) in
-          record {
-            svn = capsule.manifest.svn;
-            then = then;
-            noted = subst (λ (notes : List Note). IsNotedBehind (what.Restored b level) released notes) (sym (added_said at end (record { trace = with_expiry moves; is = is }))) front;
-          }
-      whole_by (Err cause) j is none =
-          let moves : List Move = Asks device.Nv ∷ Asks (device_of b) ∷ Says (what.Locked b (why.NoRecovery cause)) ∷ [] in
-          absurd (none cause (counts_of held) (made_noted moves is (what.Locked b (why.NoRecovery cause) (counts_of held)) (inr (inr (inl refl)))))
-
-      pub restored_noted : (notes : List Note) → ((that : What) → IsNoted (added at end) that → IsNoted notes that) → few ≡ true → IsCalm b notes → (L → ¬ IsOver b notes)
-          → ((cause : CapsuleFail) (then : Counts) → ¬ IsNoted notes (what.Locked b (why.NoRecovery cause) then)) → RestoredAndReleased b level (added at end)
-      restored_noted notes put e calm over none =
-          let trace : List Move = ended_trace b L work held (story_of end) behind in
-          let here : (that : What) → IsNoted (said trace held) that → IsNoted notes that = λ that n. put that (made_noted trace (ended_is b L work held (story_of end) behind) that (inr (inr n))) in
-          let whole : story_of end ≡ after work held = ends_whole b L work held (story_of end) notes behind here calm over in
-          let plan : work ≡ Asks device.Nv ∷ Asks (device_of b) ∷ by_capsule accepts b fuses level (judged_recovery accepts b fuses held) held =
-          ap (λ (below : Bool). by_level accepts b level below held) e ∙ level_is fuses from ready in
-          whole_by (judged_recovery accepts b fuses held) refl (whole ∙ ap (λ (moves : List Move). after moves held) plan) (λ cause then n. none cause then (put (what.Locked b (why.NoRecovery cause) then) n))
+    pub restored_anew : AllMoved at end → nat_lt level 4 ≡ true → (capsule : CapsuleState) → found ≡ Ok capsule → IsNoted (added at end) (what.Restored b level)
+        → IsAnew accepts b (ActiveFromRecovery level) fuses capsule (mine b held) (story_of end)
+    restored_anew moved e capsule j n =
+        let told : What = what.Restored b level in
+        let work_here : Ending b L (whole_job accepts b (ActiveFromRecovery level) (not_recovery level) told held fuses capsule) held (story_of end) =
+        subst (λ (moves : List Move). Ending b L moves held (story_of end)) (work_is (Ok capsule) e j) behind in
+        elim (job_ends accepts b (ActiveFromRecovery level) (not_recovery level) told held fuses capsule (made_from capsule j) L (story_of end) work_here) [
+          | inl p ↦ absurd (restored_untold capsule moved p n)
+          | inr anew ↦ anew
+        ]

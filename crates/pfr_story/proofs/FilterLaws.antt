@@ -1,7 +1,6 @@
 -- Frames on the buses of a bank that runs are judged by what it is trusted by.
-use Rattle.std.proofs.Common.{◌≡◌, ◌≢◌, ◌∙◌, refl, sym, ap, subst, ℕ, List, [], ◌∷◌, ◌++◌, ◌⊎◌, inl, inr, true, Option, Some, Result, Ok, Err}
-use Rattle.std.specs.Prelude.{◌↔◌, ◌+◌, not}
-use Rattle.std.proofs.lemmas.Bool.{false≢true}
+use Rattle.std.proofs.Common.{◌≡◌, ◌≢◌, ◌∙◌, refl, sym, ap, subst, ℕ, List, [], ◌∷◌, ◌++◌, ◌⊎◌, inl, inr, Option, Some, Result, Ok, Err}
+use Rattle.std.specs.Prelude.{◌↔◌, ◌+◌}
 use Rattle.std.proofs.lemmas.List.{append-nil}
 use Rattle.pfr_flash.specs.FlashState.{now}
 use Rattle.pfr_flash.specs.Operation.{Operation, play}
@@ -36,7 +35,7 @@ use Rattle.pfr_story.specs.World.{World, story_of, state_at, added}
 use Rattle.pfr_story.specs.Safety.{Rule, AllGood, AllSafe, Keeps}
 use Rattle.pfr_story.specs.Plans.{mine, store, Ruling, by_verdict, by_ruling, filtered, bus_calls, judge_smbus, smbus_note, smbus_by}
 use Rattle.pfr_story.specs.Course.{Steps, lost, Follows}
-use Rattle.pfr_story.specs.Standing.{Standing, Running, standing_of, is_running}
+use Rattle.pfr_story.specs.Standing.{standing_of}
 use Rattle.pfr_story.specs.Turn.{spi_stretch, spi_course, smbus_course, begun, Turn}
 use Rattle.pfr_story.specs.Promises.{IsUntroubled, Runs}
 use Rattle.pfr_story.specs.Filtering.{FiltersBy, FiltersSpi, FiltersSmbus, FiltersSo}
@@ -56,13 +55,13 @@ use Rattle.pfr_story.proofs.StoreLaws.{Stored, Stored-none}
 use Rattle.pfr_story.proofs.ProvisionLaws.{whole_part}
 
 -- ---- the devices, one by one
-past_noted : (d : Device) (w : Counts → What) (story : Story) → past_at d (noted w story) ≡ past_at d story
+pub past_noted : (d : Device) (w : Counts → What) (story : Story) → past_at d (noted w story) ≡ past_at d story
 past_noted device.Bmc w story = refl
 past_noted device.Pch w story = refl
 past_noted device.Nv w story = refl
 
 -- an operation of one device leaves the others
-past_other : (which d : Device) (op : Operation) (story : Story) → d ≢ which → past_at d (operated which op story) ≡ past_at d story
+pub past_other : (which d : Device) (op : Operation) (story : Story) → d ≢ which → past_at d (operated which op story) ≡ past_at d story
 past_other device.Bmc device.Bmc op story apart = absurd (apart refl)
 past_other device.Pch device.Pch op story apart = absurd (apart refl)
 past_other device.Nv device.Nv op story apart = absurd (apart refl)
@@ -74,7 +73,7 @@ past_other device.Nv device.Bmc op story apart = refl
 past_other device.Nv device.Pch op story apart = refl
 
 -- by device, of a step
-same_ops : (e : Event) (d : Device) (old new : World) → past_at d (story_of new) ≡ past_at d (story_of (begun e old)) → (state_at d new).ops ≡ (state_at d old).ops
+pub same_ops : (e : Event) (d : Device) (old new : World) → past_at d (story_of new) ≡ past_at d (story_of (begun e old)) → (state_at d new).ops ≡ (state_at d old).ops
 same_ops e device.Bmc old new same = ap (λ (p : Past). p.ops) same
 same_ops e device.Pch old new same = ap (λ (p : Past). p.ops) same
 same_ops e device.Nv old new same = ap (λ (p : Past). p.ops) same

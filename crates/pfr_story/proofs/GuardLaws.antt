@@ -8,7 +8,7 @@ use Rattle.pfr_script.specs.declared.event.Event.{Event}
 use Rattle.pfr_report.specs.declared.note.Note.{Note}
 use Rattle.pfr_story.specs.Guards.{Guards}
 use Rattle.pfr_story.specs.Story.{Story, Move, Says, Does, Asks, after, noted, operated}
-use Rattle.pfr_story.specs.World.{World, story_of, added}
+use Rattle.pfr_story.specs.World.{World, story_of}
 use Rattle.pfr_story.specs.Turn.{begun, course, guards_at, Turn}
 use Rattle.pfr_story.specs.Guarding.{guards_by, GuardsFollow}
 use Rattle.pfr_story.proofs.Made.{said, Made, made_then, Steps-made, added_said}

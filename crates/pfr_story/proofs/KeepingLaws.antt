@@ -15,7 +15,6 @@ use Rattle.pfr_auth.proofs.TrustedLaw.{trusted_judged}
 use Rattle.pfr_script.specs.declared.event.Event.{Event}
 use Rattle.pfr_report.specs.Texts.{IsNoted}
 use Rattle.pfr_report.specs.declared.note.Note.{Note}
-use Rattle.pfr_report.specs.declared.note.What.{What}
 use Rattle.pfr_report.specs.declared.note.What.TheVariants as what
 use Rattle.pfr_story.specs.Story.{Past, Story, counts_of, past_at, device_of, image_at}
 use Rattle.pfr_story.specs.World.{World, story_of, state_at, added}

@@ -38,6 +38,7 @@ pub mod GuardLaws
 pub mod Endings
 pub mod AnewLaws
 pub mod Entry
+pub mod JobLaws
 pub mod ExpiryLaws
 pub mod QuietLaws
 pub mod ExpireLaws

@@ -50,7 +50,7 @@ module _ (accepts : Acceptance) (tears : List (List ℕ)) where
       (spans_item accepts which (old.item + 1) (story_of old) h)
 
   module _ (Q : Item → World → World → Type 0) (first : World) (size : length first.nv.start ≡ 32768)
-    (holds : (i : Item) (old new : World) → IsUnderway accepts first old → HaveBytes new → Did accepts tears i old new → Q i old new) where
+      (holds : (i : Item) (old new : World) → IsUnderway accepts first old → HaveBytes new → Did accepts tears i old new → Q i old new) where
     -- an item leaves a world that the run can go on from
     did_underway : (i : Item) (old new : World) → HaveBytes new → Did accepts tears i old new → IsUnderway accepts first old → IsUnderway accepts first new
     did_underway i old new held did u = record {

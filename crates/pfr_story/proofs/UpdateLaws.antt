@@ -1,30 +1,25 @@
 -- An update of a bank that runs is judged before anything is written.
-use Rattle.std.proofs.Common.{◌≡◌, ◌∙◌, refl, sym, ap, subst, ℕ, Bool, true, false, List, [], ◌∷◌, ◌++◌, length, inl, inr, Result, Ok, Err}
-use Rattle.std.specs.Prelude.{not}
-use Rattle.std.proofs.lemmas.Bool.{false≢true}
+use Rattle.std.proofs.Common.{◌≡◌, ◌≢◌, ◌∙◌, refl, sym, ap, subst, ℕ, Bool, List, [], ◌∷◌, length, inl, inr, Result, Ok, Err}
 use Rattle.pfr_flash.specs.Bytes.{AreBytes}
-use Rattle.pfr_flash.specs.FlashState.{now, size_of}
+use Rattle.pfr_flash.specs.FlashState.{size_of}
 use Rattle.pfr_flash.specs.Layout.{IsBankSize}
 use Rattle.pfr_flash.specs.declared.layout.Layout.{Layout}
 use Rattle.pfr_flash.specs.declared.names.Bank.{Bank}
-use Rattle.pfr_flash.specs.declared.names.Bank.TheVariants as bank
 use Rattle.pfr_flash.specs.declared.names.Counts.{Counts}
 use Rattle.pfr_flash.specs.declared.names.Device.{Device}
 use Rattle.pfr_flash.specs.declared.names.Device.TheVariants as device
 use Rattle.pfr_engine.specs.Acceptance.{Acceptance}
 use Rattle.pfr_fuses.specs.FusesState.{FusesState}
-use Rattle.pfr_fuses.specs.FusesOf.{fuses_of}
 use Rattle.pfr_fuses.specs.RootSlot.{layout_of}
 use Rattle.pfr_manifest.specs.declared.manifest.Manifest.{Manifest}
 use Rattle.pfr_capsule.specs.CapsuleState.{CapsuleState}
-use Rattle.pfr_capsule.specs.Good.{IsGood}
 use Rattle.pfr_capsule.specs.declared.fail.CapsuleFail.{CapsuleFail}
-use Rattle.pfr_capsule.proofs.GoodLaw.{judged_good, good_found}
+use Rattle.pfr_capsule.proofs.GoodLaw.{good_found}
 use Rattle.pfr_auth.specs.Trusted.{IsTrusted}
 use Rattle.pfr_auth.specs.Judge.{judge_active}
 use Rattle.pfr_auth.specs.declared.fail.ActiveFail.{ActiveFail}
 use Rattle.pfr_auth.proofs.TrustedLaw.{trusted_judged}
-use Rattle.pfr_jobs.specs.declared.job.JobKind.TheVariants.{ActiveFromStaging, RecoveryFromStaging}
+use Rattle.pfr_jobs.specs.declared.job.JobKind.TheVariants.{ActiveFromStaging}
 use Rattle.pfr_recoverable.proofs.StaysLaw.{fuses_one}
 use Rattle.pfr_script.specs.declared.event.Event.{Event}
 use Rattle.pfr_script.specs.declared.event.Event.TheVariants as event
@@ -35,43 +30,57 @@ use Rattle.pfr_report.specs.declared.note.Note.{Note}
 use Rattle.pfr_report.specs.declared.note.Refusal.TheVariants as refusing
 use Rattle.pfr_report.specs.declared.note.What.{What}
 use Rattle.pfr_report.specs.declared.note.What.TheVariants as what
-use Rattle.pfr_story.specs.Story.{Story, Move, Says, Does, Asks, after, noted, counts_of, device_of}
-use Rattle.pfr_story.specs.World.{World, story_of, counts_in, state_at, AllMoved, added}
+use Rattle.pfr_story.specs.Story.{Story, Move, Says, Does, Asks, after, noted, counts_of, past_at, device_of}
+use Rattle.pfr_story.specs.World.{World, story_of, counts_in, AllMoved, added}
 use Rattle.pfr_story.specs.Course.{Follows}
-use Rattle.pfr_story.specs.Safety.{Rule, AllGood, AllSafe, Keeps}
+use Rattle.pfr_story.specs.Safety.{Rule, AllSafe, Keeps}
 use Rattle.pfr_story.specs.Plans.{mine, store, ready_of, judged_active, judged_staging, job_ops, updated, by_second, checked_again, by_active, by_staged, updated_with, is_dynamic, updating}
-use Rattle.pfr_story.specs.Standing.{Standing, Running, standing_of, is_running}
+use Rattle.pfr_story.specs.Standing.{standing_of}
 use Rattle.pfr_story.specs.Turn.{fault_of, update_stretch, update_course, begun, Turn}
 use Rattle.pfr_story.specs.Causes.{HasBadStaging, HasGoodStaging}
-use Rattle.pfr_story.specs.Promises.{AtCounts, Runs}
-use Rattle.pfr_story.specs.Bringing.{IsOver, IsCalm, IsNotedBehind}
+use Rattle.pfr_story.specs.Promises.{AtCounts}
+use Rattle.pfr_story.specs.Bringing.{IsCalm, IsNotedBehind}
+use Rattle.pfr_story.specs.Making.{IsMadeFrom}
 use Rattle.pfr_story.specs.Updating.{UpdatesAt, UpdatesBy, Updates}
 use Rattle.pfr_story.proofs.SafetyLaws.{AllSafe-append, image_noted, kept_by}
-use Rattle.pfr_story.proofs.RestoreLaws.{stand_for}
-use Rattle.pfr_story.proofs.BringRules.{IsReady, ready_noted, ready_is}
-use Rattle.pfr_story.proofs.Courses.{Turn-cases, Steps-moved}
-use Rattle.pfr_story.proofs.Traces.{Precedes, precedes_moved, Saying, call_says, Traced, Traced-known, KnownBefore}
+use Rattle.pfr_story.proofs.RestoreLaws.{not_staging, stand_for, found_staged}
+use Rattle.pfr_story.proofs.BringRules.{IsReady, ready_noted, ready_is, AllowsBank, AllowsUpdate, updating_allowed}
+use Rattle.pfr_story.proofs.Courses.{Turn-cases}
+use Rattle.pfr_story.proofs.Traces.{Precedes, precedes_moved, Saying, call_says, Traced-known, KnownBefore}
 use Rattle.pfr_story.proofs.Made.{said, added_said, behind_next}
 use Rattle.pfr_story.proofs.Bytes.{HaveBytes, images_then}
 use Rattle.pfr_story.proofs.NoteLaws.{at_moment}
 use Rattle.pfr_story.proofs.Entry.{TrustedRunning, trusted_here, trusted_ready, sized_here, follows_moved, takes}
-use Rattle.pfr_story.proofs.Endings.{IsTrouble, Ending, single_ends, ended_trace, ended_is, ended_good, ends_whole, over_alone, ends_behind}
-use Rattle.pfr_story.proofs.AnewLaws.{MadeFrom, anew_releases}
+use Rattle.pfr_story.proofs.Endings.{IsTrouble, IsBroken, Ending, single_ends, ended_trace, ended_is, ended_good, ends_whole, over_alone, ends_behind}
+use Rattle.pfr_story.proofs.AnewLaws.{MadeFrom, IsAnew, made_so, anew_releases}
+use Rattle.pfr_story.proofs.JobLaws.{same_pasts, same_counts, IsOther, copying, whole_job, job_ends, cut_untold}
+use Rattle.pfr_story.proofs.FilterLaws.{past_noted, past_other, same_ops}
 
-not_staging : (dynamic : Bool) → ¬ (ActiveFromStaging dynamic ≡ RecoveryFromStaging)
-not_staging dynamic e = absurd cc
+-- ---- no device but the bank's does anything
+abbrev Own : Bank → Rule
+Own b (Says w) story = Unit {0}
+Own b (Does which op) story = which ≡ device_of b
+Own b (Asks which) story = Unit {0}
 
--- ---- moves that do no operation
-abbrev Still : Rule
-Still (Says w) story = Unit {0}
-Still (Does which op) story = ⊥
-Still (Asks which) story = Unit {0}
+own_bank : (b : Bank) → AllowsBank (Own b) b
+own_bank b = record {
+  released = λ svn story. tt;
+  locked = λ cause story. tt;
+  untrusted = λ cause story. tt;
+  restored = λ level story. tt;
+  asks = λ which story own. tt;
+  works = λ op story. refl;
+}
 
-still_keeps : (counts : Counts) → Keeps Still (λ story. counts_of story ≡ counts)
-still_keeps counts (Says w) story g p = p
-still_keeps counts (Does which op) story g p = absurd g
-still_keeps counts (Asks which) story g p = p
+abbrev OthersSame : Bank → Story → Story → Type 0
+OthersSame b from story = (other : Device) → other ≢ device_of b → past_at other story ≡ past_at other from
 
+own_keeps : (b : Bank) (from : Story) → Keeps (Own b) (OthersSame b from)
+own_keeps b from (Says w) story g p = λ other apart. past_noted other w story ∙ p other apart
+own_keeps b from (Does which op) story g p = λ other apart. past_other which other op story (λ e. apart (e ∙ g)) ∙ p other apart
+own_keeps b from (Asks which) story g p = p
+
+-- ---- what is known of each note
 module _ (accepts : Acceptance) (b : Bank) (dynamic : Bool) (fuses : FusesState) (from : Story) where
   abbrev held : Story
   held = noted (what.Held b) from
@@ -132,10 +141,15 @@ module _ (accepts : Acceptance) (b : Bank) (dynamic : Bool) (fuses : FusesState)
     staged_known (Ok capsule) j =
         let ops = job_ops (ActiveFromStaging dynamic) (mine b held) capsule (layout_of fuses.provision b) in
         let made : List Move = updated b dynamic fuses capsule held in
-        let left : Story = after made held in
-        (tt, (tt, AllSafe-append (Saying Update) made (checked_again accepts b fuses left) held
-          (AllSafe-append (Saying Update) _ (Says (λ _. what.Updated b dynamic capsule.manifest.svn) ∷ []) held (call_says Update (device_of b) ops held) ((capsule, j, refl), tt))
-          (tt, second_known (judged_active accepts b fuses left) left)))
+        let left : Story = after made held in (
+          tt,
+          (
+            tt,
+            AllSafe-append (Saying Update) made (checked_again accepts b fuses left) held
+                (AllSafe-append (Saying Update) _ (Says (λ _. what.Updated b dynamic capsule.manifest.svn) ∷ []) held (call_says Update (device_of b) ops held) ((capsule, j, refl), tt))
+                (tt, second_known (judged_active accepts b fuses left) left),
+          ),
+        )
     staged_known (Err cause) j = subst (λ (moves : List Move). AllSafe (Saying Update) moves held) (sym (refused_is cause)) (tt, (tt, (j, (tt, (tt, tt)))))
 
 -- ---- from one world to another
@@ -187,14 +201,35 @@ module _ (accepts : Acceptance) (b : Bank) (intent : Intent) (fuses : FusesState
   whole_by answer j calm = whole calm ∙ ap (λ (r : Result CapsuleState CapsuleFail). after (work r) there) j
 
   -- an update that is refused does no operation
+  abbrev refusal : CapsuleFail → List Move
+  refusal cause = Asks device.Nv ∷ Asks (device_of b) ∷ Says (λ _. what.Refused b (refusing.Capsule cause)) ∷ Asks (device_of b) ∷ Says (what.Released b t.manifest.svn) ∷ []
+
+  refusal_is : (cause : CapsuleFail) → found ≡ Err cause → work found ≡ refusal cause
+  refusal_is cause j = ap (λ (r : Result CapsuleState CapsuleFail). work r) j ∙ refused_is accepts b dynamic fuses start ready t cause
+
   nothing_done : (cause : CapsuleFail) → found ≡ Err cause → counts_of (story_of new) ≡ counts_of start
   nothing_done cause j =
-      let plain : List Move = Asks device.Nv ∷ Asks (device_of b) ∷ Says (λ _. what.Refused b (refusing.Capsule cause)) ∷ Asks (device_of b) ∷ Says (what.Released b t.manifest.svn) ∷ [] in
-      let is : work found ≡ plain = ap (λ (r : Result CapsuleState CapsuleFail). work r) j ∙ refused_is accepts b dynamic fuses start ready t cause in
-      let e : Ending b (Unit {0}) plain there (story_of new) = subst (λ (ms : List Move). Ending b (Unit {0}) ms there (story_of new)) is behind in
-      let good = ended_good b (Unit {0}) plain there (story_of new) Still (tt, (tt, (tt, (tt, (tt, tt))))) (λ which w story trouble. tt) e in
-      ap (λ (s : Story). counts_of s) (ended_is b (Unit {0}) plain there (story_of new) e)
-      ∙ kept_by Still (λ s. counts_of s ≡ counts_of start) (still_keeps (counts_of start)) (ended_trace b (Unit {0}) plain there (story_of new) e) there good refl
+      let e : Ending b (Unit {0}) (refusal cause) there (story_of new) = subst (λ (ms : List Move). Ending b (Unit {0}) ms there (story_of new)) (refusal_is cause j) behind in
+      same_counts there (story_of new) (same_pasts b (Unit {0}) (refusal cause) there (story_of new) (tt, (tt, (tt, (tt, (tt, tt))))) e)
+
+  -- and the bank is released again as it is
+  refused_so : (cause : CapsuleFail) → found ≡ Err cause → IsCalm b (added first new) → IsNotedBehind (what.Refused b (refusing.Capsule cause)) (what.Released b t.manifest.svn (counts_in first)) (added first new)
+  refused_so cause j calm =
+      let is : story_of new ≡ after (refusal cause) there = whole calm ∙ ap (λ (moves : List Move). after moves there) (refusal_is cause j) in
+      let hold : Note = record { item = start.item; what = what.Held b (counts_of start) } in
+      let released : Note = record { item = start.item; what = what.Released b t.manifest.svn (counts_of start) } in
+      subst (λ (notes : List Note). IsNotedBehind (what.Refused b (refusing.Capsule cause)) (what.Released b t.manifest.svn (counts_in first)) notes)
+      (sym (added_said first new (record { trace = with_held (refusal cause); is = is })))
+      (record { before = hold ∷ []; item = start.item; behind = released ∷ []; is = refl; noted = inl refl })
+
+  -- no other device does anything
+  others_same : OthersSame b start (story_of new)
+  others_same =
+      let moves : List Move = updating accepts b intent start in
+      let allowed : AllowsUpdate (Own b) b dynamic = record { updated = λ svn story. tt; refused = λ cause story. tt } in
+      let good = ended_good b (Unit {0}) moves start (story_of new) (Own b) (updating_allowed (Own b) accepts b (own_bank b) intent start allowed tt) (λ which w story trouble. tt) ending in
+      subst (λ (s : Story). OthersSame b start s) (sym (ended_is b (Unit {0}) moves start (story_of new) ending))
+      (kept_by (Own b) (OthersSame b start) (own_keeps b start) (ended_trace b (Unit {0}) moves start (story_of new) ending) start good (λ other apart. refl))
 
   -- ---- by the contents where it is held
   module _ (have : HaveBytes new) (size : IsBankSize (length (mine b start))) where
@@ -210,18 +245,6 @@ module _ (accepts : Acceptance) (b : Bank) (intent : Intent) (fuses : FusesState
     by_counts : (P : List ℕ → List ℕ → Type 0) → P (mine b there) (store there) → AtCounts P b (counts_in first) new
     by_counts P h = at_moment P b there (counts_in first) new refl precedes h
 
-    -- what is staged well is good
-    good_staged : (capsule : CapsuleState) → found ≡ Ok capsule
-        → (g : IsGood (mine b there) (layout_of fuses.provision b).staging_at (layout_of fuses.provision b).area_len (store there) b accepts) × (g.capsule ≡ capsule)
-    good_staged capsule j =
-        let layout : Layout = layout_of fuses.provision b in
-        judged_good (mine b there) (store there) layout.staging_at layout.area_len b accepts fuses capsule (stand_for (store there) fuses b ready_there.provisioned) ready_there.layout bytes j
-
-    staged_good : (svn : ℕ) (capsule : CapsuleState) → found ≡ Ok capsule → capsule.manifest.svn ≡ svn → (g : HasGoodStaging b (mine b there) (store there) accepts) × (g.good.capsule.manifest.svn ≡ svn)
-    staged_good svn capsule j e =
-        let k = good_staged capsule j in
-        (record { fuses = fuses; provisioned = ready_there.provisioned; good = k.0 }, ap (λ (c : CapsuleState). c.manifest.svn) k.1 ∙ e)
-
     found_bad : (cause : CapsuleFail) → HasBadStaging cause b (mine b there) (store there) accepts → found ≡ Err cause
     found_bad cause h =
         subst (λ (f : FusesState). judged_staging accepts b f there ≡ Err cause) (fuses_one (store there) h.fuses fuses h.provisioned ready_there.provisioned) h.judged
@@ -235,7 +258,7 @@ module _ (accepts : Acceptance) (b : Bank) (intent : Intent) (fuses : FusesState
     made_from : (capsule : CapsuleState) → found ≡ Ok capsule → MadeFrom accepts b fuses capsule there
     made_from capsule j =
         let layout : Layout = layout_of fuses.provision b in
-        let k = good_staged capsule j in
+        let k = found_staged accepts b fuses capsule there ready_there.provisioned ready_there.layout bytes j in
         record {
           place = layout.staging_at;
           len = layout.area_len;
@@ -247,8 +270,46 @@ module _ (accepts : Acceptance) (b : Bank) (intent : Intent) (fuses : FusesState
           bytes = bytes;
         }
 
-    refuses_so : (cause : CapsuleFail) → IsCalm b (added first new) → HasBadStaging cause b (mine b there) (store there) accepts → IsNoted (added first new) (what.Refused b (refusing.Capsule cause))
-    refuses_so cause calm h = make_noted (work (Err cause)) (whole_by (Err cause) (found_bad cause h) calm) (what.Refused b (refusing.Capsule cause)) (inr (inl refl))
+    -- ---- what an update leaves, and from which capsule
+    abbrev IsUpdatedFrom : ℕ → List ℕ → List ℕ → Type 0
+    IsUpdatedFrom svn image nv =
+        (g : HasGoodStaging b image nv accepts) × (svn ≡ g.good.capsule.manifest.svn) × IsMadeFrom accepts b (ActiveFromStaging dynamic) image g.good.capsule (layout_of g.fuses.provision b) new
+
+    updated_untold : (capsule : CapsuleState) → IsBroken b (Unit {0}) (copying accepts b (ActiveFromStaging dynamic) (not_staging dynamic) (what.Updated b dynamic capsule.manifest.svn) there fuses capsule) there (story_of new)
+        → ¬ IsNoted (added first new) (what.Updated b dynamic capsule.manifest.svn)
+    updated_untold capsule p n =
+        let told : What = what.Updated b dynamic capsule.manifest.svn in
+        let moves : List Move = copying accepts b (ActiveFromStaging dynamic) (not_staging dynamic) told there fuses capsule in
+        let cut = cut_untold accepts b (ActiveFromStaging dynamic) (not_staging dynamic) told there fuses capsule (Unit {0}) (λ cause then e. cc) (λ d then e. cc) (story_of new) p in
+        (Traced-known (IsOther told) first new (record {
+          trace = with_held (ended_trace b (Unit {0}) moves there (story_of new) (inr p));
+          is = ended_is b (Unit {0}) moves there (story_of new) (inr p);
+          good = ((λ e. cc), cut);
+          moved = moved;
+        }) told n).1 refl
+
+    updated_anew : (capsule : CapsuleState) → found ≡ Ok capsule → IsNoted (added first new) (what.Updated b dynamic capsule.manifest.svn)
+        → IsAnew accepts b (ActiveFromStaging dynamic) fuses capsule (mine b there) (story_of new)
+    updated_anew capsule j n =
+        let told : What = what.Updated b dynamic capsule.manifest.svn in
+        let work_here : Ending b (Unit {0}) (whole_job accepts b (ActiveFromStaging dynamic) (not_staging dynamic) told there fuses capsule) there (story_of new) =
+        subst (λ (r : Result CapsuleState CapsuleFail). Ending b (Unit {0}) (work r) there (story_of new)) j behind in
+        elim (job_ends accepts b (ActiveFromStaging dynamic) (not_staging dynamic) told there fuses capsule (made_from capsule j) (Unit {0}) (story_of new) work_here) [
+          | inl p ↦ absurd (updated_untold capsule p n)
+          | inr anew ↦ anew
+        ]
+
+    updated_from : (svn : ℕ) → IsNoted (added first new) (what.Updated b dynamic svn) → IsUpdatedFrom svn (mine b there) (store there)
+    updated_from svn n =
+        let k = (known (what.Updated b dynamic svn) n).1 in
+        let capsule : CapsuleState = k.0 in
+        let good = found_staged accepts b fuses capsule there ready_there.provisioned ready_there.layout bytes k.1 in
+        let anew = updated_anew capsule k.1 (subst (λ (x : ℕ). IsNoted (added first new) (what.Updated b dynamic x)) (sym k.2) n) in (
+          record { fuses = fuses; provisioned = ready_there.provisioned; good = good.0 },
+          sym k.2 ∙ ap (λ (c : CapsuleState). c.manifest.svn) (sym good.1),
+          made_so accepts b (ActiveFromStaging dynamic) fuses good.0.capsule (mine b there) new
+              (subst (λ (c : CapsuleState). IsAnew accepts b (ActiveFromStaging dynamic) fuses c (mine b there) (story_of new)) (sym good.1) anew),
+        )
 
     abbrev UpdatesAndReleases : ℕ → Type 0
     UpdatesAndReleases svn = (then : Counts) × IsNotedBehind (what.Updated b dynamic svn) (what.Released b svn then) (added first new)
@@ -259,18 +320,22 @@ module _ (accepts : Acceptance) (b : Bank) (intent : Intent) (fuses : FusesState
         let hold : Note = record { item = start.item; what = what.Held b (counts_of start) } in
         let then : Counts = counts_of (after (updated b dynamic fuses capsule there) there) in
         let anew = anew_releases accepts b (ActiveFromStaging dynamic) (not_staging dynamic) (what.Updated b dynamic svn) there fuses capsule (made_from capsule j) in
-        let notes = behind_next (what.Updated b dynamic svn) (what.Released b svn then) hold _ anew in
-        (then, subst (λ (all : List Note). IsNotedBehind (what.Updated b dynamic svn) (what.Released b svn then) all)
-          (sym (added_said first new (record { trace = with_held (work (Ok capsule)); is = whole_by (Ok capsule) j calm }))) notes)
+        let notes = behind_next (what.Updated b dynamic svn) (what.Released b svn then) hold _ anew in (
+          then,
+          subst (λ (all : List Note). IsNotedBehind (what.Updated b dynamic svn) (what.Released b svn then) all)
+              (sym (added_said first new (record { trace = with_held (work (Ok capsule)); is = whole_by (Ok capsule) j calm }))) notes,
+        )
+
+    -- it is refused, and released again
+    abbrev IsRefused : CapsuleFail → Type 0
+    IsRefused cause = (svn : ℕ) × IsNotedBehind (what.Refused b (refusing.Capsule cause)) (what.Released b svn (counts_in first)) (added first new)
 
     updates_at : UpdatesAt accepts b dynamic new (added first new) (counts_in first)
     updates_at = record {
       held = make_noted (ended_trace b (Unit {0}) (work found) there (story_of new) behind) (ended_is b (Unit {0}) (work found) there (story_of new) behind) (what.Held b (counts_in first)) (inl refl);
       refused = λ cause n. by_counts (λ image nv. HasBadStaging cause b image nv accepts) (record { fuses = fuses; provisioned = ready_there.provisioned; judged = (known (what.Refused b (refusing.Capsule cause)) n).1 });
-      refuses = λ cause calm. by_counts (λ image nv. HasBadStaging cause b image nv accepts → IsNoted (added first new) (what.Refused b (refusing.Capsule cause))) (λ h. refuses_so cause calm h);
-      updated = λ svn n.
-          let k = (known (what.Updated b dynamic svn) n).1 in
-          by_counts (λ image nv. (g : HasGoodStaging b image nv accepts) × (g.good.capsule.manifest.svn ≡ svn)) (staged_good svn k.0 k.1 k.2);
+      refuses = λ cause calm. by_counts (λ image nv. HasBadStaging cause b image nv accepts → IsRefused cause) (λ h. (t.manifest.svn, refused_so cause (found_bad cause h) calm));
+      updated = λ svn n. by_counts (IsUpdatedFrom svn) (updated_from svn n);
       updates = λ calm. by_counts (λ image nv. (g : HasGoodStaging b image nv accepts) → UpdatesAndReleases g.good.capsule.manifest.svn) (λ g. updates_so calm g.good.capsule (found_good g));
     }
 
@@ -284,10 +349,9 @@ updates_by accepts b intent old new have size t f =
     let ending = single_ends (update_stretch accepts b intent) b (Unit {0}) (λ d. refl) tt first new f in
     let moved : AllMoved first new = follows_moved (update_course accepts b intent) first new f in
     record {
-      at = counts_in old;
-      as_before = refl;
       updates = updates_at accepts b intent t.fuses first new ready t ending moved have size;
       writes_nothing = λ cause n. nothing_done accepts b intent t.fuses first new ready t ending moved cause (known accepts b intent t.fuses first new ready t ending moved (what.Refused b (refusing.Capsule cause)) n).1;
+      others = λ other apart. same_ops (event.Update b intent) other old new (others_same accepts b intent t.fuses first new ready t ending moved other apart);
     }
 
 -- An update of a bank that runs is judged before anything is written.

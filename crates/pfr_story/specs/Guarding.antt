@@ -19,9 +19,9 @@ use Rattle.pfr_report.specs.declared.note.What.TheVariants.{Held, Released, Lock
 use Rattle.pfr_watch.specs.Stages.{next_stage}
 use Rattle.pfr_story.specs.Guards.{Guards, guard_at, guards_after}
 use Rattle.pfr_story.specs.Story.{device_of}
-use Rattle.pfr_story.specs.World.{World, story_of, state_at, added}
+use Rattle.pfr_story.specs.World.{World, state_at, added}
 use Rattle.pfr_story.specs.Plans.{level_after}
-use Rattle.pfr_story.specs.Turn.{guards_at, pass_note, stage_at}
+use Rattle.pfr_story.specs.Turn.{guards_at, pass_note}
 use Rattle.pfr_story.specs.Causes.{HasBadRecovery}
 use Rattle.pfr_story.specs.Promises.{AtCounts, IsExpiring, IsAtStage, count_at}
 use Rattle.pfr_story.specs.Making.{IsMadeFrom}
