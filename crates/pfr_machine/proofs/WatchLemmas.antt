@@ -1,44 +1,35 @@
 -- Watches that tick and expire, and stages that are passed.
-use Rattle.std.proofs.Common.{◌≡◌, ◌≢◌, ◌∙◌, refl, sym, ap, subst, ℕ, ◌+◌, ◌≤◌, Bool, true, false, List, [], ◌∷◌, length, drop, arith, inl, inr, Result, Ok, Err}
-use Rattle.std.specs.Prelude.{◌||◌, ◌&&◌, nat_lt, not}
-use Rattle.std.proofs.Math.Seq.{drop-length}
-use Rattle.pfr_flash.specs.declared.flash.FlashFail.{FlashFail}
-use Rattle.pfr_flash.specs.declared.flash.FlashFail.TheVariants.{Fault, Lost as Loses}
+use Rattle.std.proofs.Common.{◌≡◌, ◌≢◌, ◌∙◌, refl, sym, ap, subst, ℕ, ◌+◌, ◌≤◌, Bool, true, false, List, [], ◌∷◌, arith, inl, inr, Result, Ok, Err}
+use Rattle.std.specs.Prelude.{◌&&◌, nat_lt}
 use Rattle.pfr_flash.specs.declared.names.Bank.{Bank}
 use Rattle.pfr_flash.specs.declared.names.Bank.TheVariants as bank
-use Rattle.pfr_flash.specs.declared.names.Device.{Device}
 use Rattle.pfr_engine.specs.Acceptance.{Acceptance}
-use Rattle.pfr_watch.specs.Stages.{next_stage}
 use Rattle.pfr_watch.specs.Watching.{expires}
 use Rattle.pfr_watch.specs.declared.stage.Stage.{Stage}
 use Rattle.pfr_watch.specs.declared.stage.Stage.TheVariants as stage
 use Rattle.pfr_script.specs.declared.event.Event.TheVariants.{Tick}
-use Rattle.pfr_report.specs.Texts.{HasText}
 use Rattle.pfr_report.specs.declared.note.LockWhy.TheVariants.{WatchdogSpent}
-use Rattle.pfr_report.specs.declared.note.Note.{Note}
 use Rattle.pfr_report.specs.declared.note.What.TheVariants.{Expired, Held, Locked}
-use Rattle.pfr_story.specs.Course.{Stretch, CrossesOrFaults, Follows, LosesPower, Steps, goes_on_if}
-use Rattle.pfr_story.specs.Goes.{Ran, Stopped}
-use Rattle.pfr_story.specs.Guards.{guard_at, latch_after}
+use Rattle.pfr_story.specs.Course.{Stretch, CrossesOrFaults, Follows, Steps}
+use Rattle.pfr_story.specs.Goes.{Ran}
+use Rattle.pfr_story.specs.Guards.{guard_at}
 use Rattle.pfr_story.specs.Plans.{by_level, expired, expired_to, level_after}
-use Rattle.pfr_story.specs.Promises.{Runs}
 use Rattle.pfr_story.specs.Standing.{Standing, Off, Held as IsHeld, Locked as IsLocked, Running, is_running, standing_after, standing_by, standing_of}
-use Rattle.pfr_story.specs.Story.{Story, Move, Plan, Says, after, other_bank, says, then}
-use Rattle.pfr_story.specs.Turn.{expiry_stretch, is_due, pass_note, stretch_if, tick_course}
-use Rattle.pfr_story.specs.World.{World, IsDark, added, story_of}
-use Rattle.pfr_story.proofs.Courses.{Steps-next}
-use Rattle.pfr_story.proofs.Sequence.{Ran-append, Ran-refl, Stopped-next}
+use Rattle.pfr_story.specs.Story.{Move, Says, other_bank, says, then}
+use Rattle.pfr_story.specs.Turn.{expiry_stretch, is_due, pass_note, tick_course}
+use Rattle.pfr_story.specs.World.{World, story_of}
+use Rattle.pfr_story.proofs.Sequence.{Ran-append, Ran-refl}
 use Rattle.pfr_machine.specs.Inside.{IsWhole}
-use Rattle.pfr_machine.specs.Ready.{AreBrought, Brings, BroughtUp, LeavesSeated, LeavesWhole}
+use Rattle.pfr_machine.specs.Ready.{AreBrought, Brings, BroughtUp, LeavesSeated}
 use Rattle.pfr_machine.specs.Watching.{AreUp, BringsDue, ExpiresDue, clocked, due_stretches}
 use Rattle.pfr_machine.specs.Working.{work_stretch}
 use Rattle.pfr_machine.specs.Worlds.{AddsNotes, DeskState, with_note}
 use Rattle.pfr_machine.specs.declared.working.Dark.{Dark}
 use Rattle.pfr_machine.specs.declared.working.Work.TheVariants.{Recover}
 use Rattle.pfr_machine.proofs.StretchLemmas.{both_up, brought_behind, lost_behind, one_brought, one_lost}
-use Rattle.pfr_machine.proofs.StandLemmas.{leaves_on, leaves_standing, neither_off, still_stands}
+use Rattle.pfr_machine.proofs.StandLemmas.{neither_off, still_stands}
 use Rattle.pfr_machine.proofs.TurnLemmas.{both_steps, second_lost}
-use Rattle.pfr_machine.proofs.WorldLemmas.{AddsNotes-most, AddsNotes-none, AddsNotes-noted, AddsNotes-then, noted_ran}
+use Rattle.pfr_machine.proofs.WorldLemmas.{AddsNotes-most, AddsNotes-noted, AddsNotes-then, noted_ran}
 
 -- ---- a watch expired
 module _ (accepts : Acceptance) (b : Bank) (level : ℕ) (old mid : World) (is : level ≡ level_after (guard_at b old.guards).watch) (e : mid ≡ with_note (Expired b level) old) (room : 1 ≤ old.notes.spare) where
