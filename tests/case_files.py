@@ -6,8 +6,9 @@ import hashlib
 import os
 import re
 
+import day_scripts
+import foreseer
 import frame_scripts
-import framer
 import maker
 import restorer
 from case_reader import CaseFault
@@ -150,7 +151,11 @@ class Files:
 
     def restored(self, bank, target, level="1"):
         """restored BANK TARGET [LEVEL]: the bank's bytes as a restore at a level leaves them, 1 where none is told."""
-        self.held[target] = restorer.restored(self.get(bank), self.get("nv"), bank, int(level))
+        self.held[target] = restorer.restored(self.get(bank), self.get("nv"), bank, level)
+
+    def updated(self, bank, target, intent):
+        """updated BANK TARGET INTENT: the bank's bytes as an update leaves them, `active` or `full`."""
+        self.restored(bank, target, intent)
 
     def cut_restore(self, bank, target, nth, tear):
         """cut_restore BANK TARGET N TEAR: the same where the nth operation was torn so, and nothing more was done."""
@@ -169,6 +174,10 @@ class Files:
         """drawn N: the files of a platform and a script of frames, drawn from the number."""
         self.held.update(frame_scripts.drawn_files(int(number)))
 
+    def drawn_day(self, number):
+        """drawn_day N: the files of a platform and a script of boots, ticks, updates and frames, drawn from the number."""
+        self.held.update(day_scripts.drawn_files(int(number)))
+
     def sweep(self, name):
         """sweep NAME: a script that gives the BMC all frames of a kind."""
         self.held["script"] = frame_scripts.sweep_script(name)
@@ -176,7 +185,8 @@ class Files:
     def foresee(self, name, *words):
         """foresee NAME [BMC PCH NV SCRIPT [WEAR]]: what a script makes of a platform: its report, and what it leaves."""
         bmc, pch, nv, script, *wear = words or ("bmc", "pch", "nv", "script")
-        found = framer.foreseen(*map(self.get, (bmc, pch, nv)), self.get(script).decode(), *map(int, wear))
+        images, texts = map(self.get, (bmc, pch, nv)), [self.get(name).decode() for name in ("engine", script)]
+        found = foreseer.foreseen(*images, *texts, *map(int, wear))
         for part, content in zip(found._fields, found):
             self.held[f"{name}.{part}"] = content
 
@@ -190,7 +200,7 @@ class Files:
             raise CaseFault(f"{line.place}: no line {word}")
         try:
             return method(*rest, block=line.block) if word in ("text", "script") else method(*rest)
-        except (TypeError, ValueError, KeyError, CaseFault, framer.Unforeseen) as error:
+        except (TypeError, ValueError, KeyError, CaseFault, foreseer.Unforeseen) as error:
             raise CaseFault(f"{line.place}: {error}") from None
 
     def written(self):
@@ -200,7 +210,7 @@ class Files:
 
 LINES = (
     "platform source copy text script fill zeros folder seal turn put number into append keep change repeat"
-    " restored cut_restore frames drawn sweep foresee".split()
+    " restored updated cut_restore frames drawn drawn_day sweep foresee".split()
 )
 
 

@@ -93,8 +93,47 @@ foresee @found
 run
 foreseen @found
 times 2
+
+case day
+platform tiny as=next bmc.svn=4 bmc.shift=7
+platform tiny staged=@next.bmc.capsule
+append engine @next.engine
+updated bmc @updated full
+script
+  power
+  tick 499
+  boot pch pass
+  boot bmc pass
+  tick 499
+  update bmc full
+  tick 1
+foresee @then
+run
+  1 power
+  1 bmc held
+  1 bmc released svn 3
+  1 pch held
+  1 pch released svn 3
+  3 pch passed me
+  4 bmc booted
+  6 bmc held
+  6 bmc updated full svn 4
+  6 bmc released svn 4
+  7 pch watchdog 1
+  7 pch held
+  7 pch restored level 1
+  7 pch released svn 3
+foreseen @then
+gives bmc @updated
+
+table drawn-days/{row}
+drawn_day {row}
+foresee @days
+run
+foreseen @days
+times 2
 """
-PASSED = "tests: 8 passed, 0 failed"
+PASSED = "tests: 11 passed, 0 failed"
 # What is wanted, with another byte in each.
 CHANGES = (
     ("region-hash:0", "region-hash:1"),
@@ -130,6 +169,15 @@ CHANGES = (
     ("foresee @then", "foresee @then\nput pch 0x5010 00"),
     ("foresee @then", "foresee @then\nput nv 0x3000 00"),
     ("foresee @then", "foresee @then\nturn @then.bmc 0x1ffff 01"),
+    ("  tick 499\n  boot", "  tick 500\n  boot"),
+    ("  tick 499\n  update", "  tick 498\n  update"),
+    ("  update bmc full", "  update bmc active"),
+    ("  boot bmc pass", "  boot bmc fail"),
+    ("6 bmc updated full svn 4", "6 bmc updated full svn 3"),
+    ("updated bmc @updated full", "updated bmc @updated full\nturn @updated 0x2fff 01"),
+    ("append engine @next.engine\n", ""),
+    ("foresee @days", "foresee @days\nturn @days.report 2 01"),
+    ("foresee @days", "foresee @days\nturn @days.bmc 0x2000 01"),
     ("foresee @found", "foresee @found\nturn @found.report 0 01"),
     ("foresee @found", "foresee @found\nturn @found.bmc 0 01"),
     ("foresee @found", "foresee @found\nturn @found.pch 0x100 80"),

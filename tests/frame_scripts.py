@@ -1,6 +1,6 @@
 """Scripts of frames that nobody wrote down: sweeps over all opcodes, pages, lengths and commands, and drawn ones.
 
-A drawn script is fixed by its number. framer.py plays it while it is drawn, so that power comes back where no bank runs; one
+A drawn script is fixed by its number. foreseer.py plays it while it is drawn, so that power comes back where no bank runs; one
 that goes beyond what the model foresees is drawn anew.
 """
 
@@ -9,6 +9,7 @@ from __future__ import annotations
 import random
 from collections import namedtuple
 
+import foreseer
 import framer
 import maker
 import restorer
@@ -159,7 +160,7 @@ def drawn_script(rng):
     shapes = {name: shape_of(files[name], files["nv"], name) for name in maker.BANKS}
     if not rng.randrange(4):
         files, lines = faulty(rng, files)
-    platform = framer.Platform(files["bmc"], files["pch"], files["nv"])
+    platform = foreseer.platform_of(files)
     for line in lines:
         platform.take(line)
     for _ in range(rng.choice((20, 60, 200))):
@@ -174,7 +175,7 @@ def drawn_files(number):
     while True:
         try:
             return drawn_script(rng)
-        except framer.Unforeseen:
+        except foreseer.Unforeseen:
             continue
 
 

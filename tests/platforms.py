@@ -27,8 +27,26 @@ WIDE = {
     "filled": (0x100000, 0x180000),
     "regions": "0x100000-0x180000/0x1000/0x2000",
 }
+# A 64 MiB BMC and a 32 MiB PCH of eight regions each, of which 18 MiB and 8 MiB have digests.
+DAY_BMC = {
+    "size": 0x4000000,
+    "layout": (0, 0x10000, 0x100000, 0x1700000, 0x1600000),
+    "filled": (0x2D00000, 0x3F00000),
+    "regions": "0x2d00000-0x3100000:1:sha256:copy,0x3100000-0x3500000:1:sha384:copy,0x3500000-0x3900000:1:sha256:copy,"
+    "0x3900000-0x3d00000:1:sha256:copy,0x3d00000-0x3f00000:1:sha256:copy,0x3f00000-0x3f40000:11:none:erase,"
+    "0x3f40000-0x3f80000:19:none:erase,0x3f80000-0x4000000:3:none:keep",
+}
+DAY_PCH = {
+    "size": 0x2000000,
+    "layout": (0, 0x10000, 0x100000, 0xB00000, 0xA00000),
+    "filled": (0x1600000, 0x1E00000),
+    "regions": "0x1600000-0x1800000:1:sha256:copy,0x1800000-0x1a00000:1:sha256:copy,0x1a00000-0x1c00000:1:sha256:copy,"
+    "0x1c00000-0x1d00000:1:sha256:copy,0x1d00000-0x1e00000:1:sha384:copy,0x1e00000-0x1e40000:11:none:erase,"
+    "0x1e40000-0x1e80000:19:none:erase,0x1e80000-0x2000000:3:none:keep",
+}
 # What the BMC's bank is like, and the PCH's.
-PLATFORMS = {"small": (SMALL, SMALL), "tiny": (TINY, TINY), "wide": (WIDE, TINY)}
+PLATFORMS = {"small": (SMALL, SMALL), "tiny": (TINY, TINY), "wide": (WIDE, TINY), "day": (DAY_BMC, DAY_PCH)}
+PERIOD = 251
 # What a part of a bank is made with in place of what is right; the bank's name stands before it, or the BMC is meant.
 PARTS = ("active", "active_block", "inner", "inner_block", "capsule", "capsule_block")
 
@@ -49,11 +67,22 @@ def regions_of(text):
     return regions
 
 
+def counted(begin, end):
+    """The bytes of a filled part of an image: byte i is i modulo 251."""
+    first = begin % PERIOD
+    return (bytes(range(PERIOD)) * ((end - begin) // PERIOD + 2))[first : first + end - begin]
+
+
+def shifted(image, more):
+    """The image with another filling: each of its bytes so many more, modulo 251."""
+    return image.translate(bytes((byte + more) % PERIOD for byte in range(PERIOD)) + bytes(range(PERIOD, 256)))
+
+
 def bank_of(shape):
     """A bank of a platform's shape, as a description has it."""
     begin, end = shape["filled"]
     size = shape["size"]
-    image = maker.blank(begin) + bytes(at % 251 for at in range(begin, end)) + maker.blank(size - end)
+    image = maker.blank(begin) + counted(begin, end) + maker.blank(size - end)
     bank = {"image": image, "size": size, "svn": 3, "bkc": 1, "revision": "0100", "oem": "00" * 16}
     bank.update(zip(maker.LAYOUT, shape["layout"]))
     for name, (key_id, x, y) in KEYS.items():
@@ -96,9 +125,11 @@ def set_option(description, parts, path, text):
         table["regions"] = regions_of(text)
     elif names[-1] == "smbus":
         table["smbus"] = [dict(rule) for rule in table["smbus"] * int(text)]
+    elif names[-1] == "shift":
+        table["image"] = shifted(table["image"], int(text))
     elif names[-1] == "commands":
         table["commands"] = text.ljust(64, "0")
-    elif names[-1] in ("x", "y", "revision", "oem"):
+    elif names[-1] in ("x", "y", "revision", "oem", "pages"):
         table[names[-1]] = text
     else:
         table[names[-1]] = int(text, 0)
@@ -130,7 +161,7 @@ def made_bank(description, name, parts, staged, engine):
     return maker.bank_image(bank, active, capsule, staged), capsule
 
 
-@functools.lru_cache(maxsize=None)
+@functools.lru_cache(maxsize=64)
 def made_platform(name, options, staged):
     """The files of a platform by name, of these options, and with this staged for the BMC: nothing, `own`, or bytes."""
     description = description_of(name)

@@ -1,4 +1,7 @@
-"""What a restore makes of a bank, after docs/FORMATS.md alone: apart from the program, for what cases want."""
+"""What a restore and an update make of a bank, after docs/FORMATS.md alone: apart from the program, for what cases want.
+
+What is done with a bank is told by a word: `1` to `3` for a restore at that level, `active` and `full` for an update.
+"""
 
 from __future__ import annotations
 
@@ -14,6 +17,7 @@ FORM2_MAGIC = 0xB6EAFD1A
 FORM1_BLOCK = 1024
 HEADER_LENGTH = 128
 LAYOUTS_AT = {"bmc": 32, "pch": 52}
+UPDATES = ("active", "full")
 
 Layout = namedtuple("Layout", maker.LAYOUT)
 Region = namedtuple("Region", "mask hashed start end")
@@ -80,13 +84,25 @@ def page_bytes(image, capsule, page):
     return image[at : at + PAGE]
 
 
-def new_pages(image, layout, level):
-    """The pages that a restore at a level writes, in rising order, and what each is to hold."""
-    capsule = capsule_at(image, layout.recovery_at)
+def source_of(layout, work):
+    """The area whose capsule is copied."""
+    return layout.staging_at if work in UPDATES else layout.recovery_at
+
+
+def is_written(region, work):
+    """Whether a region's pages are among those that are written: one with a hash always, others by their mask or by the intent."""
+    if region.hashed or work in UPDATES:
+        return region.hashed or work == "full"
+    return region.mask >> (int(work) + 1) & 1
+
+
+def new_pages(image, layout, work):
+    """The pages that are written, in rising order, and what each is to hold."""
+    capsule = capsule_at(image, source_of(layout, work))
     text = maker.up_to(capsule.signed_manifest, layout.manifest_len)
     pages = {(layout.manifest_at + at) // PAGE: text[at : at + PAGE] for at in range(0, layout.manifest_len, PAGE)}
     for region in capsule.regions:
-        if region.hashed or region.mask >> (level + 1) & 1:
+        if is_written(region, work):
             taken = set(range(region.start // PAGE, region.end // PAGE)) & capsule.erased
             pages.update({page: page_bytes(image, capsule, page) for page in taken})
     return sorted(pages.items())
@@ -105,8 +121,8 @@ def done_to(image, at, piece):
     """The image once an operation is done: an erase where it has no bytes, or a program of these."""
     if piece is None:
         return maker.place(image, at, maker.blank(PAGE))
-    old = image[at : at + len(piece)]
-    return maker.place(image, at, bytes(a & b for a, b in zip(old, piece)))
+    old, new = (int.from_bytes(part, "little") for part in (image[at : at + len(piece)], piece))
+    return maker.place(image, at, (old & new).to_bytes(len(piece), "little"))
 
 
 def torn_to(image, at, piece, tear):
@@ -117,22 +133,22 @@ def torn_to(image, at, piece, tear):
     return done_to(image, at, bytes(a | b for a, b in zip(piece, tear)))
 
 
-def strokes(image, store, bank, level=1):
-    """The operations of a restore, in order."""
-    written = new_pages(image, layout_of(store, bank), level)
+def strokes(image, store, bank, work="1"):
+    """The operations of a restore or an update, in order."""
+    written = new_pages(image, layout_of(store, bank), work)
     return [operation for page, content in written for operation in operations(page, content)]
 
 
-def restored(image, store, bank, level=1):
-    """The image as a whole restore leaves it."""
-    for at, piece in strokes(image, store, bank, level):
+def restored(image, store, bank, work="1"):
+    """The image as a whole restore or update leaves it."""
+    for at, piece in strokes(image, store, bank, work):
         image = done_to(image, at, piece)
     return image
 
 
-def cut_restore(image, store, bank, nth, tear, level=1):
-    """The image where the nth operation of a restore was torn, and the last that was done."""
-    begun = strokes(image, store, bank, level)[:nth]
+def cut_restore(image, store, bank, nth, tear, work="1"):
+    """The image where the nth operation of it was torn, and the last that was done."""
+    begun = strokes(image, store, bank, work)[:nth]
     for at, piece in begun[:-1]:
         image = done_to(image, at, piece)
     return torn_to(image, *begun[-1], tear)

@@ -53,7 +53,7 @@ use Rattle.pfr_machine.specs.declared.bus.Bus.{Bus}
 use Rattle.pfr_machine.specs.declared.seat.Seat.{Seat}
 use Rattle.pfr_machine.specs.declared.sides.Sides.{Sides}
 use Rattle.pfr_machine.specs.declared.seat.Seat.TheVariants as seat
-use Rattle.pfr_machine.proofs.BringLemmas.{image_now, size_now}
+use Rattle.pfr_machine.proofs.EndsLemmas.{image_now, size_now}
 use Rattle.pfr_machine.proofs.DeskLemmas.{desk_notes, desk_pushed_is, mine_follows, state_mine, state_other, state_store}
 use Rattle.pfr_machine.proofs.LaidLemmas.{KeepsLaid-same, fuses_laid}
 use Rattle.pfr_machine.proofs.SeatLemmas.{IsLost, lost_dark, lost_notes, lost_ran}

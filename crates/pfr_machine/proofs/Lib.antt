@@ -10,6 +10,10 @@ pub mod TurnLemmas
 pub mod SoundLemmas
 pub mod JudgeLemmas
 pub mod CheckLemmas
+pub mod EndsLemmas
 pub mod BringLemmas
+pub mod WorkLemmas
 pub mod BusLemmas
+pub mod StretchLemmas
+pub mod WatchLemmas
 mod VerdictLaw

@@ -6,9 +6,8 @@ use Rattle.pfr_flash.specs.declared.names.Bank.{Bank}
 use Rattle.pfr_flash.specs.declared.names.Bank.TheVariants as bank
 use Rattle.pfr_flash.specs.declared.names.Counts.{Counts}
 use Rattle.pfr_flash.specs.declared.names.Device.{Device}
-use Rattle.pfr_report.specs.Texts.{HasText}
+use Rattle.pfr_report.specs.Texts.{HasLockText, HasText}
 use Rattle.pfr_report.specs.declared.note.LockWhy.{LockWhy}
-use Rattle.pfr_report.specs.declared.note.LockWhy.TheVariants.{NoGoodImage}
 use Rattle.pfr_report.specs.declared.note.Note.{Note}
 use Rattle.pfr_report.specs.declared.note.What.{What}
 use Rattle.pfr_report.specs.declared.note.What.TheVariants.{Held, Released, Locked, Lost}
@@ -20,7 +19,7 @@ use Rattle.pfr_story.specs.declared.line.Line.{Line}
 use Rattle.pfr_story.specs.declared.line.Line.TheVariants as line
 use Rattle.pfr_story.proofs.Lift.{Ran-uncalled}
 use Rattle.pfr_machine.specs.Inside.{AreBeside, AreOwned, AreSides, IsBoard, IsDesk, IsSeat, darkened}
-use Rattle.pfr_machine.specs.Ready.{IsText, LeavesSeated}
+use Rattle.pfr_machine.specs.Ready.{LeavesSeated}
 use Rattle.pfr_machine.specs.Worlds.{AddsNotes, Latches, Sitting, bank_in, desk_world, flash_in, latch_in, latches_after, latches_by, line_in, pushed, sides_world, sits_in, with_note}
 use Rattle.pfr_machine.specs.declared.board.Board.{Board}
 use Rattle.pfr_machine.specs.declared.sides.Sides.{Sides}
@@ -31,11 +30,6 @@ use Rattle.pfr_machine.proofs.WorldLemmas.{AddsNotes-noted, AreLaid, after_locke
 -- a note of this item
 abbrev note_in : World → What → Note
 note_in w what = record { item = w.item; what = what }
-
--- ---- a lock's causes
-pub lock_text : (b : Bank) (why : LockWhy) (at : Counts) → IsText why → HasText (Locked b why at)
-lock_text b (NoGoodImage active recovery) at h = h
-lock_text b _ at h = tt
 
 -- ---- power
 pub powered_as : (old new : FlashState) → new ≡ old → old.powered ≡ true → new ≡ record old { powered = true }
@@ -308,14 +302,14 @@ module _ {F : Type 0} (dev : F → FlashState) (s : Sides F) (seated : AreSides 
       noted_world dev s.bank (Locked s.bank why at) (dev (flash_in s.mine)) flash (dev (flash_in s.other)) (latches_by s.bank (latch_in s.mine) (latch_in s.other)) (latches_by s.bank false (latch_in s.other)) s.board next flash_up
       (locked_latches s.bank why at (latch_in s.mine) (latch_in s.other)) e
 
-  pub locked_are_beside : (why : LockWhy) (at : Counts) (whose : Bank) (next : Board F) → whose ≡ bank_in s.mine → IsText why → next ≡ pushed (Locked s.bank why at) s.board
+  pub locked_are_beside : (why : LockWhy) (at : Counts) (whose : Bank) (next : Board F) → whose ≡ bank_in s.mine → HasLockText why → next ≡ pushed (Locked s.bank why at) s.board
       → AreBeside s.bank (locked_seat whose) (sits_in s.other) (desk_world s.bank flash (dev (flash_in s.other)) (dev next.nv) (latches_by s.bank false (latch_in s.other)) next)
   locked_are_beside why at whose next owned text e =
       subst (λ (w : World). AreBeside s.bank (locked_seat whose) (sits_in s.other) w) (sym (locked_sides why at next e))
       (stands_beside s.bank (locked_seat whose) (sits_in s.other) (Locked s.bank why at) (sides_world dev s)
       (after_locked s.bank why at (standing_of s.bank (sides_world dev s).notes.list))
       (other_locked s.bank why at (standing_of (other_bank s.bank) (sides_world dev s).notes.list) ∙ seated.other.stands)
-      (lock_text s.bank why at text) (owned ∙ seated.mine.owner) (λ r n. none_laid s.bank (now (sides_world dev s).nv) r n) seated.mine.size seated.other seated.board)
+      text (owned ∙ seated.mine.owner) (λ r n. none_laid s.bank (now (sides_world dev s).nv) r n) seated.mine.size seated.other seated.board)
 
   pub locked_says : (b : Bank) (why : LockWhy) (at : Counts) (self : World) (next : Board F) → s.bank ≡ b → sides_world dev s ≡ self → at ≡ counts_in self
       → next ≡ pushed (Locked s.bank why at) s.board → Ran (Says (Locked b why) ∷ []) self (desk_world s.bank flash (dev (flash_in s.other)) (dev next.nv) (latches_by s.bank false (latch_in s.other)) next)

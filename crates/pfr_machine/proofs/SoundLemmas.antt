@@ -11,7 +11,7 @@ use Rattle.pfr_story.specs.Course.{Follows}
 use Rattle.pfr_story.specs.Promises.{Runs}
 use Rattle.pfr_story.specs.Standing.{standing_of, standing_by, Running}
 use Rattle.pfr_story.specs.Story.{device_of}
-use Rattle.pfr_story.specs.Turn.{begun, course, Turn}
+use Rattle.pfr_story.specs.Turn.{course, next_item, Turn}
 use Rattle.pfr_story.specs.World.{World, AreDevices, state_at, story_of}
 use Rattle.pfr_story.specs.declared.line.Line.{Line}
 use Rattle.pfr_story.specs.declared.line.Line.TheVariants as line
@@ -19,11 +19,12 @@ use Rattle.pfr_story.proofs.Bytes.{have_bytes}
 use Rattle.pfr_story.proofs.KeepingLaws.{Turn-trusted_spans, trusted_now}
 use Rattle.pfr_machine.specs.Inside.{HasSizes, IsSound, IsThere, world_in}
 use Rattle.pfr_machine.specs.Ready.{LeavesWhole}
+use Rattle.pfr_machine.specs.Watching.{clocked}
 use Rattle.pfr_machine.specs.Worlds.{PlatformState}
 use Rattle.pfr_machine.proofs.TurnLemmas.{Begun, turned, still_whole, sizes_before}
 
 -- a step leaves it so, with devices that hold bytes
-pub still_sound : (old next : World) → Begun old next → (accepts : Acceptance) (e : Event) (new : World) → IsSound accepts old → Follows (course accepts e (story_of next)) next new
+pub still_sound : (old next : World) → Begun old next → (accepts : Acceptance) (e : Event) (new : World) → IsSound accepts old → Follows (course accepts e (story_of next)) (clocked e next) new
     → LeavesWhole 64 next new → AreDevices new → HasSizes new → IsSound accepts new
 still_sound old next b accepts e new h f l devices sizes =
     let t : Turn accepts e old new = turned old next b accepts e new f in
@@ -39,7 +40,7 @@ begun_trusted old next b accepts h which runs =
     subst (λ (w : World). IsTrusted (now (state_at (device_of which) w)) (now w.nv) which accepts) (sym b.is) (of_begun which t)
   where
     of_begun : (which : Bank) → IsTrusted (now (state_at (device_of which) old)) (now old.nv) which accepts
-        → IsTrusted (now (state_at (device_of which) (record (begun old) { notes = next.notes }))) (now old.nv) which accepts
+        → IsTrusted (now (state_at (device_of which) (record (next_item old) { notes = next.notes }))) (now old.nv) which accepts
     of_begun bank.Bmc t = t
     of_begun bank.Pch t = t
 

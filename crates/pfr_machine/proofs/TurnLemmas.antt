@@ -23,7 +23,7 @@ use Rattle.pfr_story.specs.Plans.{Ruling, migrated, mine, ready_in, ready_of, ru
 use Rattle.pfr_story.specs.Promises.{IsKnownSlot}
 use Rattle.pfr_story.specs.Standing.{Standing, standing_of, is_off, is_running, Off, Held, Locked, Running}
 use Rattle.pfr_story.specs.Story.{Story, Move, Says, after}
-use Rattle.pfr_story.specs.Turn.{bank_stretch, fuse_stretch, unreadable, power_course, course, ignored, ignored_if, is_idle, taken, begun, Turn}
+use Rattle.pfr_story.specs.Turn.{bank_stretch, fuse_stretch, unreadable, power_course, course, ignored, ignored_if, is_idle, guards_at, next_item, taken, begun, Turn}
 use Rattle.pfr_story.specs.World.{World, story_of}
 use Rattle.pfr_story.proofs.Courses.{Steps-next, Steps-ended}
 use Rattle.pfr_story.proofs.RunLaws.{Turn-item}
@@ -33,7 +33,8 @@ use Rattle.pfr_story.proofs.Sequence.{Ran-refl}
 use Rattle.pfr_machine.specs.Worlds.{with_note, with_state}
 use Rattle.pfr_machine.specs.Inside.{HasSizes, IsWhole}
 use Rattle.pfr_machine.specs.Ready.{Brings, BringsBoth, BroughtUp, LeavesWhole}
-use Rattle.pfr_machine.specs.declared.bringing.Dark.{Dark}
+use Rattle.pfr_machine.specs.Watching.{clocked}
+use Rattle.pfr_machine.specs.declared.working.Dark.{Dark}
 use Rattle.pfr_machine.proofs.WorldLemmas.{AddsNotes-then}
 
 -- a step that only notes something
@@ -50,18 +51,18 @@ second_lost first second old mid new a p q = Steps-next first (second ∷ []) ol
 
 -- where the second bank's work leads, once the first one was brought up
 pub both_brought : {F : Type 0} (first second : Stretch) (old mid : World) (r : Result World (Dark F)) → first.goes_on ≡ true → second.goes_on ≡ true
-    → CrossesOrFaults first old mid × BroughtUp bank.Bmc 5 old mid → Brings second bank.Pch 5 mid r → BringsBoth (first ∷ second ∷ []) 10 old r
+    → CrossesOrFaults first old mid × BroughtUp bank.Bmc 6 old mid → Brings second bank.Pch 6 mid r → BringsBoth (first ∷ second ∷ []) 12 old r
 both_brought first second old mid (Ok new) a b p q = (
   both_steps first second old mid new a b p.0 q.0,
   record {
     bmc = λ e. p.1.mine (sym q.1.other ∙ e);
     pch = q.1.mine;
-    notes = AddsNotes-then 5 5 old.notes mid.notes new.notes p.1.notes q.1.notes;
+    notes = AddsNotes-then 6 6 old.notes mid.notes new.notes p.1.notes q.1.notes;
     nv = q.1.nv;
   },
 )
 both_brought first second old mid (Err dark) a b p q =
-    (second_lost first second old mid dark.inner a p.0 q.0, q.1, AddsNotes-then 5 5 old.notes mid.notes dark.inner.notes p.1.notes q.2)
+    (second_lost first second old mid dark.inner a p.0 q.0, q.1, AddsNotes-then 6 6 old.notes mid.notes dark.inner.notes p.1.notes q.2)
 
 -- ---- the power comes on
 stopped_as : (moves : List Move) (which : Device) (found end : FlashFail) (old new : World) → found ≡ end → Stopped moves which found old new → Stopped moves which end old new
@@ -88,12 +89,23 @@ module _ (accepts : Acceptance) where
   powered old lit noted new a b p = (noted, power_noted old lit noted a b, p)
 
 -- ---- an event that is ignored, and one that is taken
-pub at_idle : (accepts : Acceptance) (e : Event) (idle : Bool) (old new : World) → idle ≡ is_idle e (story_of old) → idle ≡ true → Follows ignored old new → Follows (course accepts e (story_of old)) old new
-at_idle accepts e idle old new is idles p = rw (← is, idles) p
+-- no watch ticks at one that is ignored
+idle_still : (e : Event) (w : World) → is_idle e (story_of w) ≡ true → clocked e w ≡ w
+idle_still event.Power w idle = refl
+idle_still event.Off w idle = refl
+idle_still (event.Provision what) w idle = refl
+idle_still (event.Spi which frame) w idle = refl
+idle_still (event.Smbus which frame) w idle = refl
+idle_still (event.Tick n) w idle = absurd (let never : false ≡ true = idle in cc)
+idle_still (event.Boot which pass) w idle = refl
+idle_still (event.Update which intent) w idle = refl
 
-pub at_taken : (accepts : Acceptance) (e : Event) (idle : Bool) (old new : World) → idle ≡ is_idle e (story_of old) → idle ≡ false → Follows (taken accepts e (story_of old)) old new
-    → Follows (course accepts e (story_of old)) old new
-at_taken accepts e idle old new is takes p = rw (← is, takes) p
+pub at_idle : (accepts : Acceptance) (e : Event) (idle : Bool) (old new : World) → idle ≡ is_idle e (story_of old) → idle ≡ true → Follows ignored old new → Follows (course accepts e (story_of old)) (clocked e old) new
+at_idle accepts e idle old new is on p = rw (← is, on, idle_still e old (sym is ∙ on)) p
+
+pub at_taken : (accepts : Acceptance) (e : Event) (idle : Bool) (old new : World) → idle ≡ is_idle e (story_of old) → idle ≡ false → Follows (taken accepts e (story_of old)) (clocked e old) new
+    → Follows (course accepts e (story_of old)) (clocked e old) new
+at_taken accepts e idle old new is off p = rw (← is, off) p
 
 pub not_both : {b : Bool} → b ≡ true → b ≡ false → ⊥
 not_both holds fails = let never : true ≡ false = sym holds ∙ fails in cc
@@ -114,6 +126,9 @@ idle_known event.Off old idle some = tt
 idle_known (event.Provision what) old idle some = absurd (some (off_only (standing_of bank.Bmc old.notes.list) idle))
 idle_known (event.Spi which frame) old idle some = tt
 idle_known (event.Smbus which frame) old idle some = tt
+idle_known (event.Tick n) old idle some = tt
+idle_known (event.Boot which pass) old idle some = tt
+idle_known (event.Update which intent) old idle some = tt
 
 -- the bank of a frame that is taken runs
 pub running_only : (s : Standing) → not (is_running s) ≡ false → s ≡ Running
@@ -150,32 +165,41 @@ course_item accepts (event.Smbus which frame) story item =
     ap (λ (found : Option Ruling). smbus_by which frame found (record story { item = item })) (ruling_item accepts which story item)
     ∙ smbus_item which frame (ruling accepts which story) (record story { item = item }) story in
     ap (λ (moves : List Move). ignored_if (is_idle (event.Smbus which frame) story) (record { first = moves; stretches = [] })) same
+course_item accepts (event.Tick n) story item = refl
+course_item accepts (event.Boot which true) story item = refl
+course_item accepts (event.Boot which false) story item = refl
+course_item accepts (event.Update which intent) story item = refl
 
 -- ---- an item was begun
 pub record Begun (old next : World) : Type 0 where
-  pub is : next ≡ record (begun old) { notes = next.notes }
+  pub is : next ≡ record (next_item old) { notes = next.notes }
   pub list : next.notes.list ≡ old.notes.list
 
 module _ (old next : World) (b : Begun old next) where
-  story_begun : story_of next ≡ story_of (begun old)
-  story_begun = ap story_of b.is ∙ ap (λ (l : List Note). record (story_of (begun old)) { notes = l }) b.list
+  story_next : story_of next ≡ record (story_of old) { item = old.item + 1 }
+  story_next = ap story_of b.is ∙ ap (λ (l : List Note). record (story_of (next_item old)) { notes = l }) b.list
 
-  ran_begun : (moves : List Move) (mid : World) → Ran moves next mid → Ran moves (begun old) mid
-  ran_begun moves mid p =
-      let q = subst (λ (w : World). Ran moves w mid) b.is p in
+  story_begun : (e : Event) → story_of (clocked e next) ≡ story_of (begun e old)
+  story_begun e =
+      ap (λ (w : World). story_of (clocked e w)) b.is
+      ∙ ap (λ (l : List Note). record (story_of (next_item old)) { notes = l; guards = guards_at e l old.guards }) b.list
+
+  ran_begun : (e : Event) (moves : List Move) (mid : World) → Ran moves (clocked e next) mid → Ran moves (begun e old) mid
+  ran_begun e moves mid p =
+      let q = subst (λ (w : World). Ran moves (clocked e w) mid) b.is p in
       record {
-        is = p.is ∙ ap (λ (s : Story). after moves s) story_begun;
+        is = p.is ∙ ap (λ (s : Story). after moves s) (story_begun e);
         moved = record { bmc = q.moved.bmc; pch = q.moved.pch; nv = q.moved.nv };
         none_lost = record { bmc = q.none_lost.bmc; pch = q.none_lost.pch; nv = q.none_lost.nv };
         none_failed = record { bmc = q.none_failed.bmc; pch = q.none_failed.pch; nv = q.none_failed.nv };
       }
 
-  pub turned : (accepts : Acceptance) (e : Event) (new : World) → Follows (course accepts e (story_of next)) next new → Turn accepts e old new
+  pub turned : (accepts : Acceptance) (e : Event) (new : World) → Follows (course accepts e (story_of next)) (clocked e next) new → Turn accepts e old new
   turned accepts e new (mid, p, q) =
-      let same : course accepts e (story_of next) ≡ course accepts e (story_of old) = ap (λ (s : Story). course accepts e s) story_begun ∙ course_item accepts e (story_of old) (old.item + 1) in
-      subst (λ (c : Course). Follows c (begun old) new) same (mid, ran_begun _ mid p, q)
+      let same : course accepts e (story_of next) ≡ course accepts e (story_of old) = ap (λ (s : Story). course accepts e s) story_next ∙ course_item accepts e (story_of old) (old.item + 1) in
+      subst (λ (c : Course). Follows c (begun e old) new) same (mid, ran_begun e _ mid p, q)
 
-  pub still_whole : (accepts : Acceptance) (e : Event) (new : World) → IsWhole old → Follows (course accepts e (story_of next)) next new → LeavesWhole 64 next new → IsWhole new
+  pub still_whole : (accepts : Acceptance) (e : Event) (new : World) → IsWhole old → Follows (course accepts e (story_of next)) (clocked e next) new → LeavesWhole 64 next new → IsWhole new
   still_whole accepts e new h f l = record {
     together = l.together;
     apart = l.apart;

@@ -2,6 +2,8 @@ pub mod Worlds
 pub mod Inside
 pub mod Buses
 pub mod Ready
+pub mod Working
+pub mod Watching
 pub mod Provisions
 pub mod Verdicts
 pub mod VerdictsInside

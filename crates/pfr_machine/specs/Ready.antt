@@ -9,9 +9,6 @@ use Rattle.pfr_fuses.specs.FusesState.{FusesState}
 use Rattle.pfr_manifest.specs.declared.manifest.Manifest.{Manifest}
 use Rattle.pfr_auth.specs.Answer.{active_failure}
 use Rattle.pfr_auth.specs.declared.fail.ActiveFail.{ActiveFail}
-use Rattle.pfr_report.specs.Words.{AreFound}
-use Rattle.pfr_report.specs.declared.note.LockWhy.{LockWhy}
-use Rattle.pfr_report.specs.declared.note.LockWhy.TheVariants.{NoGoodImage}
 use Rattle.pfr_report.specs.declared.note.What.TheVariants.{Released, Locked}
 use Rattle.pfr_story.specs.Course.{Stretch, CrossesOrFaults, LosesPower, Steps, lost}
 use Rattle.pfr_story.specs.Goes.{Ran, Stopped}
@@ -25,12 +22,7 @@ use Rattle.pfr_machine.specs.Worlds.{AddsNotes, DeskState, Stays}
 use Rattle.pfr_machine.specs.declared.desk.Found.{Found}
 use Rattle.pfr_machine.specs.declared.desk.Found.TheVariants as found
 use Rattle.pfr_machine.specs.declared.desk.Halt.{Halt}
-use Rattle.pfr_machine.specs.declared.bringing.Dark.{Dark}
-
--- a lock's causes are no failed devices
-abbrev pub IsText : LockWhy → Type 0
-IsText (NoGoodImage active recovery) = AreFound active recovery
-IsText why = Unit {0}
+use Rattle.pfr_machine.specs.declared.working.Dark.{Dark}
 
 -- The bank in work was released or locked, and the other one stands as before. The store has power.
 pub record LeavesSeated (most : ℕ) (old : DeskState) (new : World) : Type 0 where

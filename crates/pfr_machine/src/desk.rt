@@ -6,20 +6,22 @@ ghost use Rattle.pfr_flash.specs.Layout.{IsValidLayout};
 ghost use Rattle.pfr_flash.specs.declared.names.Bank.{Bank};
 ghost use Rattle.pfr_auth.specs.Answer.{active_failure};
 ghost use Rattle.pfr_capsule.specs.Answer.{capsule_failure};
-ghost use Rattle.pfr_copy.specs.Applying.{CanApply};
+ghost use Rattle.pfr_auth.specs.Areas.{judge_area};
+ghost use Rattle.pfr_copy.specs.Applying.{CanApply, IsActive};
 ghost use Rattle.pfr_fuses.specs.FusesOf.{fuses_of};
 ghost use Rattle.pfr_fuses.specs.RootSlot.{layout_of};
-ghost use Rattle.pfr_report.specs.Texts.{HasText};
-ghost use Rattle.pfr_report.specs.declared.note.What.TheVariants.{Released, Locked, Lost, Untrusted};
+ghost use Rattle.pfr_report.specs.Texts.{HasLockText, HasText};
+ghost use Rattle.pfr_report.specs.declared.note.What.TheVariants.{Released, Refused, Locked, Lost, Untrusted};
+ghost use Rattle.pfr_report.specs.declared.note.Refusal.TheVariants.{Capsule as Staged};
 ghost use Rattle.pfr_story.specs.Goes.{Goes, Ran};
 ghost use Rattle.pfr_story.specs.Guards.{latch_after};
-ghost use Rattle.pfr_story.specs.Plans.{asks, asks_store, copied, judged_recovery, restored};
+ghost use Rattle.pfr_story.specs.Plans.{asks, asks_store, copied, mine, restored, updated};
 ghost use Rattle.pfr_story.specs.Standing.{Standing, standing_after};
 ghost use Rattle.pfr_story.specs.Story.{Says, device_of};
 ghost use Rattle.pfr_story.specs.World.{IsDark, counts_in, state_at, story_of};
 ghost use Rattle.pfr_machine.specs.Inside.{IsDesk, IsLaid};
 ghost use Rattle.pfr_machine.specs.Worlds.{AddsNotes, IsAwake, Stays, desk_world, flash_in, latch_in, latches_by, sits_in, with_note};
-ghost use Rattle.pfr_machine.specs.Ready.{Checks, IsText, LeavesSeated};
+ghost use Rattle.pfr_machine.specs.Ready.{Checks, LeavesSeated};
 
 use crate::board::Board;
 use crate::inner::Inner;
@@ -34,7 +36,7 @@ use pfr_copy::apply;
 use pfr_flash::{Bank, Counts, Device, Flash, FlashFail};
 use pfr_fuses::{FuseFail, Fuses};
 use pfr_jobs::JobKind;
-use pfr_report::{LockWhy, What};
+use pfr_report::{LockWhy, Refusal, What};
 use pfr_story::Stop;
 use std::marker::Model;
 
@@ -147,9 +149,10 @@ impl<F: Flash> Desk<F> {
         }
     }
 
-    /// The capsule in the recovery area, or the first cause against it.
-    pub fn judge_recovery<E: Engine>(
+    /// The capsule in an area of the bank, or the first cause against it.
+    pub fn judge<E: Engine>(
         &mut self,
+        area: Area,
         fuses: &Fuses,
         engine: &E,
     ) -> Result<Result<Capsule, CapsuleFail>, Stop>
@@ -157,22 +160,15 @@ impl<F: Flash> Desk<F> {
         requires valid { IsValidLayout (layout_of fuses.now.provision self.old.bank)
             (size_of (state_at (device_of self.old.bank) self.old.world)) }
         ensures goes { Goes (asks self.old.bank) self.old.world self.new.world result }
-        ensures is { IfOk result
-            (λ found. found ≡ judged_recovery (E.accepts engine.now) self.old.bank fuses.now (story_of self.old.world)) }
+        ensures is { IfOk result (λ found.
+            found ≡ judge_area area self.old.bank (mine self.old.bank (story_of self.old.world)) fuses.now (E.accepts engine.now)) }
         ensures cause { IfOk result (λ found. IfErr found (IsFound capsule_failure)) }
         ensures can { let layout = layout_of fuses.now.provision self.old.bank in
             IfOk result (λ found. IfOk found (CanApply (now (state_at (device_of self.old.bank) self.new.world)) layout)) }
         ensures stays { Stays 0 self.old self.new result }
     {
         let layout = fuses.provision().layout(self.bank);
-        match capsule_at(
-            self.held.flash(),
-            Area::Recovery,
-            self.bank,
-            layout,
-            fuses,
-            engine,
-        ) {
+        match capsule_at(self.held.flash(), area, self.bank, layout, fuses, engine) {
             Ok(capsule) => Ok(Ok(capsule)),
             Err(why) => match why.failure() {
                 Some(fail) => Err(Stop {
@@ -184,22 +180,18 @@ impl<F: Flash> Desk<F> {
         }
     }
 
-    // Applies the capsule in the recovery area to the active image.
-    fn copy(&mut self, fuses: &Fuses, capsule: &Capsule, level: u8) -> Result<(), Stop>
+    // Applies a capsule to the active image, by a job.
+    fn copy(&mut self, fuses: &Fuses, capsule: &Capsule, kind: JobKind) -> Result<(), Stop>
         requires on { IsAwake self.old.bank self.old.world }
         requires can { CanApply (now (state_at (device_of self.old.bank) self.old.world))
             (layout_of fuses.now.provision self.old.bank) capsule.now }
-        ensures goes { Goes (copied self.old.bank level fuses.now capsule.now) self.old.world self.new.world result }
+        requires kind { IsActive kind }
+        ensures goes { Goes (copied self.old.bank kind fuses.now capsule.now) self.old.world self.new.world result }
         ensures stays { Stays 0 self.old self.new result }
         ensures store { self.new.world.nv ≡ self.old.world.nv }
     {
         let layout = fuses.provision().layout(self.bank);
-        match apply(
-            &mut self.held,
-            capsule,
-            layout,
-            JobKind::ActiveFromRecovery { level },
-        ) {
+        match apply(&mut self.held, capsule, layout, kind) {
             Ok(()) => Ok(()),
             Err(fail) => Err(Stop {
                 device: device_of(self.bank),
@@ -229,12 +221,43 @@ impl<F: Flash> Desk<F> {
         ensures stays { Stays 1 self.old self.new result }
         ensures store { self.new.world.nv ≡ self.old.world.nv }
     {
-        self.copy(fuses, capsule, level)?;
+        self.copy(fuses, capsule, JobKind::ActiveFromRecovery { level })?;
         self.note(What::Restored {
             bank: self.bank,
             level,
         });
         Ok(())
+    }
+
+    /// Updates the active image from the capsule in the staging area: with all of its regions where `dynamic`, else with the
+    /// static ones.
+    pub fn update(&mut self, fuses: &Fuses, capsule: &Capsule, dynamic: bool) -> Result<(), Stop>
+        requires room { 1 ≤ self.old.world.notes.spare }
+        requires on { IsAwake self.old.bank self.old.world }
+        requires can { CanApply (now (state_at (device_of self.old.bank) self.old.world))
+            (layout_of fuses.now.provision self.old.bank) capsule.now }
+        ensures goes { Goes (updated self.old.bank dynamic fuses.now capsule.now) self.old.world self.new.world result }
+        ensures stays { Stays 1 self.old self.new result }
+        ensures store { self.new.world.nv ≡ self.old.world.nv }
+    {
+        self.copy(fuses, capsule, JobKind::ActiveFromStaging { dynamic })?;
+        self.note(What::Updated {
+            bank: self.bank,
+            dynamic,
+            svn: capsule.manifest().svn,
+        });
+        Ok(())
+    }
+
+    /// Notes that what is in the staging area is no good image.
+    pub fn refuse(&mut self, cause: CapsuleFail)
+        requires room { 1 ≤ self.old.world.notes.spare }
+        requires cause { IsFound capsule_failure cause }
+        ensures noted { self.new ≡ record self.old { world = with_note (Refused self.old.bank (Staged cause)) self.old.world } }
+    {
+        let bank = self.bank;
+        let why = Refusal::Capsule(cause);
+        self.note(What::Refused { bank, why });
     }
 
     /// Notes that the active image isn't trusted.
@@ -290,7 +313,7 @@ impl<F: Flash> Desk<F> {
     /// Locks the bank.
     pub fn lock(self, why: LockWhy) -> Inner<F>
         requires room { 1 ≤ self.world.notes.spare }
-        requires text { IsText why }
+        requires text { HasLockText why }
         requires on { IsAwake self.bank self.world }
         ensures ran { Ran (Says (Locked self.bank why) ∷ []) self.world result }
         ensures leaves { LeavesSeated 1 self result }

@@ -3,7 +3,7 @@ ghost use Rattle.std.specs.Prelude.{◌≡◌, ◌≤◌, Bool, [], ◌∷◌, t
 ghost use Rattle.pfr_flash.specs.declared.names.Bank.{Bank};
 ghost use Rattle.pfr_flash.specs.declared.names.Bank.TheVariants.{Bmc};
 ghost use Rattle.pfr_flash.specs.declared.names.Device.TheVariants.{Nv};
-ghost use Rattle.pfr_report.specs.Texts.{HasText};
+ghost use Rattle.pfr_report.specs.Texts.{HasLockText, HasText};
 ghost use Rattle.pfr_report.specs.declared.note.What.TheVariants.{Held, Locked, Lost};
 ghost use Rattle.pfr_story.specs.Goes.{Ran};
 ghost use Rattle.pfr_story.specs.Guards.{latch_after};
@@ -12,7 +12,6 @@ ghost use Rattle.pfr_story.specs.Standing.{Standing, standing_of, standing_after
 ghost use Rattle.pfr_story.specs.Story.{Says, other_bank};
 ghost use Rattle.pfr_story.specs.World.{IsDark, counts_in};
 ghost use Rattle.pfr_machine.specs.Worlds.{AddsNotes, IsAwake, with_note, with_state};
-ghost use Rattle.pfr_machine.specs.Ready.{IsText};
 
 use crate::board::Board;
 use crate::desk::Desk;
@@ -116,7 +115,7 @@ impl<F: Flash> Inner<F> {
     /// Locks the bank.
     pub fn lock(self, bank: Bank, why: LockWhy) -> Inner<F>
         requires room { 1 ≤ self.notes.spare }
-        requires text { IsText why }
+        requires text { HasLockText why }
         requires on { self.nv.powered ≡ true }
         ensures ran { Ran (Says (Locked bank why) ∷ []) self result }
         ensures notes { AddsNotes 1 self.notes result.notes }

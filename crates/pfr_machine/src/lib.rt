@@ -14,7 +14,10 @@ mod provisioning;
 mod seat;
 mod sides;
 mod turning;
+mod updating;
 mod verdicts;
+mod watching;
+mod working;
 
 pub use pfr_story::Line;
 pub use platform::{Parts, Platform};

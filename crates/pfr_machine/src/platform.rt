@@ -1,5 +1,5 @@
 // The platform.
-ghost use Rattle.std.specs.Prelude.{◌≡◌, ◌+◌, ◌<◌, ◌≤◌, false, [], OnOk, OnErr};
+ghost use Rattle.std.specs.Prelude.{◌≡◌, ◌≢◌, ◌+◌, ◌<◌, ◌≤◌, false, [], OnOk, OnErr};
 ghost use Rattle.pfr_auth.specs.Trusted.{IsTrusted};
 ghost use Rattle.pfr_flash.specs.FlashState.{now, size_of};
 ghost use Rattle.pfr_flash.specs.Layout.{IsBankSize};
@@ -10,15 +10,17 @@ ghost use Rattle.pfr_report.specs.Texts.{AllText};
 ghost use Rattle.pfr_story.specs.Bringing.{BringsUpCalm, PowerReleases};
 ghost use Rattle.pfr_story.specs.Course.{Calm};
 ghost use Rattle.pfr_story.specs.Filtering.{FiltersSo};
+ghost use Rattle.pfr_story.specs.Guarding.{Boots, Expires, GuardsFollow};
 ghost use Rattle.pfr_story.specs.Guards.{first_guards};
-ghost use Rattle.pfr_story.specs.Promises.{ReleasesTrusted, LocksHaveCauses, RestoresGood, ProvisionsSo, FaultsAreNoted, FaultsHaveCauses, LossesAreNoted, LostEnds, LostIsDark, NotesOff, StaysQuiet, CallsNone, HasPower, DistrustsWithCause, NotesBelong, AreOff, IsKnownSlot, Runs};
+ghost use Rattle.pfr_story.specs.Promises.{ReleasesTrusted, LocksHaveCauses, RestoresGood, ProvisionsSo, FaultsAreNoted, FaultsHaveCauses, LossesAreNoted, LostEnds, LostIsDark, NotesOff, StaysQuiet, CallsNone, HasPower, DistrustsWithCause, NotesBelong, AreOff, IsKnownSlot, JudgesAtPower, Runs};
 ghost use Rattle.pfr_story.specs.Recovery.{CountsRise, StaysRecoverable};
 ghost use Rattle.pfr_story.specs.Run.{armed, takes_arm};
 ghost use Rattle.pfr_story.specs.Spans.{ReleasedSpans};
 ghost use Rattle.pfr_story.specs.Standing.{standing_of, standing_by};
 ghost use Rattle.pfr_story.specs.Story.{device_of};
 ghost use Rattle.pfr_story.specs.Turn.{Turn, begun, course, is_idle};
-ghost use Rattle.pfr_story.specs.World.{AllMoved, AreDevices, IsDark, NoneLost, NoneRose, state_at, story_of};
+ghost use Rattle.pfr_story.specs.Updating.{Updates};
+ghost use Rattle.pfr_story.specs.World.{AllMoved, AreDevices, IsDark, NoneLost, NoneRose, added, state_at, story_of};
 ghost use Rattle.pfr_story.specs.declared.line.Line.TheVariants as line;
 ghost use Rattle.pfr_machine.specs.Inside.{HasSizes};
 
@@ -107,7 +109,7 @@ impl<F: Flash, E: Engine + Drop> Platform<F, E> {
         // What is done is what the contents call for, unless a call of a device fails.
         ensures turn { OnOk result (Turn (E.accepts self.old.engine) event.now self.old.world self.new.world) }
         ensures calm { OnOk result (NoneLost self.old.world self.new.world → NoneRose self.old.world self.new.world →
-            Calm (course (E.accepts self.old.engine) event.now (story_of self.old.world)) (begun self.old.world) self.new.world) }
+            Calm (course (E.accepts self.old.engine) event.now (story_of self.old.world)) (begun event.now self.old.world) self.new.world) }
         ensures engine { self.new.engine ≡ self.old.engine }
         ensures err { OnErr result (SameButRoom self.old self.new) }
 
@@ -118,8 +120,17 @@ impl<F: Flash, E: Engine + Drop> Platform<F, E> {
         ensures restores { OnOk result (RestoresGood (E.accepts self.old.engine) self.old.world self.new.world) }
         ensures brings_up { OnOk result (BringsUpCalm event.now (E.accepts self.old.engine) self.old.world self.new.world) }
         ensures provisions { OnOk result (ProvisionsSo event.now self.old.world self.new.world) }
+        // At no event but a power-on is a bank called untrusted, or locked for its contents.
+        ensures judges { OnOk result (JudgesAtPower event.now self.old.world self.new.world) }
         // Frames on the buses of a bank that runs are judged by what it is trusted by.
         ensures filters { OnOk result (FiltersSo event.now (E.accepts self.old.engine) self.old.world self.new.world) }
+        // An update of a bank that runs is judged before anything is written.
+        ensures updates { OnOk result (Updates event.now (E.accepts self.old.engine) self.old.world self.new.world) }
+        // A bank whose watch expires is restored or locked, a stage that is passed is noted, and what guards the banks is moved by
+        // the ticks of the event and by the notes alone.
+        ensures expires { OnOk result (Expires event.now (E.accepts self.old.engine) self.old.world self.new.world) }
+        ensures boots { OnOk result (Boots event.now self.old.world self.new.world) }
+        ensures guards { OnOk result (GuardsFollow event.now self.old.world self.new.world) }
         ensures belongs { OnOk result (NotesBelong event.now self.old.world self.new.world) }
 
         // So far each bank was trusted throughout each span in which it stood released, and in none of them a byte was written that
@@ -146,7 +157,7 @@ impl<F: Flash, E: Engine + Drop> Platform<F, E> {
         ensures quiet { OnOk result (StaysQuiet event.now self.old.world self.new.world) }
         ensures untouched { OnOk result (CallsNone event.now self.old.world self.new.world) }
         ensures on { OnOk result (HasPower self.new.world) }
-        ensures moved { OnOk result (AllMoved (begun self.old.world) self.new.world) }
+        ensures moved { OnOk result (AllMoved (begun event.now self.old.world) self.new.world) }
         // The counts that notes carry rise from the step's begin to its end.
         ensures counted { OnOk result (CountsRise self.old.world self.new.world) }
 
@@ -190,7 +201,7 @@ impl<F: Flash, E: Engine + Drop> Platform<F, E> {
         ensures spelled { OnOk result (¬ AreOff self.old.world → IsKnownSlot event.now) }
         ensures untouched { OnOk result (CallsNone event.now self.old.world self.new.world) }
         ensures dark { OnOk result
-            (is_idle event.now (story_of self.old.world) ≡ false → AreOff self.new.world → IsDark self.new.world) }
+            (is_idle event.now (story_of self.old.world) ≡ false → added self.old.world self.new.world ≢ [] → AreOff self.new.world → IsDark self.new.world) }
         ensures err { OnErr result (SameButRoom self.old self.new) }
     {
         match self.inner.take() {

@@ -1,5 +1,5 @@
 // What is done at each event.
-ghost use Rattle.std.specs.Prelude.{◌≡◌, ◌≢◌, ◌*◌, ◌<◌, ◌≤◌, ◌∷◌, [], length, true, false, OnOk, OnErr};
+ghost use Rattle.std.specs.Prelude.{◌≡◌, ◌≢◌, ◌⊎◌, ◌*◌, ◌<◌, ◌≤◌, ◌∷◌, [], length, true, false, OnOk, OnErr};
 ghost use Rattle.pfr_auth.specs.Trusted.{IsTrusted};
 ghost use Rattle.pfr_flash.specs.FlashState.{now};
 ghost use Rattle.pfr_flash.specs.declared.names.Bank.{Bank};
@@ -7,16 +7,17 @@ ghost use Rattle.pfr_flash.specs.declared.names.Bank.TheVariants.{Bmc, Pch};
 ghost use Rattle.pfr_report.specs.Texts.{AllText};
 ghost use Rattle.pfr_story.specs.Course.{Follows, Steps};
 ghost use Rattle.pfr_story.specs.Goes.{Ran};
-ghost use Rattle.pfr_story.specs.Promises.{IsIdle, IsKnownSlot, Runs};
+ghost use Rattle.pfr_story.specs.Promises.{IsIdle, IsKnownSlot, IsUneventful, Runs};
 ghost use Rattle.pfr_story.specs.Standing.{standing_of, is_off, is_running, Off};
 ghost use Rattle.pfr_story.specs.Story.{device_of};
-ghost use Rattle.pfr_story.specs.Turn.{bank_stretch, begun, course, ignored, is_idle, off_course, power_course, taken, unreadable};
-ghost use Rattle.pfr_story.specs.World.{AreDevices, IsDark, SameDevices, state_at, story_of};
+ghost use Rattle.pfr_story.specs.Turn.{bank_stretch, course, ignored, is_idle, next_item, off_course, power_course, taken, unreadable};
+ghost use Rattle.pfr_story.specs.World.{AreDevices, IsDark, SameDevices, added, state_at, story_of};
 ghost use Rattle.pfr_machine.specs.Inside.{AreLit, HasSizes, IsWhole};
 ghost use Rattle.pfr_machine.specs.Ready.{BringsBoth, LeavesWhole};
+ghost use Rattle.pfr_machine.specs.Watching.{clocked};
 
-use crate::bringing::Dark;
 use crate::inner::Inner;
+use crate::working::{Dark, Work};
 use pfr_chain::Engine;
 use pfr_flash::{Bank, Flash, FlashFail, NoMemory};
 use pfr_report::{LockWhy, What};
@@ -30,7 +31,7 @@ impl<F: Flash> Inner<F> {
         requires items { self.old.item < 67108863 }
         ensures list { self.new.notes.list ≡ self.old.notes.list }
         ensures spare { OnOk result (64 ≤ self.new.notes.spare) }
-        ensures begun { OnOk result (self.new ≡ record (begun self.old) { notes = self.new.notes }) }
+        ensures begun { OnOk result (self.new ≡ record (next_item self.old) { notes = self.new.notes }) }
         ensures err { OnErr result (self.new ≡ record self.old { notes = self.new.notes }) }
     {
         self.board.notes.reserve(64)?;
@@ -50,12 +51,12 @@ impl<F: Flash> Inner<F> {
 
     // Brings up the BMC's bank, and then the PCH's.
     fn bring_up_both<E: Engine>(self, engine: &E) -> Result<Inner<F>, Dark<F>>
-        requires room { 10 ≤ self.notes.spare }
+        requires room { 12 ≤ self.notes.spare }
         ensures { BringsBoth (bank_stretch (E.accepts engine.now) Bmc ∷ bank_stretch (E.accepts engine.now) Pch ∷ [])
-            10 self result }
+            12 self result }
     {
-        self.bring_up(Bank::Bmc, engine)?
-            .bring_up(Bank::Pch, engine)
+        self.work(Bank::Bmc, Work::BringUp, engine)?
+            .work(Bank::Pch, Work::BringUp, engine)
     }
 
     // Locks both banks, whose fuses can't be read or migrated.
@@ -73,19 +74,16 @@ impl<F: Flash> Inner<F> {
 
     // Reads and migrates the fuses, and brings up both banks.
     fn wake<E: Engine>(mut self, engine: &E) -> Inner<F>
-        requires room { 11 ≤ self.notes.spare }
+        requires room { 12 ≤ self.notes.spare }
         requires on { self.nv.powered ≡ true }
         ensures steps { Steps (power_course (E.accepts engine.now)).stretches self result }
-        ensures leaves { LeavesWhole 11 self result }
+        ensures leaves { LeavesWhole 12 self result }
         ensures dark { standing_of Bmc result.notes.list ≡ Off → IsDark result }
     {
         match self.prepare() {
             Ok(()) => match self.bring_up_both(engine) {
                 Ok(inner) => inner,
-                Err(dark) => {
-                    dark.inner.known();
-                    dark.inner
-                }
+                Err(dark) => dark.off(),
             },
             Err(stop) => match stop.fail {
                 FlashFail::Fault => self.lock_unread(),
@@ -127,8 +125,8 @@ impl<F: Flash> Inner<F> {
         }
     }
 
-    // Whether the bank runs.
-    fn runs(&self, bank: Bank) -> bool
+    /// Whether the bank runs.
+    pub fn runs(&self, bank: Bank) -> bool
         ensures { result ≡ is_running (standing_of bank self.now.notes.list) }
     {
         match self.line(bank) {
@@ -142,9 +140,12 @@ impl<F: Flash> Inner<F> {
         ensures { result ≡ is_idle event.now (story_of self.now) }
     {
         match event {
-            Event::Power => false,
+            Event::Power | Event::Tick(_) => false,
             Event::Off | Event::Provision(_) => self.is_off(),
-            Event::Spi { bank, .. } | Event::Smbus { bank, .. } => !self.runs(*bank),
+            Event::Spi { bank, .. } | Event::Smbus { bank, .. } | Event::Update { bank, .. } => {
+                !self.runs(*bank)
+            }
+            Event::Boot { bank, .. } => !self.runs(*bank) || self.has_booted(*bank),
         }
     }
 
@@ -165,9 +166,10 @@ impl<F: Flash> Inner<F> {
         requires trusted { (which : Bank) → Runs which self →
             IsTrusted (now (state_at (device_of which) self)) (now self.nv) which (E.accepts engine.now) }
         requires taken { is_idle event.now (story_of self) ≡ false }
-        ensures follows { Follows (taken (E.accepts engine.now) event.now (story_of self)) self result }
+        ensures follows { Follows (taken (E.accepts engine.now) event.now (story_of self)) (clocked event.now self) result }
         ensures leaves { LeavesWhole 64 self result }
-        ensures dark { standing_of Bmc result.notes.list ≡ Off → IsDark result }
+        ensures dark { added self result ≢ [] → standing_of Bmc result.notes.list ≡ Off → IsDark result }
+        ensures untouched { IsUneventful event.now self → SameDevices self result }
         ensures spelled { IsKnownSlot event.now }
     {
         match event {
@@ -176,6 +178,9 @@ impl<F: Flash> Inner<F> {
             Event::Provision(what) => self.provision(what),
             Event::Spi { bank, frame } => self.spi(*bank, frame),
             Event::Smbus { bank, frame } => self.smbus(*bank, frame),
+            Event::Tick(n) => self.tick(*n, engine),
+            Event::Boot { bank, pass } => self.boot(*bank, *pass, engine),
+            Event::Update { bank, intent } => self.update(*bank, *intent, engine),
         }
     }
 
@@ -185,10 +190,10 @@ impl<F: Flash> Inner<F> {
         requires whole { IsWhole self }
         requires trusted { (which : Bank) → Runs which self →
             IsTrusted (now (state_at (device_of which) self)) (now self.nv) which (E.accepts engine.now) }
-        ensures follows { Follows (course (E.accepts engine.now) event.now (story_of self)) self result }
+        ensures follows { Follows (course (E.accepts engine.now) event.now (story_of self)) (clocked event.now self) result }
         ensures leaves { LeavesWhole 64 self result }
-        ensures dark { is_idle event.now (story_of self) ≡ false → standing_of Bmc result.notes.list ≡ Off → IsDark result }
-        ensures untouched { IsIdle event.now self → SameDevices self result }
+        ensures dark { is_idle event.now (story_of self) ≡ false → added self result ≢ [] → standing_of Bmc result.notes.list ≡ Off → IsDark result }
+        ensures untouched { IsIdle event.now self ⊎ IsUneventful event.now self → SameDevices self result }
         ensures spelled { standing_of Bmc self.notes.list ≢ Off → IsKnownSlot event.now }
     {
         if self.is_idle(event) {

@@ -7,4 +7,4 @@ use Rattle.pfr_machine.proofs.inner.Inner.bring_up_both.Goals as goal
 pub returns : goal.returns
 returns g c =
     let accepts = g.E.Engine.accepts c.args.engine.now in
-    both_brought (bank_stretch accepts Bmc) (bank_stretch accepts Pch) _ _ c.bring_up-2.result refl refl c.in_ok-bring_up.ensures c.bring_up-2.ensures
+    both_brought (bank_stretch accepts Bmc) (bank_stretch accepts Pch) _ _ c.work-2.result refl refl c.in_ok-work.ensures c.work-2.ensures

@@ -8,12 +8,16 @@ use Rattle.pfr_story.proofs.EventLaws.{Turn-belongs, Turn-dark, Turn-quiet}
 use Rattle.pfr_story.proofs.FaultLaws.{Turn-told}
 use Rattle.pfr_story.proofs.FilterLaws.{Turn-filters}
 use Rattle.pfr_story.proofs.GrowthLaws.{Turn-grows, Turn-keeps}
+use Rattle.pfr_story.proofs.ExpireLaws.{Turn-boots, Turn-expires}
+use Rattle.pfr_story.proofs.GuardLaws.{Turn-guards}
+use Rattle.pfr_story.proofs.JudgedLaws.{Turn-judges}
 use Rattle.pfr_story.proofs.LossLaws.{Turn-losses, Turn-lost, Turn-off}
 use Rattle.pfr_story.proofs.NoteLaws.{Turn-distrusts, Turn-faults, Turn-locks, Turn-releases, Turn-restores}
 use Rattle.pfr_story.proofs.ProvisionLaws.{Turn-provisions}
 use Rattle.pfr_story.proofs.RecoveryLaws.{Turn-recoverable}
 use Rattle.pfr_story.proofs.RiseLaws.{Turn-counted}
 use Rattle.pfr_story.proofs.Turns.{Turn-calm, Turn-moved}
+use Rattle.pfr_story.proofs.UpdateLaws.{Turn-updates}
 use Rattle.pfr_machine.proofs.TurnLemmas.{by_both, by_turn, sizes_before}
 use Rattle.pfr_machine.proofs.platform.Platform.step.Goals as goal
 
@@ -85,3 +89,18 @@ returns-clause-provision g c = by_both c.work-done.result c.work-done.ensures.tu
 
 pub returns-clause-dark : goal.returns-clause-dark
 returns-clause-dark g c = by_both c.work-done.result c.work-done.ensures.turn c.work-done.ensures.dark (λ t dark. Turn-dark _ c.args.event.now _ _ t (Turn-lost _ c.args.event.now _ _ t) dark)
+
+pub returns-clause-judges : goal.returns-clause-judges
+returns-clause-judges g c = by_turn c.work-done.result c.work-done.ensures.turn (λ t. Turn-judges _ c.args.event.now _ _ t c.known.ensures.trusted)
+
+pub returns-clause-updates : goal.returns-clause-updates
+returns-clause-updates g c = by_turn c.work-done.result c.work-done.ensures.turn (λ t. let s = sizes_before _ c.args.event.now _ _ t c.known-2.ensures.sizes in Turn-updates _ c.args.event.now _ _ t (have_bytes _ c.known-2.ensures.bytes) s.bmc s.pch c.known.ensures.trusted)
+
+pub returns-clause-expires : goal.returns-clause-expires
+returns-clause-expires g c = by_turn c.work-done.result c.work-done.ensures.turn (λ t. let s = sizes_before _ c.args.event.now _ _ t c.known-2.ensures.sizes in Turn-expires _ c.args.event.now _ _ t (have_bytes _ c.known-2.ensures.bytes) s.bmc s.pch c.known.ensures.trusted)
+
+pub returns-clause-boots : goal.returns-clause-boots
+returns-clause-boots g c = by_turn c.work-done.result c.work-done.ensures.turn (λ t. Turn-boots _ c.args.event.now _ _ t)
+
+pub returns-clause-guards : goal.returns-clause-guards
+returns-clause-guards g c = by_turn c.work-done.result c.work-done.ensures.turn (λ t. Turn-guards _ c.args.event.now _ _ t)

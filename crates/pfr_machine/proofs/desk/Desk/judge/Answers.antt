@@ -7,8 +7,8 @@ use Rattle.pfr_fuses.specs.declared.root_slot.RootSlot.{RootSlot}
 use Rattle.pfr_machine.specs.Worlds.{flash_in, latch_in, latches_by, sits_in}
 use Rattle.pfr_machine.proofs.CapsuleLemmas.{capsule_left}
 use Rattle.pfr_machine.proofs.DeskLemmas.{awake_mine, desk_worked, mine_read, mine_unread, read_size}
-use Rattle.pfr_machine.proofs.desk.Desk.judge_recovery.Goals as goal
-use Rattle.pfr_machine.proofs.desk.Desk.judge_recovery.Goals.{in-Ok, in-Err+in-Some, in-Err+in-None}
+use Rattle.pfr_machine.proofs.desk.Desk.judge.Goals as goal
+use Rattle.pfr_machine.proofs.desk.Desk.judge.Goals.{in-Ok, in-Err+in-Some, in-Err+in-None}
 
 -- what was read through a loan of the flash, as the flash
 lent : (failed told : Option FlashFail) (read mine later : FlashState) → failed ≡ told → read ≡ mine → EndsAt failed read later → EndsAt told mine later
@@ -32,7 +32,7 @@ returns-clause-can g c =
     let laid = c.layout-layout.ensures ∙ ap (λ (slot : RootSlot). layout_of slot c.self.inside.bank) c.provision.ensures in
     elim c.match-capsule_at.branch [
       | in-Ok w ↦ rw (w.result-is, ← c.self.view_is) (capsule_left c.self.inside.bank c.self.inside.held.bank (sits_in c.self.inside.other) (g.F.Flash.device c.self.inside.held.flash) (g.F.Flash.device c.flash.result.now) (g.F.Flash.device c.capsule_at.new.flash) (g.F.Flash.device (flash_in c.self.inside.other)) (g.F.Flash.device c.self.inside.board.nv) (latches_by c.self.inside.bank false (latch_in c.self.inside.other)) c.self.inside.board c.layout-layout.result.now c.args.fuses.now
-          (g.E.Engine.accepts c.args.engine.now) w.in-Ok.capsule c.self.invariant (rw (← c.self.view_is) at c.requires.valid) (ap g.F.Flash.device c.flash.ensures.value) laid
+          (g.E.Engine.accepts c.args.engine.now) c.args.area w.in-Ok.capsule c.self.invariant (rw (← c.self.view_is) at c.requires.valid) (ap g.F.Flash.device c.flash.ensures.value) laid
           w.in-Ok.ensures.ends w.in-Ok.ensures.exact w.in-Ok.ensures.pages w.in-Ok.ensures.regions w.in-Ok.ensures.lies)
       | in-Err+in-Some w ↦ rw w.result-is tt
       | in-Err+in-None w ↦ rw w.result-is tt
