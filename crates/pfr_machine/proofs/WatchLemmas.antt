@@ -42,9 +42,6 @@ use Rattle.pfr_machine.proofs.WorldLemmas.{AddsNotes-most, AddsNotes-none, AddsN
 
 -- ---- a watch expired
 module _ (accepts : Acceptance) (b : Bank) (level : ℕ) (old mid : World) (is : level ≡ level_after (guard_at b old.guards).watch) (e : mid ≡ with_note (Expired b level) old) (room : 1 ≤ old.notes.spare) where
-  expiry : Stretch
-  expiry = expiry_stretch accepts b
-
   told : Ran (Says (λ _. Expired b level) ∷ []) old mid
   told = noted_ran (λ _. Expired b level) (Expired b level) old mid refl e
 
@@ -105,10 +102,6 @@ module _ (F : Type 0) (accepts : Acceptance) where
   abbrev expiry_at : Bank → Stretch
   expiry_at b = expiry_stretch accepts b
 
-  pub due_lost : (due next : Bool) (old : World) (dark : Dark F) → BringsDue due (expiry_at bank.Bmc) bank.Bmc 7 old (Err dark) → ExpiresDue accepts due next 14 old (Err dark)
-  due_lost true next old dark h = (inr (inr h.0), h.1, AddsNotes-most 7 14 old.notes dark.inner.notes h.2 (omega arith), refl)
-  due_lost false next old dark h = absurd cc
-
   -- where the BMC's didn't
   second_alone : (next : Bool) (old : World) (r : Result World (Dark F)) → (next ≡ true → AreUp old) → BringsDue next (expiry_at bank.Pch) bank.Pch 7 old r → ExpiresDue accepts false next 14 old r
   second_alone true old (Ok new) up h = (one_brought (expiry_at bank.Pch) old new h.0, inr (refl, brought_one bank.Pch old new (up refl) h.1))
@@ -159,14 +152,6 @@ module _ (n : ℕ) (old mid : World) (e : mid ≡ clocked (Tick n) old) where
       (begun, Ran-refl begun, subst (λ (x : Bool). Steps (due_stretches accepts (is_due bank.Bmc n (story_of old)) x) begun new) p first)
 
 -- ---- a stage is passed
-pub pass_text : (b : Bank) (s : Stage) → HasText (pass_note b s (next_stage s))
-pass_text b stage.Bmc = tt
-pass_text b stage.Me = tt
-pass_text b stage.Acm = tt
-pass_text b stage.Ibb = tt
-pass_text b stage.Obb = tt
-pass_text b stage.Done = tt
-
 pub pass_still : (b : Bank) (s next : Stage) (which : Bank) (how : Standing) → standing_after which (pass_note b s next) how ≡ how
 pass_still b s stage.Bmc which how = refl
 pass_still b s stage.Me which how = refl
@@ -174,16 +159,3 @@ pass_still b s stage.Acm which how = refl
 pass_still b s stage.Ibb which how = refl
 pass_still b s stage.Obb which how = refl
 pass_still b s stage.Done which how = refl
-
-pub pass_still_latch : (b : Bank) (s next : Stage) (which : Bank) (latch : Bool) → latch_after which (pass_note b s next) latch ≡ latch
-pass_still_latch b s stage.Bmc which latch = refl
-pass_still_latch b s stage.Me which latch = refl
-pass_still_latch b s stage.Acm which latch = refl
-pass_still_latch b s stage.Ibb which latch = refl
-pass_still_latch b s stage.Obb which latch = refl
-pass_still_latch b s stage.Done which latch = refl
-
--- ---- a bank whose boot goes on runs
-pub or_first : (x y : Bool) → (x || y) ≡ false → x ≡ false
-or_first true y e = absurd cc
-or_first false y e = refl

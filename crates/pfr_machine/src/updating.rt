@@ -1,5 +1,5 @@
 // How the active image of a bank is updated.
-ghost use Rattle.std.specs.Prelude.{◌≡◌, ◌≤◌, [], ◌∷◌, Ok, Err};
+ghost use Rattle.std.specs.Prelude.{◌≡◌, ◌≤◌, Ok};
 ghost use Rattle.pfr_capsule.specs.Answer.{capsule_failure};
 ghost use Rattle.pfr_copy.specs.Applying.{CanApply};
 ghost use Rattle.pfr_flash.specs.Answer.{IsFound};
@@ -8,11 +8,13 @@ ghost use Rattle.pfr_flash.specs.Layout.{IsValidLayout};
 ghost use Rattle.pfr_flash.specs.declared.names.Bank.TheVariants.{Bmc};
 ghost use Rattle.pfr_fuses.specs.FusesOf.{fuses_of};
 ghost use Rattle.pfr_fuses.specs.RootSlot.{layout_of};
+ghost use Rattle.pfr_report.specs.declared.note.Refusal.TheVariants.{Capsule as Staged};
+ghost use Rattle.pfr_report.specs.declared.note.What.TheVariants.{Refused};
 ghost use Rattle.pfr_story.specs.Course.{Follows};
-ghost use Rattle.pfr_story.specs.Plans.{by_staged, checked_again, is_dynamic, judged_staging, updated, updated_with};
+ghost use Rattle.pfr_story.specs.Plans.{checked_again, is_dynamic, judged_staging, tail, updated, updated_with};
 ghost use Rattle.pfr_story.specs.Promises.{Runs};
 ghost use Rattle.pfr_story.specs.Standing.{standing_of, Off};
-ghost use Rattle.pfr_story.specs.Story.{then, device_of};
+ghost use Rattle.pfr_story.specs.Story.{then, says, device_of};
 ghost use Rattle.pfr_story.specs.Turn.{update_course};
 ghost use Rattle.pfr_story.specs.World.{IsDark, state_at, story_of};
 ghost use Rattle.pfr_machine.specs.Inside.{IsWhole};
@@ -70,7 +72,6 @@ impl<F: Flash> Desk<F> {
     fn refuse_and_check<E: Engine>(
         mut self,
         cause: CapsuleFail,
-        dynamic: bool,
         fuses: &Fuses,
         engine: &E,
     ) -> Result<Inner<F>, Halt<F>>
@@ -80,7 +81,8 @@ impl<F: Flash> Desk<F> {
         requires valid { let layout = layout_of fuses.now.provision self.bank in
             IsValidLayout layout (size_of (state_at (device_of self.bank) self.world)) }
         requires cause { IsFound capsule_failure cause }
-        ensures { EndsSeated (by_staged (E.accepts engine.now) self.bank dynamic fuses.now (Err cause)) 4 self result }
+        ensures { let refused = says (λ _. Refused self.bank (Staged cause)) in
+            EndsSeated (then refused (tail (E.accepts engine.now) self.bank fuses.now)) 4 self result }
     {
         self.refuse(cause);
         self.tail(fuses, engine)
@@ -102,7 +104,7 @@ impl<F: Flash> Desk<F> {
     {
         match self.judge(Area::Staging, fuses, engine) {
             Ok(Ok(capsule)) => self.update_and_check(fuses, &capsule, dynamic, engine),
-            Ok(Err(cause)) => self.refuse_and_check(cause, dynamic, fuses, engine),
+            Ok(Err(cause)) => self.refuse_and_check(cause, fuses, engine),
             Err(stop) => Err(Halt { stop, desk: self }),
         }
     }

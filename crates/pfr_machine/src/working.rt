@@ -96,12 +96,7 @@ fn ready(bank: Bank, size: u32, found: Result<Fuses, FuseFail>) -> Result<Fuses,
 
 impl<F: Flash> Desk<F> {
     // Does the work, by these fuses.
-    fn carry_on<E: Engine>(
-        self,
-        work: Work,
-        fuses: &Fuses,
-        engine: &E,
-    ) -> Result<Inner<F>, Halt<F>>
+    fn carry_on<E: Engine>(self, work: Work, fuses: &Fuses, engine: &E) -> Result<Inner<F>, Halt<F>>
         requires room { 4 ≤ self.world.notes.spare }
         requires on { IsAwake self.bank self.world }
         requires found { fuses_of (now self.world.nv) ≡ Ok fuses.now }
@@ -165,12 +160,7 @@ impl<F: Flash> Halt<F> {
 
 impl<F: Flash> Inner<F> {
     /// Holds the bank for this work. It ends released or locked.
-    pub fn work<E: Engine>(
-        self,
-        bank: Bank,
-        work: Work,
-        engine: &E,
-    ) -> Result<Inner<F>, Dark<F>>
+    pub fn work<E: Engine>(self, bank: Bank, work: Work, engine: &E) -> Result<Inner<F>, Dark<F>>
         requires room { 6 ≤ self.notes.spare }
         ensures { Brings (work_stretch (E.accepts engine.now) bank work) bank 6 self result }
     {

@@ -14,9 +14,12 @@ returns-in-Ok-clause-follows g c =
     let accepts = g.E.Engine.accepts c.args.engine.now in
     let work : Stretch = work_stretch accepts c.args.bank (Update c.is_dynamic-dynamic.result) in
     let update : Stretch = update_stretch accepts c.args.bank c.args.intent in
-    let plan = ap (λ (dynamic : Bool). (work_stretch accepts c.args.bank (Update dynamic)).plan (story_of c.args.self)) (sym c.is_dynamic-dynamic.ensures) in
-    (c.args.self, Ran-refl c.args.self, one_brought update c.args.self c.in-Ok.inner
-    (brought_behind work update [] c.args.self c.args.self (Ran-refl c.args.self) plan (λ device. refl) c.in-Ok.inner c.in-Ok.ensures.0))
+    let plan = ap (λ (dynamic : Bool). (work_stretch accepts c.args.bank (Update dynamic)).plan (story_of c.args.self)) (sym c.is_dynamic-dynamic.ensures) in (
+      c.args.self,
+      Ran-refl c.args.self,
+      one_brought update c.args.self c.in-Ok.inner
+          (brought_behind work update [] c.args.self c.args.self (Ran-refl c.args.self) plan (λ device. refl) c.in-Ok.inner c.in-Ok.ensures.0),
+    )
 
 pub returns-in-Err-clause-follows : goal.returns-in-Err-clause-follows
 returns-in-Err-clause-follows g c =
@@ -24,5 +27,9 @@ returns-in-Err-clause-follows g c =
     let work : Stretch = work_stretch accepts c.args.bank (Update c.is_dynamic-dynamic.result) in
     let update : Stretch = update_stretch accepts c.args.bank c.args.intent in
     let plan = ap (λ (dynamic : Bool). (work_stretch accepts c.args.bank (Update dynamic)).plan (story_of c.args.self)) (sym c.is_dynamic-dynamic.ensures) in
-    rw c.off.ensures.same (c.args.self, Ran-refl c.args.self, one_lost update c.args.self c.in-Err.dark.inner
-    (lost_behind work update [] c.args.self c.args.self (Ran-refl c.args.self) plan (λ device. refl) c.in-Err.dark.inner c.in-Err.ensures.0))
+    rw c.off.ensures.same (
+      c.args.self,
+      Ran-refl c.args.self,
+      one_lost update c.args.self c.in-Err.dark.inner
+          (lost_behind work update [] c.args.self c.args.self (Ran-refl c.args.self) plan (λ device. refl) c.in-Err.dark.inner c.in-Err.ensures.0),
+    )
