@@ -11,16 +11,17 @@ use Rattle.pfr_fuses.proofs.GrowthLemmas.{NeverGoesBack-trans, KeepsProvision-no
 use Rattle.pfr_script.specs.declared.arm.Arm.{Arm}
 use Rattle.pfr_script.specs.declared.arm.ArmWhat.{ArmWhat}
 use Rattle.pfr_script.specs.declared.arm.ArmWhat.TheVariants.{Cut, Fault, ReadFault}
+use Rattle.pfr_script.specs.declared.event.Event.{Event}
 use Rattle.pfr_story.specs.World.{World, AllMoved}
-use Rattle.pfr_story.specs.Turn.{begun}
+use Rattle.pfr_story.specs.Turn.{begun, next_item}
 use Rattle.pfr_story.specs.Run.{armed, with_arm, with_arm_at}
 use Rattle.pfr_machine.specs.Worlds.{PlatformState}
 use Rattle.pfr.specs.Played.{StoreLasts}
 
-pub step_lasts : {T U : Type 0} (r : Result T U) (old new : World) → OnOk r (AllMoved (begun old) new) → OnOk r (NeverGoesBack old.nv new.nv) → OnOk r (KeepsProvision old.nv new.nv)
+pub step_lasts : {T U : Type 0} (r : Result T U) (e : Event) (old new : World) → OnOk r (AllMoved (begun e old) new) → OnOk r (NeverGoesBack old.nv new.nv) → OnOk r (KeepsProvision old.nv new.nv)
     → OnOk r (StoreLasts old.nv new.nv)
-step_lasts (Ok x) old new m g k = record { start = m.nv.start; more = m.nv.ops; grows = g; keeps = k }
-step_lasts (Err e) old new m g k = tt
+step_lasts (Ok x) e old new m g k = record { start = m.nv.start; more = m.nv.ops; grows = g; keeps = k }
+step_lasts (Err x) e old new m g k = tt
 
 -- nothing was done in the store
 record SameStore (old new : FlashState) : Type 0 where
@@ -63,7 +64,7 @@ arm_same Cut nth tear d = record { start = refl; ops = refl }
 arm_same Fault nth tear d = record { start = refl; ops = refl }
 arm_same ReadFault nth tear d = record { start = refl; ops = refl }
 
-armed_same : (which : Device) (what : ArmWhat) (nth : ℕ) (tear : List ℕ) (w : World) → SameStore w.nv (begun (with_arm_at which what nth tear w)).nv
+armed_same : (which : Device) (what : ArmWhat) (nth : ℕ) (tear : List ℕ) (w : World) → SameStore w.nv (next_item (with_arm_at which what nth tear w)).nv
 armed_same device.Bmc what nth tear w = same_store w.nv
 armed_same device.Pch what nth tear w = same_store w.nv
 armed_same device.Nv what nth tear w = arm_same what nth tear w.nv

@@ -20,7 +20,7 @@ use Rattle.pfr_script.specs.declared.item.Item.TheVariants as item
 use Rattle.pfr_report.specs.NotesState.{NotesState}
 use Rattle.pfr_report.specs.Texts.{AllText}
 use Rattle.pfr_story.specs.World.{World, state_at}
-use Rattle.pfr_story.specs.Turn.{begun}
+use Rattle.pfr_story.specs.Turn.{next_item}
 use Rattle.pfr_story.specs.Run.{Did, Reached, CanRun, with_arm, with_arm_at}
 use Rattle.pfr_story.proofs.Turns.{Turn-moved}
 use Rattle.pfr_machine.specs.Worlds.{PlatformState}
@@ -100,7 +100,7 @@ alike_arm Cut nth tear d = record { start = refl; room = refl }
 alike_arm Fault nth tear d = record { start = refl; room = refl }
 alike_arm ReadFault nth tear d = record { start = refl; room = refl }
 
-alike_armed : (which : Device) (what : ArmWhat) (nth : ℕ) (tear : List ℕ) (w : World) → AllAlike w (begun (with_arm_at which what nth tear w))
+alike_armed : (which : Device) (what : ArmWhat) (nth : ℕ) (tear : List ℕ) (w : World) → AllAlike w (next_item (with_arm_at which what nth tear w))
 alike_armed device.Bmc what nth tear w = record { bmc = alike_arm what nth tear w.bmc; pch = alike_same w.pch; nv = alike_same w.nv }
 alike_armed device.Pch what nth tear w = record { bmc = alike_same w.bmc; pch = alike_arm what nth tear w.pch; nv = alike_same w.nv }
 alike_armed device.Nv what nth tear w = record { bmc = alike_same w.bmc; pch = alike_same w.pch; nv = alike_arm what nth tear w.nv }

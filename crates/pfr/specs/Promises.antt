@@ -55,7 +55,8 @@ pub record BringsUpSo (accepts : Acceptance) (event : Event) (old new : World) :
   -- Frames of a bank that runs are judged by what it is trusted by, and updates before anything is written.
   pub filters : FiltersSo event accepts old new
   pub updates : Updates event accepts old new
-  -- A watch that expires restores or locks its bank, stages that are passed are noted, and all that guards banks follows the notes.
+  -- A watch that expires restores or locks its bank, stages that are passed are noted, and all that guards banks follows the event and
+  -- the notes.
   pub expires : Expires event accepts old new
   pub boots : Boots event old new
   pub guards : GuardsFollow event old new
@@ -89,9 +90,9 @@ pub record TellsOfFaults (bench : Bench) : Type 0 where
   pub whole : FaultsAreNoted (fresh_of bench) (end_of bench)
   pub each : (items : List Item) → IsRun items bench → IsRunWith TellsIn items bench
 
--- In the run each power-on released each bank that was trusted, restored and released each that wasn't and had a good capsule, and
--- locked each that had a cause, unless a device failed; each frame of a bank that ran passed or was blocked as it should, each update
--- was done from a good capsule alone, and each watch that expired restored or locked its bank; and no event, whatever failed, took a
--- bank's good capsule away.
+-- In the run, unless a device failed, each power-on released each bank that was trusted, restored and released each that wasn't and had
+-- a good capsule, and locked each that had a cause; each frame of a bank that ran passed or was blocked as it should be, each update was
+-- done from a good capsule alone, and each watch that expired restored or locked its bank. And no event, whatever failed, took a bank's
+-- good capsule away.
 abbrev pub BringsBanksUp : Bench → Type 0
 BringsBanksUp bench = (items : List Item) → IsRun items bench → IsRunWith (BringsUpIn (acceptance bench.engine)) items bench
