@@ -141,8 +141,8 @@ taken accepts (event.Boot which pass) story = boot_course accepts which pass sto
 taken accepts (event.Update which intent) story = update_course accepts which intent
 
 abbrev pub ignored_if : Bool → Course → Course
-ignored_if true course = ignored
-ignored_if false course = course
+ignored_if true other = ignored
+ignored_if false other = other
 
 -- What a step does where no device call fails.
 abbrev pub course : Acceptance → Event → Story → Course
