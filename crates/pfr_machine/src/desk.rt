@@ -94,7 +94,8 @@ pub fn device_of(bank: Bank) -> Device
     }
 }
 
-// Releases a bank whose active image is trusted.
+// Releases a bank whose active image is trusted. Kept apart for LLVM, which is busy without end where this is inlined.
+#[inline(never)]
 fn release<F: Flash>(
     bank: Bank,
     checked: Checked<F>,
