@@ -11,6 +11,7 @@ use Rattle.pfr_flash.proofs.PlayLemmas.{play-append}
 use Rattle.pfr_flash.proofs.RangeLemmas.{IsTorn-within}
 use Rattle.pfr_engine.specs.Acceptance.{Acceptance}
 use Rattle.pfr_jobs.specs.Log.{current_at, current_page, last_gated}
+use Rattle.pfr_jobs.specs.LogState.{is_marked}
 use Rattle.pfr_jobs.specs.LogPlans.{mark_by, mark_plan}
 use Rattle.pfr_jobs.proofs.LogLaws.{LastOf, nothing, found, last_of}
 use Rattle.pfr_strokes.specs.Strokes.{strokes}
@@ -91,11 +92,15 @@ module _ (layout : Layout) (at : ℕ) where
 -- a mark of the open slot is one of its deeds
 pub mark_deeds : (layout : Layout) (nv : List ℕ) (b : Bank) (group : ℕ) → group < 128 → AllPassDeeds layout (current_at nv b) (marked_by (mark_plan nv b) group)
 unfolding mark_plan
-mark_deeds layout nv b group small = by_last (last_gated (current_page nv b) 64) (last_of (current_page nv b) 64)
+mark_deeds layout nv b group small = by_set (is_marked nv b group)
   where
     by_last : (last : Option ℕ) → LastOf (current_page nv b) 64 last → AllPassDeeds layout (current_at nv b) (called side.Store (mark_by (current_at nv b) last group) ++ Asks side.Bank ∷ [])
     by_last _ (nothing none) = (tt, (tt, tt))
     by_last _ (found k below gated above) = (record { slot = k; group = group; few = below; small = small; place = omega arith; one = refl }, (tt, (tt, tt)))
+
+    by_set : (set : Bool) → AllPassDeeds layout (current_at nv b) (called side.Store (if set then [] else mark_by (current_at nv b) (last_gated (current_page nv b) 64) group) ++ Asks side.Bank ∷ [])
+    by_set true = (tt, (tt, tt))
+    by_set false = by_last (last_gated (current_page nv b) 64) (last_of (current_page nv b) 64)
 
 -- ---- a call that is to do them
 Failed-now : (fail : FlashFail) (ops : List Operation) (old new : FlashState) → Failed fail ops old new → now new ≡ play (now old) ops
