@@ -7,6 +7,7 @@ pub mod Safety
 pub mod Course
 pub mod Standing
 pub mod Plans
+pub mod JobPlans
 pub mod Causes
 pub mod Turn
 pub mod Promises
