@@ -4,6 +4,8 @@ pub mod Lift
 pub mod SafetyLaws
 pub mod RestoreLaws
 pub mod BringRules
+pub mod JobRules
+pub mod JobWalks
 pub mod Courses
 pub mod BusRules
 pub mod Rulings

@@ -1,0 +1,180 @@
+-- Each plan of a job, where the contents don't matter: what its calls touch and what is told of it is allowed.
+use Rattle.std.proofs.Common.{◌≡◌, ◌∙◌, refl, sym, ap, subst, arith, ℕ, ◌+◌, ◌*◌, ◌/◌, ◌≤◌, ◌<◌, Bool, true, false, not, List, [], ◌∷◌, ◌++◌, length, ◌⊎◌, inl, inr, Option, Some, None, Result, Ok, Err}
+use Rattle.std.specs.Prelude.{max, nat_le, ◌-◌}
+use Rattle.std.proofs.Math.Nat.{div-lt_iff_lt-mul}
+use Rattle.pfr_flash.specs.FuseRow.{clearing}
+use Rattle.pfr_flash.specs.Operation.{Operation, IsTorn}
+use Rattle.pfr_flash.specs.Range.{IsWithin}
+use Rattle.pfr_flash.specs.declared.layout.Layout.{Layout}
+use Rattle.pfr_flash.specs.declared.names.Bank.{Bank}
+use Rattle.pfr_flash.specs.declared.names.Device.{Device}
+use Rattle.pfr_flash.specs.declared.names.Device.TheVariants as device
+use Rattle.pfr_flash.proofs.RangeLemmas.{IsTorn-within}
+use Rattle.pfr_engine.specs.Acceptance.{Acceptance}
+use Rattle.pfr_fuses.specs.Changes.{raise_plan}
+use Rattle.pfr_fuses.specs.FuseMap.{floor_at}
+use Rattle.pfr_fuses.specs.FusesState.{FusesState, floor_of}
+use Rattle.pfr_fuses.specs.RootSlot.{layout_of}
+use Rattle.pfr_fuses.specs.declared.profile.Profile.TheVariants.{Two}
+use Rattle.pfr_capsule.specs.CapsuleState.{CapsuleState}
+use Rattle.pfr_capsule.specs.declared.fail.CapsuleFail.{CapsuleFail}
+use Rattle.pfr_jobs.specs.Log.{log_at, open_job, spent_in, selector, current_at, current_page, last_gated}
+use Rattle.pfr_jobs.specs.LogPlans.{begin_plan, mark_by, mark_plan, finish_by, finish_plan}
+use Rattle.pfr_jobs.specs.LogState.{is_marked, is_spent}
+use Rattle.pfr_jobs.specs.declared.job.JobKind.{JobKind}
+use Rattle.pfr_jobs.specs.declared.job.JobKind.TheVariants.{ActiveFromRecovery, ActiveFromStaging, RecoveryFromStaging}
+use Rattle.pfr_jobs.specs.declared.job.OpenJob.{OpenJob}
+use Rattle.pfr_jobs.specs.declared.job.OpenJob.TheVariants as job
+use Rattle.pfr_jobs.proofs.LogLaws.{LastOf}
+use Rattle.pfr_rebuilt.specs.ActiveCopying.{active_page, active_pages, is_active_page}
+use Rattle.pfr_rebuilt.specs.Copying.{holds_text, recovery_page, recovery_pages}
+use Rattle.pfr_rebuilt.specs.Passing.{group_pages, left_pages, heeding, ignoring, active_heeding, active_ignoring, recovery_heeding, recovery_ignoring}
+use Rattle.pfr_strokes.specs.Deeds.{Deed, Asks as AsksSide, Does as DoesSide, called as called_side, ends_group, page_deeds, pass, marked_by, unmarked}
+use Rattle.pfr_strokes.specs.Strokes.{strokes}
+use Rattle.pfr_strokes.specs.declared.side.Side.TheVariants as side
+use Rattle.pfr_strokes.proofs.ReplacedLaws.{IsOneOf, pages_are}
+use Rattle.pfr_report.specs.declared.note.What.{What}
+use Rattle.pfr_report.specs.declared.note.What.TheVariants.{Restored, Updated}
+use Rattle.pfr_story.specs.Deeds.{deed_moves}
+use Rattle.pfr_story.specs.JobPlans.{JobNotes, begun_job, finished_job, abandoned, worked, written_over, done_with, by_log, with_job, copied_over, copied_again, raised_to, concluded, by_second_pass, second_pass, same_digest, by_digest, by_first_pass, recovery_work, judged_source, work_of, resumed_if, by_source, by_open, resumed}
+use Rattle.pfr_story.specs.Plans.{mine, store, asks, judged_recovery}
+use Rattle.pfr_story.specs.Safety.{Rule, IsSafe, AllSafe}
+use Rattle.pfr_story.specs.Story.{Story, Move, Says, Does, Asks, after, noted, operated, then, says, called, image_at, device_of}
+use Rattle.pfr_story.proofs.BringRules.{IsOwn}
+use Rattle.pfr_story.proofs.SafetyLaws.{AllSafe-append}
+use Rattle.pfr_story.proofs.JobRules.{AllJobOps, finish_own, raise_own, heeding_own, ignoring_own, AllowsJobs, calls_allowed, deeds_allowed}
+
+-- and all that is told of one
+pub record TellsJobs (G : Rule) (b : Bank) (notes : JobNotes) : Type 0 where
+  pub resumed : (kind : JobKind) (story : Story) → G (Says (λ _. notes.resumed kind)) story
+  pub given_up : (story : Story) → G (Says (λ _. notes.given_up)) story
+  pub restored : (level : ℕ) (story : Story) → G (Says (λ _. Restored b level)) story
+  pub updated : (dynamic : Bool) (svn : ℕ) (story : Story) → G (Says (λ _. Updated b dynamic svn)) story
+  pub recovery_updated : (svn : ℕ) (story : Story) → G (Says (λ _. notes.recovery_updated svn)) story
+
+module _ (G : Rule) (b : Bank) (h : AllowsJobs G b) where
+  -- ---- each plan of a job, whatever it leads to
+  pub begin_allowed : (kind : JobKind) (digest : List ℕ) (story : Story) → AllJobOps b (begin_plan (store story) b kind digest) → AllSafe G (begun_job b kind digest story) story
+  begin_allowed kind digest story own = calls_allowed G b h (begin_plan (store story) b kind digest) story own
+
+  pub finish_allowed : (story : Story) → AllSafe G (finished_job b story) story
+  finish_allowed story = calls_allowed G b h (finish_plan (store story) b) story (finish_own (store story) b)
+
+  pub raise_allowed : (svn : ℕ) (fuses : FusesState) (story : Story) → svn ≤ 128 → AllSafe G (raised_to svn b fuses story) story
+  raise_allowed svn fuses story few = calls_allowed G b h (raise_plan (floor_of fuses b) b svn) story (raise_own b (floor_of fuses b) svn few)
+
+  pub work_allowed : (kind : JobKind) (fuses : FusesState) (capsule : CapsuleState) (story : Story) → AllSafe G (worked b kind fuses capsule story) story
+  unfolding active_heeding active_pages
+  work_allowed kind fuses capsule story =
+      let image : List ℕ = mine b story in
+      let layout : Layout = layout_of fuses.provision b in
+      deeds_allowed G b h (active_heeding kind b image (store story) capsule layout) story
+      (heeding_own b (store story) (active_page image capsule layout) (length image) (active_pages kind image capsule layout)
+      (λ page one. ((pages_are (is_active_page kind image capsule layout) (length image / 4096)).only page one).0))
+
+  pub write_allowed : (kind : JobKind) (fuses : FusesState) (capsule : CapsuleState) (story : Story) → AllSafe G (written_over b kind fuses capsule story) story
+  unfolding active_ignoring
+  write_allowed kind fuses capsule story =
+      let image : List ℕ = mine b story in
+      let layout : Layout = layout_of fuses.provision b in
+      deeds_allowed G b h (active_ignoring kind image capsule layout) story (ignoring_own b (active_page image capsule layout) (group_pages (length image)) (active_pages kind image capsule layout))
+
+  pub copy_allowed : (fuses : FusesState) (capsule : CapsuleState) (story : Story) → AllSafe G (copied_over b fuses capsule story) story
+  unfolding recovery_heeding recovery_pages
+  copy_allowed fuses capsule story =
+      let image : List ℕ = mine b story in
+      let layout : Layout = layout_of fuses.provision b in
+      deeds_allowed G b h (recovery_heeding b image (store story) capsule.length layout) story
+      (heeding_own b (store story) (recovery_page image layout.staging_at capsule.length layout) (length image) (recovery_pages layout capsule.length (length image))
+      (λ page one. ((pages_are (holds_text layout.recovery_at capsule.length) (length image / 4096)).only page one).0))
+
+  pub again_allowed : (fuses : FusesState) (capsule : CapsuleState) (story : Story) → AllSafe G (copied_again b fuses capsule story) story
+  unfolding recovery_ignoring
+  again_allowed fuses capsule story =
+      let image : List ℕ = mine b story in
+      let layout : Layout = layout_of fuses.provision b in
+      deeds_allowed G b h (recovery_ignoring image capsule.length layout) story (ignoring_own b (recovery_page image layout.staging_at capsule.length layout) (group_pages (length image)) (recovery_pages layout capsule.length (length image)))
+
+  -- ---- with what is told of it
+  module _ (notes : JobNotes) (tells : TellsJobs G b notes) where
+    told_safe : (that : What) → ((there : Story) → G (Says (λ _. that)) there) → (moves : List Move) (story : Story) → AllSafe G moves story → AllSafe G (moves ++ Says (λ _. that) ∷ []) story
+    told_safe that tell moves story safe = AllSafe-append G moves (Says (λ _. that) ∷ []) story safe (tell (after moves story), tt)
+
+    end_allowed : (that : What) → ((there : Story) → G (Says (λ _. that)) there) → (story : Story) → AllSafe G (then (finished_job b) (says (λ _. that)) story) story
+    end_allowed that tell story = told_safe that tell (finished_job b story) story (finish_allowed story)
+
+    pub abandon_allowed : (story : Story) → AllSafe G (abandoned notes.given_up b story) story
+    abandon_allowed story = end_allowed notes.given_up tells.given_up story
+
+    pub done_allowed : (kind : JobKind) (fuses : FusesState) (capsule : CapsuleState) (that : What) → ((there : Story) → G (Says (λ _. that)) there) → (story : Story)
+        → AllSafe G (done_with b kind fuses capsule that story) story
+    done_allowed kind fuses capsule that tell story =
+        let moves : List Move = worked b kind fuses capsule story in
+        AllSafe-append G moves (then (finished_job b) (says (λ _. that)) (after moves story)) story (work_allowed kind fuses capsule story) (end_allowed that tell (after moves story))
+
+    pub job_allowed : (kind : JobKind) (fuses : FusesState) (capsule : CapsuleState) (that : What) → ((there : Story) → G (Says (λ _. that)) there) → (story : Story)
+        → (is_spent (store story) b ≡ false → AllJobOps b (begin_plan (store story) b kind capsule.digest)) → AllSafe G (with_job b kind fuses capsule that story) story
+    job_allowed kind fuses capsule that tell story own = (h.asks device.Nv story (inr refl), by_spent (is_spent (store story) b) refl)
+      where
+        by_spent : (t : Bool) → is_spent (store story) b ≡ t → AllSafe G (by_log t b kind fuses capsule that story) story
+        by_spent true e = told_safe that tell (written_over b kind fuses capsule story) story (write_allowed kind fuses capsule story)
+        by_spent false e =
+            let moves : List Move = begun_job b kind capsule.digest story in
+            AllSafe-append G moves (done_with b kind fuses capsule that (after moves story)) story (begin_allowed kind capsule.digest story (own e)) (done_allowed kind fuses capsule that tell (after moves story))
+
+    module _ (accepts : Acceptance) (fuses : FusesState) (small : (story : Story) (standing : CapsuleState) → judged_recovery accepts b fuses story ≡ Ok standing → standing.manifest.svn ≤ 128) where
+      conclude_allowed : (standing : CapsuleState) (story : Story) → standing.manifest.svn ≤ 128 → AllSafe G (concluded notes.recovery_updated b fuses standing story) story
+      conclude_allowed standing story few =
+          let moves : List Move = raised_to standing.manifest.svn b fuses story in
+          AllSafe-append G moves (then (finished_job b) (says (λ _. notes.recovery_updated standing.manifest.svn)) (after moves story)) story (raise_allowed standing.manifest.svn fuses story few)
+          (end_allowed (notes.recovery_updated standing.manifest.svn) (tells.recovery_updated standing.manifest.svn) (after moves story))
+
+      second_allowed : (capsule : CapsuleState) (story : Story) → AllSafe G (second_pass notes.given_up notes.recovery_updated accepts b fuses capsule story) story
+      second_allowed capsule story =
+          let moves : List Move = copied_again b fuses capsule story in
+          let there : Story = after moves story in
+          AllSafe-append G moves (asks b there ++ by_second_pass notes.given_up notes.recovery_updated b fuses (judged_recovery accepts b fuses there) there) story (again_allowed fuses capsule story)
+          (h.asks (device_of b) there (inl refl), by_judged there (judged_recovery accepts b fuses there) refl)
+        where
+          by_judged : (there : Story) (judged : Result CapsuleState CapsuleFail) → judged_recovery accepts b fuses there ≡ judged → AllSafe G (by_second_pass notes.given_up notes.recovery_updated b fuses judged there) there
+          by_judged there (Ok standing) e = conclude_allowed standing there (small there standing e)
+          by_judged there (Err cause) e = abandon_allowed there
+
+      pub recovery_allowed : (capsule : CapsuleState) (story : Story) → AllSafe G (recovery_work notes.given_up notes.recovery_updated accepts b fuses capsule story) story
+      recovery_allowed capsule story =
+          let moves : List Move = copied_over b fuses capsule story in
+          let there : Story = after moves story in
+          AllSafe-append G moves (asks b there ++ by_first_pass notes.given_up notes.recovery_updated accepts b fuses capsule (judged_recovery accepts b fuses there) there) story (copy_allowed fuses capsule story)
+          (h.asks (device_of b) there (inl refl), by_judged there (judged_recovery accepts b fuses there) refl)
+        where
+          by_same : (there : Story) (standing : CapsuleState) → standing.manifest.svn ≤ 128 → (t : Bool) → AllSafe G (by_digest t notes.given_up notes.recovery_updated accepts b fuses capsule standing there) there
+          by_same there standing few true = conclude_allowed standing there few
+          by_same there standing few false = second_allowed capsule there
+
+          by_judged : (there : Story) (judged : Result CapsuleState CapsuleFail) → judged_recovery accepts b fuses there ≡ judged
+              → AllSafe G (by_first_pass notes.given_up notes.recovery_updated accepts b fuses capsule judged there) there
+          by_judged there (Ok standing) e = by_same there standing (small there standing e) (same_digest standing.digest capsule.digest)
+          by_judged there (Err cause) e = second_allowed capsule there
+
+      -- a job that is open at a power-on
+      work_of_allowed : (capsule : CapsuleState) (kind : JobKind) (story : Story) → AllSafe G (work_of notes accepts b fuses capsule kind story) story
+      work_of_allowed capsule (ActiveFromRecovery level) story = done_allowed (ActiveFromRecovery level) fuses capsule (Restored b level) (tells.restored level) story
+      work_of_allowed capsule (ActiveFromStaging dynamic) story =
+          done_allowed (ActiveFromStaging dynamic) fuses capsule (Updated b dynamic capsule.manifest.svn) (tells.updated dynamic capsule.manifest.svn) story
+      work_of_allowed capsule RecoveryFromStaging story = recovery_allowed capsule story
+
+      resume_allowed : (t : Bool) (capsule : CapsuleState) (kind : JobKind) (story : Story) → AllSafe G (resumed_if t notes accepts b fuses capsule kind story) story
+      resume_allowed true capsule kind story = (tells.resumed kind story, work_of_allowed capsule kind (noted (λ _. notes.resumed kind) story))
+      resume_allowed false capsule kind story = abandon_allowed story
+
+      source_allowed : (kind : JobKind) (digest : List ℕ) (judged : Result CapsuleState CapsuleFail) (story : Story) → AllSafe G (by_source notes accepts b fuses kind digest judged story) story
+      source_allowed kind digest (Ok capsule) story = resume_allowed (same_digest capsule.digest digest) capsule kind story
+      source_allowed kind digest (Err cause) story = abandon_allowed story
+
+      open_allowed : (opened : OpenJob) (story : Story) → AllSafe G (by_open notes accepts b fuses opened story) story
+      open_allowed job.None story = tt
+      open_allowed job.Bad story = abandon_allowed story
+      open_allowed (job.Job kind digest) story = (h.asks (device_of b) story (inl refl), source_allowed kind digest (judged_source accepts b fuses kind story) story)
+
+      pub resumed_allowed : (story : Story) → AllSafe G (resumed notes accepts b fuses story) story
+      resumed_allowed story = (h.asks device.Nv story (inr refl), open_allowed (open_job (store story) b) story)
