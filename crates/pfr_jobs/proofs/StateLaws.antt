@@ -1,5 +1,5 @@
 -- What a log says once a byte of a gated slot has changed that isn't its gate.
-use Rattle.std.proofs.Common.{◌≡◌, ◌∙◌, ℕ, zero, suc, ◌+◌, ◌*◌, ◌/◌, ◌≤◌, ◌<◌, ◌==◌, Bool, true, false, not, if◌then◌else◌, List, [], ◌∷◌, length, get_or, Option, Some, None, refl, sym, ap, subst, arith, ◌⊎◌, inl, inr}
+use Rattle.std.proofs.Common.{◌≡◌, ◌∙◌, ℕ, zero, suc, ◌+◌, ◌*◌, ◌/◌, ◌≤◌, ◌<◌, ◌==◌, Bool, true, false, not, if◌then◌else◌, List, [], ◌∷◌, length, get_or, Option, Some, refl, sym, ap, subst, arith, ◌⊎◌, inl, inr}
 use Rattle.std.proofs.lemmas.Bool.{cases_lt, cases_order, false≢true}
 use Rattle.std.proofs.lemmas.List.{ext_get_or}
 use Rattle.std.specs.List.{list_all}
@@ -12,10 +12,9 @@ use Rattle.pfr_flash.proofs.PartsLemmas.{part_of}
 use Rattle.pfr_flash.proofs.PlayLemmas.{length-applied}
 use Rattle.pfr_flash.proofs.RangeLemmas.{SameOutside-applied}
 use Rattle.pfr_jobs.specs.declared.job.OpenJob.{OpenJob}
-use Rattle.pfr_jobs.specs.declared.job.OpenJob.TheVariants as job
-use Rattle.pfr_jobs.specs.Log.{log_at, spent_in, selector, page_by, current_at, current_page, is_gated, is_ended, last_gated, job_slot, used_in, first_unspent, open_job}
-use Rattle.pfr_jobs.specs.LogState.{LogState, marks_in, marks_of, log_of}
-use Rattle.pfr_jobs.proofs.LogLaws.{LastOf, nothing, found, last_of, last_same, page_inside, log_inside, current_inside}
+use Rattle.pfr_jobs.specs.Log.{log_at, spent_in, selector, page_by, current_at, current_page, is_gated, last_gated, job_slot, used_in, first_unspent, open_job}
+use Rattle.pfr_jobs.specs.LogState.{marks_in, marks_of, log_of}
+use Rattle.pfr_jobs.proofs.LogLaws.{LastOf, found, last_of, last_same, page_inside, log_inside, current_inside}
 use Rattle.pfr_jobs.proofs.CutLaws.{mark_keeps}
 use Rattle.pfr_jobs.proofs.BeginLaw.{ones_at}
 use Rattle.pfr_jobs.proofs.RowLaw.{clearing-row}
@@ -194,7 +193,7 @@ module _ (nv : List ℕ) (b : Bank) (k : ℕ) (size : length nv ≡ 32768) (last
           ∙ ap (λ (p : ℕ). bytes_at new p 16) place
           ∙ clearing-row nv (current_at nv b + 64 * k + 36) 16 group (omega (arith, small)) (omega (arith, size, current_inside nv b, few))
           ∙ ap (λ (row : List ℕ). with_cleared row group)
-            (ap (λ (p : ℕ). bytes_at nv p 16) (sym place) ∙ sym (part_of nv (current_at nv b) 4096 (64 * k + 36) 16 (omega (arith, few))) ∙ sym (ap (λ (l : Option ℕ). marks_in (current_page nv b) l) last))
+          (ap (λ (p : ℕ). bytes_at nv p 16) (sym place) ∙ sym (part_of nv (current_at nv b) 4096 (64 * k + 36) 16 (omega (arith, few))) ∙ sym (ap (λ (l : Option ℕ). marks_in (current_page nv b) l) last))
 
   -- The end of a job changes nothing else than what is open.
   pub end_state : log_of (applied nv (Program (current_at nv b + 64 * k + 63) (0 ∷ []))) b ≡ record (log_of nv b) { job = open_job (applied nv (Program (current_at nv b + 64 * k + 63) (0 ∷ []))) b }

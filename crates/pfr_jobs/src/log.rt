@@ -1,19 +1,21 @@
 // A bank's log of jobs in the store.
-ghost use Rattle.std.specs.Prelude.{◌≡◌, ◌≢◌, ◌+◌, ◌%◌, ◌<◌, ◌≤◌, [], ◌∷◌, IfOk, OnOk, Some};
+ghost use Rattle.std.specs.Prelude.{◌≡◌, ◌≢◌, ◌+◌, ◌%◌, ◌<◌, ◌≤◌, [], ◌∷◌, false, IfOk, OnOk, Some};
 ghost use Rattle.pfr_flash.specs.Bytes.{bytes_at};
 ghost use Rattle.pfr_flash.specs.FlashState.{now, size_of};
 ghost use Rattle.pfr_flash.specs.FuseRow.{is_cleared};
 ghost use Rattle.pfr_flash.specs.Operation.{Program};
 ghost use Rattle.pfr_flash.specs.Plan.{Follows};
 ghost use Rattle.pfr_flash.specs.Reading.{EndsAt, failed_by};
-ghost use Rattle.pfr_jobs.specs.Beginning.{Begins};
+ghost use Rattle.pfr_jobs.specs.Beginning.{Begins, free_slot, freeing};
 ghost use Rattle.pfr_jobs.specs.Log.{log_at};
 ghost use Rattle.pfr_jobs.specs.LogPlans.{IsKind, body_of, finish_plan, mark_plan};
 ghost use Rattle.pfr_jobs.specs.LogState.{is_spent_in, log_of};
 ghost use Rattle.pfr_jobs.specs.declared.job.OpenJob.TheVariants as job;
 
 use crate::job::{JobKind, OpenJob};
-use crate::page::{SECTOR, SLOT, SLOTS, Sector, first_unspent, last_gated, marks_in, open_by, spent_in, used_in};
+use crate::page::{
+    SECTOR, SLOT, SLOTS, Sector, first_unspent, last_gated, marks_in, open_by, spent_in, used_in,
+};
 use pfr_flash::{Bank, Flash, FlashFail, FuseRow, clear_fuse};
 use std::marker::Model;
 
@@ -104,7 +106,12 @@ fn job_body(kind: JobKind, digest: &[u8; 32]) -> [u8; 35]
 }
 
 // Writes a job to the slot at a place, and its gate last.
-fn write_job<F: Flash>(nv: &mut F, slot: u32, kind: JobKind, digest: &[u8; 32]) -> Result<(), FlashFail>
+fn write_job<F: Flash>(
+    nv: &mut F,
+    slot: u32,
+    kind: JobKind,
+    digest: &[u8; 32],
+) -> Result<(), FlashFail>
     requires size { size_of (F.device nv.old) ≡ 32768 }
     requires inside { slot + 64 ≤ 32768 }
     requires slot { slot % 64 ≡ 0 }
@@ -118,6 +125,11 @@ fn write_job<F: Flash>(nv: &mut F, slot: u32, kind: JobKind, digest: &[u8; 32]) 
 impl JobLog {
     // The place of the first slot behind those that were used. Where there is none, the other page is erased and made the current one.
     fn free_slot<F: Flash>(&self, nv: &mut F) -> Result<u32, FlashFail>
+        requires size { size_of (F.device nv.old) ≡ 32768 }
+        requires stands { self.now ≡ log_of (now (F.device nv.old)) self.now.bank }
+        requires room { is_spent_in self.now ≡ false }
+        ensures slot { IfOk result (λ at. at ≡ free_slot self.now) }
+        ensures follows { Follows (freeing self.now) (F.device nv.old) (F.device nv.new) result }
     {
         match self.unspent {
             Some(at) if self.used == SLOTS => {

@@ -1,6 +1,3 @@
-use Rattle.std.proofs.Common.{ℕ, ◌+◌, List, [], ◌∷◌, Ok, subst}
-use Rattle.pfr_flash.specs.Operation.{Operation, Program}
-use Rattle.pfr_flash.specs.Flash.{Does}
 use Rattle.pfr_flash.proofs.FollowsLemmas.{Follows-does, Follows-step}
 use Rattle.pfr_jobs.proofs.log.write_job.Goals as goal
 
