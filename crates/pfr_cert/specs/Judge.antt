@@ -1,5 +1,5 @@
 -- The judgement of a certificate: its parts in the order of the causes, the first that fails is the answer.
-use Rattle.std.specs.Prelude.{ℕ, ◌+◌, Bool, true, false, nat_le, List, replicate, Option, Some, None, Result, Ok}
+use Rattle.std.specs.Prelude.{ℕ, ◌+◌, Bool, true, false, nat_le, List, replicate, Option, Some, Result, Ok}
 use Rattle.std.specs.Str.{bytes_eq}
 use Rattle.pfr_flash.specs.Bytes.{bytes_at}
 use Rattle.pfr_flash.specs.Judging.{◌>>=◌, ◌>>◌, require, told_as}

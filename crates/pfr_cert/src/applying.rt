@@ -4,9 +4,9 @@ ghost use Rattle.std.specs.Option.{option_copied};
 ghost use Rattle.pfr_flash.specs.Answer.{IsFound};
 ghost use Rattle.pfr_flash.specs.FlashState.{now, size_of};
 ghost use Rattle.pfr_flash.specs.FuseRow.{IsCleared};
-ghost use Rattle.pfr_flash.specs.Losing.{AddsAtMost};
-ghost use Rattle.pfr_flash.specs.Range.{IsWithin};
-ghost use Rattle.pfr_fuses.specs.Changes.{cancellation, with_cancelled, with_row, StaysButRow};
+ghost use Rattle.pfr_flash.specs.Losing.{AddsAtMost, OnlyLoses};
+ghost use Rattle.pfr_flash.specs.Range.{IsWithin, SameOutside};
+ghost use Rattle.pfr_fuses.specs.Changes.{cancellation, with_cancelled, with_row, CancelsAtMost, StaysButRow};
 ghost use Rattle.pfr_fuses.specs.FuseMap.{IsCancelled, IsSigning, profile_of, row_at};
 ghost use Rattle.pfr_fuses.specs.FusesOf.{fuses_of, row_fuses, RowStands};
 ghost use Rattle.pfr_fuses.specs.FusesState.{row_of};
@@ -87,9 +87,14 @@ pub fn apply_cert<F: Flash>(
     ensures rest { fuses_of (now (F.device nv.old)) ≡ Ok fuses.old →
         fuses_of (now (F.device nv.new)) ≡ Ok (with_row fuses.new cert.now.ty (row_fuses (now (F.device nv.new)) cert.now.ty)) }
     ensures stays { StaysButRow cert.now.ty (now (F.device nv.old)) fuses.old (now (F.device nv.new)) fuses.new }
+    // In the store no other key of the type is cancelled.
+    ensures store { CancelsAtMost (now (F.device nv.old)) cert.now.ty cert.now.id (now (F.device nv.new)) }
     // There is one operation at most, and it touches no other byte than those of the type's row.
     ensures count { AddsAtMost 1 (F.device nv.old) (F.device nv.new) }
     ensures within { Adds (IsWithin (row_at Two cert.now.ty) 32) (F.device nv.old) (F.device nv.new) }
+    ensures outside { SameOutside (row_at Two cert.now.ty) 32 (now (F.device nv.old)) (now (F.device nv.new)) }
+    // The store only loses bits.
+    ensures loses { OnlyLoses 0 32768 (F.device nv.old) (F.device nv.new) }
     ensures grows { NeverGoesBack (F.device nv.old) (F.device nv.new) }
     ensures provision { KeepsProvision (F.device nv.old) (F.device nv.new) }
 {
