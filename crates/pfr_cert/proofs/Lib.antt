@@ -1,0 +1,2 @@
+pub mod CertLaw
+mod Parts

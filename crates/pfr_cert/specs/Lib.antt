@@ -1,0 +1,4 @@
+pub mod Answer
+pub mod Certificate
+pub mod Judge
+pub mod Applying
