@@ -1,98 +1,77 @@
 -- Work that is a job, where the contents don't matter: which devices it calls, and which bytes of the store it may touch.
-use Rattle.std.proofs.Common.{◌≡◌, ◌∙◌, refl, sym, ap, subst, arith, ℕ, ◌+◌, ◌*◌, ◌/◌, ◌≤◌, ◌<◌, Bool, true, false, not, if◌then◌else◌, List, [], ◌∷◌, ◌++◌, length, ◌⊎◌, inl, inr, Option, Some, None, Result, Ok, Err}
-use Rattle.std.specs.Prelude.{max, nat_le, ◌-◌}
+use Rattle.std.proofs.Common.{◌≡◌, refl, arith, ℕ, ◌+◌, ◌/◌, ◌≤◌, ◌<◌, Bool, true, false, not, if◌then◌else◌, List, [], ◌∷◌, ◌++◌, length, inl, inr, Option}
+use Rattle.std.specs.Prelude.{nat_le, ◌-◌}
 use Rattle.std.proofs.Math.Nat.{div-lt_iff_lt-mul}
-use Rattle.pfr_flash.specs.FuseRow.{clearing}
-use Rattle.pfr_flash.specs.Operation.{Operation, IsTorn}
-use Rattle.pfr_flash.specs.Range.{IsWithin}
-use Rattle.pfr_flash.specs.declared.layout.Layout.{Layout}
+use Rattle.pfr_flash.specs.FuseRow.{clearing, fuse_byte}
+use Rattle.pfr_flash.specs.Operation.{Operation, Program, IsTorn, applied}
+use Rattle.pfr_flash.specs.Range.{IsWithin, AllWithin, OnlyClears}
 use Rattle.pfr_flash.specs.declared.names.Bank.{Bank}
+use Rattle.pfr_flash.specs.declared.names.Bank.TheVariants as bank
 use Rattle.pfr_flash.specs.declared.names.Device.{Device}
 use Rattle.pfr_flash.specs.declared.names.Device.TheVariants as device
-use Rattle.pfr_flash.proofs.RangeLemmas.{IsTorn-within}
-use Rattle.pfr_engine.specs.Acceptance.{Acceptance}
+use Rattle.pfr_flash.proofs.RangeLemmas.{IsTorn-within, OnlyClears-program, OnlyClears-torn}
 use Rattle.pfr_fuses.specs.Changes.{raise_plan}
 use Rattle.pfr_fuses.specs.FuseMap.{floor_at}
 use Rattle.pfr_fuses.specs.FusesState.{FusesState, floor_of}
-use Rattle.pfr_fuses.specs.RootSlot.{layout_of}
 use Rattle.pfr_fuses.specs.declared.profile.Profile.TheVariants.{Two}
-use Rattle.pfr_capsule.specs.CapsuleState.{CapsuleState}
-use Rattle.pfr_capsule.specs.declared.fail.CapsuleFail.{CapsuleFail}
-use Rattle.pfr_jobs.specs.Log.{log_at, open_job, spent_in, selector, current_at, current_page, last_gated}
-use Rattle.pfr_jobs.specs.LogPlans.{begin_plan, mark_by, mark_plan, finish_by, finish_plan}
-use Rattle.pfr_jobs.specs.LogState.{is_marked, is_spent}
-use Rattle.pfr_jobs.specs.declared.job.JobKind.{JobKind}
-use Rattle.pfr_jobs.specs.declared.job.JobKind.TheVariants.{ActiveFromRecovery, ActiveFromStaging, RecoveryFromStaging}
-use Rattle.pfr_jobs.specs.declared.job.OpenJob.{OpenJob}
-use Rattle.pfr_jobs.specs.declared.job.OpenJob.TheVariants as job
+use Rattle.pfr_jobs.specs.Log.{log_at, spent_in, selector, current_at, current_page, last_gated}
+use Rattle.pfr_jobs.specs.LogPlans.{mark_by, mark_plan, finish_by, finish_plan}
+use Rattle.pfr_jobs.specs.LogState.{is_marked}
 use Rattle.pfr_jobs.proofs.LogLaws.{LastOf, last_of, nothing, found, page_inside}
-use Rattle.pfr_rebuilt.specs.ActiveCopying.{active_page, active_pages, is_active_page}
-use Rattle.pfr_rebuilt.specs.Copying.{holds_text, recovery_page, recovery_pages}
-use Rattle.pfr_rebuilt.specs.Passing.{group_pages, left_pages, heeding, ignoring, active_heeding, active_ignoring, recovery_heeding, recovery_ignoring}
-use Rattle.pfr_strokes.specs.Deeds.{Deed, Asks as AsksSide, Does as DoesSide, called as called_side, ends_group, page_deeds, pass, marked_by, unmarked}
+use Rattle.pfr_rebuilt.specs.Passing.{group_pages, left_pages, heeding, ignoring}
+use Rattle.pfr_strokes.specs.Deeds.{Deed, Asks as AsksSide, Does as DoesSide, called as called_side, ends_group, page_deeds, marked_by, unmarked}
 use Rattle.pfr_strokes.specs.Strokes.{strokes}
 use Rattle.pfr_strokes.specs.declared.side.Side.TheVariants as side
-use Rattle.pfr_strokes.proofs.ReplacedLaws.{IsOneOf, pages_are}
-use Rattle.pfr_report.specs.declared.note.What.{What}
-use Rattle.pfr_report.specs.declared.note.What.TheVariants.{Restored, Updated}
+use Rattle.pfr_strokes.proofs.ReplacedLaws.{IsOneOf}
 use Rattle.pfr_story.specs.Deeds.{deed_moves}
-use Rattle.pfr_story.specs.JobPlans.{JobNotes, begun_job, finished_job, abandoned, worked, written_over, done_with, by_log, with_job, copied_over, copied_again, raised_to, concluded, by_second_pass, second_pass, same_digest, by_digest, by_first_pass, recovery_work, judged_source, work_of, resumed_if, by_source, by_open, resumed}
-use Rattle.pfr_story.specs.Plans.{mine, store, asks, judged_recovery}
+use Rattle.pfr_story.specs.Plans.{store}
 use Rattle.pfr_story.specs.Safety.{Rule, IsSafe, AllSafe}
-use Rattle.pfr_story.specs.Story.{Story, Move, Says, Does, Asks, after, noted, operated, then, says, called, image_at, device_of}
+use Rattle.pfr_story.specs.Story.{Story, Does, Asks, operated, called, device_of}
 use Rattle.pfr_story.proofs.BringRules.{IsOwn}
-use Rattle.pfr_story.proofs.SafetyLaws.{AllSafe-append}
 
 -- ---- what a job does to the store
--- it is in the log of the bank, or in the row of its floor
-pub data IsJobOp (b : Bank) (op : Operation) : Type 0 where
-  in_log : IsWithin (log_at b) 0x3000 op → IsJobOp b op
-  of_floor : IsWithin (floor_at Two b) 16 op → IsJobOp b op
+-- it is in the log of the bank
+abbrev pub IsInLog : Bank → Operation → Type 0
+IsInLog b op = IsWithin (log_at b) 0x3000 op
 
-abbrev pub AllJobOps : Bank → List Operation → Type 0
-AllJobOps b [] = Unit {0}
-AllJobOps b (op ∷ ops) = IsJobOp b op × AllJobOps b ops
+abbrev pub AllInLog : Bank → List Operation → Type 0
+AllInLog b ops = AllWithin (log_at b) 0x3000 ops
 
--- and so is what a tear makes of it
-pub job_torn : (b : Bank) (image : List ℕ) (op done : Operation) → IsTorn image op done → IsJobOp b op → IsJobOp b done
-job_torn b image op done t (in_log w) = let same = IsTorn-within image op done t in in_log (record { low = omega (arith, w.low, same.0); high = omega (arith, w.high, same.0, same.1) })
-job_torn b image op done t (of_floor w) = let same = IsTorn-within image op done t in of_floor (record { low = omega (arith, w.low, same.0); high = omega (arith, w.high, same.0, same.1) })
+torn_within : (from len : ℕ) (image : List ℕ) (op done : Operation) → IsTorn image op done → IsWithin from len op → IsWithin from len done
+torn_within from len image op done t w = let same = IsTorn-within image op done t in record { low = omega (arith, w.low, same.0); high = omega (arith, w.high, same.0, same.1) }
 
--- ---- what the plans do to it
-pub finish_own : (nv : List ℕ) (b : Bank) → AllJobOps b (finish_plan nv b)
+-- or it clears bits in the row of its floor
+pub record IsRaise (b : Bank) (image : List ℕ) (op : Operation) : Type 0 where
+  pub within : IsWithin (floor_at Two b) 16 op
+  pub clears : OnlyClears image (applied image op)
+
+pub finish_own : (nv : List ℕ) (b : Bank) → AllInLog b (finish_plan nv b)
 unfolding finish_plan
 finish_own nv b = by_last (last_gated (current_page nv b) 64) (last_of (current_page nv b) 64)
   where
-    by_last : (last : Option ℕ) → LastOf (current_page nv b) 64 last → AllJobOps b (finish_by (current_at nv b) last)
+    by_last : (last : Option ℕ) → LastOf (current_page nv b) 64 last → AllInLog b (finish_by (current_at nv b) last)
     by_last _ (nothing none) = tt
     by_last _ (found k below gated above) =
-        (in_log (record { low = omega arith; high = omega (arith, below, page_inside b (spent_in (selector nv b))) }), tt)
+        (record { low = omega arith; high = omega (arith, below, page_inside b (spent_in (selector nv b))) }, tt)
 
-pub mark_own : (nv : List ℕ) (b : Bank) (group : ℕ) → group < 128 → AllJobOps b (mark_plan nv b group)
+pub mark_own : (nv : List ℕ) (b : Bank) (group : ℕ) → group < 128 → AllInLog b (mark_plan nv b group)
 unfolding mark_plan
 mark_own nv b group small = by_set (is_marked nv b group)
   where
-    by_last : (last : Option ℕ) → LastOf (current_page nv b) 64 last → AllJobOps b (mark_by (current_at nv b) last group)
+    by_last : (last : Option ℕ) → LastOf (current_page nv b) 64 last → AllInLog b (mark_by (current_at nv b) last group)
     by_last _ (nothing none) = tt
     by_last _ (found k below gated above) =
-        (in_log (record { low = omega arith; high = omega (arith, below, small, page_inside b (spent_in (selector nv b))) }), tt)
+        (record { low = omega arith; high = omega (arith, below, small, page_inside b (spent_in (selector nv b))) }, tt)
 
-    by_set : (set : Bool) → AllJobOps b (if set then [] else mark_by (current_at nv b) (last_gated (current_page nv b) 64) group)
+    by_set : (set : Bool) → AllInLog b (if set then [] else mark_by (current_at nv b) (last_gated (current_page nv b) 64) group)
     by_set true = tt
     by_set false = by_last (last_gated (current_page nv b) 64) (last_of (current_page nv b) 64)
-
-pub raise_own : (b : Bank) (floor svn : ℕ) → svn ≤ 128 → AllJobOps b (raise_plan floor b svn)
-raise_own b floor svn few = by_test (nat_le svn floor)
-  where
-    by_test : (t : Bool) → AllJobOps b (if t then [] else clearing (floor_at Two b) (svn - 1))
-    by_test true = tt
-    by_test false = (of_floor (record { low = omega arith; high = omega (arith, few) }), tt)
 
 -- ---- deeds
 abbrev pub IsOwnDeed : Bank → Deed → Type 0
 IsOwnDeed b (AsksSide s) = Unit {0}
 IsOwnDeed b (DoesSide side.Bank op) = Unit {0}
-IsOwnDeed b (DoesSide side.Store op) = IsJobOp b op
+IsOwnDeed b (DoesSide side.Store op) = IsInLog b op
 
 abbrev pub AllOwnDeeds : Bank → List Deed → Type 0
 AllOwnDeeds b [] = Unit {0}
@@ -106,7 +85,7 @@ own_bank : (b : Bank) (ops : List Operation) → AllOwnDeeds b (called_side side
 own_bank b [] = (tt, tt)
 own_bank b (op ∷ ops) = (tt, own_bank b ops)
 
-own_store : (b : Bank) (ops : List Operation) → AllJobOps b ops → AllOwnDeeds b (called_side side.Store ops)
+own_store : (b : Bank) (ops : List Operation) → AllInLog b ops → AllOwnDeeds b (called_side side.Store ops)
 own_store b [] own = (tt, tt)
 own_store b (op ∷ ops) own = (own.0, own_store b ops own.1)
 
@@ -143,11 +122,13 @@ one_left marked group (first ∷ pages) page one = by_mark (not (marked (first /
 -- a pass over pages of a bank of this size
 pub heeding_own : (b : Bank) (nv : List ℕ) (content : ℕ → List ℕ) (size : ℕ) (pages : List ℕ) → ((page : ℕ) → IsOneOf page pages → page < size / 4096)
     → AllOwnDeeds b (heeding b nv content (group_pages size) pages)
-heeding_own b nv content size pages inside =
-    (tt, own_pages b content (group_pages size) (marked_by (mark_plan nv b)) (left_pages (is_marked nv b) (group_pages size) pages)
-    (λ page one.
-    let few = group_few size page (inside page (one_left (is_marked nv b) (group_pages size) pages page one)) in
-    own_append b (called_side side.Store (mark_plan nv b (page / group_pages size))) (AsksSide side.Bank ∷ []) (own_store b (mark_plan nv b (page / group_pages size)) (mark_own nv b (page / group_pages size) few)) (tt, tt)))
+heeding_own b nv content size pages inside = (
+  tt,
+  own_pages b content (group_pages size) (marked_by (mark_plan nv b)) (left_pages (is_marked nv b) (group_pages size) pages)
+      (λ page one.
+      let few = group_few size page (inside page (one_left (is_marked nv b) (group_pages size) pages page one)) in
+      own_append b (called_side side.Store (mark_plan nv b (page / group_pages size))) (AsksSide side.Bank ∷ []) (own_store b (mark_plan nv b (page / group_pages size)) (mark_own nv b (page / group_pages size) few)) (tt, tt)),
+)
 
 pub ignoring_own : (b : Bank) (content : ℕ → List ℕ) (group : ℕ) (pages : List ℕ) → AllOwnDeeds b (ignoring content group pages)
 ignoring_own b content group pages = (tt, own_pages b content group unmarked pages (λ page one. tt))
@@ -157,15 +138,41 @@ ignoring_own b content group pages = (tt, own_pages b content group unmarked pag
 pub record AllowsJobs (G : Rule) (b : Bank) : Type 0 where
   pub asks : (which : Device) (story : Story) → IsOwn b which → G (Asks which) story
   pub works : (op : Operation) (story : Story) → G (Does (device_of b) op) story
-  pub logs : (op : Operation) (story : Story) → IsJobOp b op → G (Does device.Nv op) story
+  pub logs : (op : Operation) (story : Story) → IsInLog b op → G (Does device.Nv op) story
+  pub raises : (op : Operation) (story : Story) → IsRaise b (store story) op → G (Does device.Nv op) story
 
 module _ (G : Rule) (b : Bank) (h : AllowsJobs G b) where
-  store_safe : (op : Operation) (story : Story) → IsJobOp b op → IsSafe G (Does device.Nv op) story
-  store_safe op story own = (h.logs op story own, λ done t. h.logs done story (job_torn b (image_at device.Nv story) op done t own))
+  store_safe : (op : Operation) (story : Story) → IsInLog b op → IsSafe G (Does device.Nv op) story
+  store_safe op story own = (h.logs op story own, λ done t. h.logs done story (torn_within (log_at b) 0x3000 (store story) op done t own))
 
-  pub calls_allowed : (ops : List Operation) (story : Story) → AllJobOps b ops → AllSafe G (called device.Nv ops) story
+  pub calls_allowed : (ops : List Operation) (story : Story) → AllInLog b ops → AllSafe G (called device.Nv ops) story
   calls_allowed [] story own = (h.asks device.Nv story (inr refl), tt)
   calls_allowed (op ∷ ops) story own = (store_safe op story own.0, calls_allowed ops (operated device.Nv op story) own.1)
+
+  -- a raise of the floor to at most 128
+  pub raise_allowed : (fuses : FusesState) (svn : ℕ) (story : Story) → svn ≤ 128 → length (store story) ≡ 32768 → AllSafe G (called device.Nv (raise_plan (floor_of fuses b) b svn)) story
+  raise_allowed fuses svn story few size = by_test (nat_le svn (floor_of fuses b))
+    where
+      low : (c : Bank) → floor_at Two c + 16 ≤ 32768
+      low bank.Bmc = omega arith
+      low bank.Pch = omega arith
+
+      by_test : (t : Bool) → AllSafe G (called device.Nv (if t then [] else clearing (floor_at Two b) (svn - 1))) story
+      by_test true = (h.asks device.Nv story (inr refl), tt)
+      by_test false =
+          let at : ℕ = floor_at Two b + (svn - 1) / 8 in
+          let op : Operation = Program at (fuse_byte (svn - 1) ∷ []) in
+          let inside : at + 1 ≤ length (store story) = omega (arith, size, few, low b) in
+          let within : IsWithin (floor_at Two b) 16 op = record { low = omega arith; high = omega (arith, few) } in (
+            (
+              h.raises op story (record { within = within; clears = OnlyClears-program (store story) at (fuse_byte (svn - 1) ∷ []) inside }),
+              λ done t. h.raises done story (record {
+                within = torn_within (floor_at Two b) 16 (store story) op done t within;
+                clears = OnlyClears-torn (store story) at (fuse_byte (svn - 1) ∷ []) done t;
+              }),
+            ),
+            (h.asks device.Nv (operated device.Nv op story) (inr refl), tt),
+          )
 
   pub deeds_allowed : (deeds : List Deed) (story : Story) → AllOwnDeeds b deeds → AllSafe G (deed_moves b deeds) story
   deeds_allowed [] story own = tt

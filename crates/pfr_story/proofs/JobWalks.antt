@@ -1,48 +1,47 @@
 -- Each plan of a job, where the contents don't matter: what its calls touch and what is told of it is allowed.
-use Rattle.std.proofs.Common.{◌≡◌, ◌∙◌, refl, sym, ap, subst, arith, ℕ, ◌+◌, ◌*◌, ◌/◌, ◌≤◌, ◌<◌, Bool, true, false, not, List, [], ◌∷◌, ◌++◌, length, ◌⊎◌, inl, inr, Option, Some, None, Result, Ok, Err}
-use Rattle.std.specs.Prelude.{max, nat_le, ◌-◌}
-use Rattle.std.proofs.Math.Nat.{div-lt_iff_lt-mul}
-use Rattle.pfr_flash.specs.FuseRow.{clearing}
-use Rattle.pfr_flash.specs.Operation.{Operation, IsTorn}
-use Rattle.pfr_flash.specs.Range.{IsWithin}
+use Rattle.std.proofs.Common.{◌≡◌, ◌∙◌, refl, sym, ap, ℕ, ◌/◌, ◌≤◌, Bool, true, false, List, [], ◌∷◌, ◌++◌, length, inl, inr, Result, Ok, Err}
 use Rattle.pfr_flash.specs.declared.layout.Layout.{Layout}
 use Rattle.pfr_flash.specs.declared.names.Bank.{Bank}
-use Rattle.pfr_flash.specs.declared.names.Device.{Device}
 use Rattle.pfr_flash.specs.declared.names.Device.TheVariants as device
-use Rattle.pfr_flash.proofs.RangeLemmas.{IsTorn-within}
+use Rattle.pfr_flash.proofs.PlayLemmas.{length-play}
 use Rattle.pfr_engine.specs.Acceptance.{Acceptance}
-use Rattle.pfr_fuses.specs.Changes.{raise_plan}
-use Rattle.pfr_fuses.specs.FuseMap.{floor_at}
-use Rattle.pfr_fuses.specs.FusesState.{FusesState, floor_of}
+use Rattle.pfr_fuses.specs.FusesState.{FusesState}
 use Rattle.pfr_fuses.specs.RootSlot.{layout_of}
-use Rattle.pfr_fuses.specs.declared.profile.Profile.TheVariants.{Two}
 use Rattle.pfr_capsule.specs.CapsuleState.{CapsuleState}
 use Rattle.pfr_capsule.specs.declared.fail.CapsuleFail.{CapsuleFail}
-use Rattle.pfr_jobs.specs.Log.{log_at, open_job, spent_in, selector, current_at, current_page, last_gated}
-use Rattle.pfr_jobs.specs.LogPlans.{begin_plan, mark_by, mark_plan, finish_by, finish_plan}
-use Rattle.pfr_jobs.specs.LogState.{is_marked, is_spent}
+use Rattle.pfr_jobs.specs.Log.{open_job}
+use Rattle.pfr_jobs.specs.LogPlans.{begin_plan, finish_plan}
+use Rattle.pfr_jobs.specs.LogState.{is_spent}
 use Rattle.pfr_jobs.specs.declared.job.JobKind.{JobKind}
 use Rattle.pfr_jobs.specs.declared.job.JobKind.TheVariants.{ActiveFromRecovery, ActiveFromStaging, RecoveryFromStaging}
 use Rattle.pfr_jobs.specs.declared.job.OpenJob.{OpenJob}
 use Rattle.pfr_jobs.specs.declared.job.OpenJob.TheVariants as job
-use Rattle.pfr_jobs.proofs.LogLaws.{LastOf}
 use Rattle.pfr_rebuilt.specs.ActiveCopying.{active_page, active_pages, is_active_page}
 use Rattle.pfr_rebuilt.specs.Copying.{holds_text, recovery_page, recovery_pages}
-use Rattle.pfr_rebuilt.specs.Passing.{group_pages, left_pages, heeding, ignoring, active_heeding, active_ignoring, recovery_heeding, recovery_ignoring}
-use Rattle.pfr_strokes.specs.Deeds.{Deed, Asks as AsksSide, Does as DoesSide, called as called_side, ends_group, page_deeds, pass, marked_by, unmarked}
-use Rattle.pfr_strokes.specs.Strokes.{strokes}
-use Rattle.pfr_strokes.specs.declared.side.Side.TheVariants as side
-use Rattle.pfr_strokes.proofs.ReplacedLaws.{IsOneOf, pages_are}
+use Rattle.pfr_rebuilt.specs.Passing.{group_pages, active_heeding, active_ignoring, recovery_heeding, recovery_ignoring}
+use Rattle.pfr_strokes.proofs.ReplacedLaws.{pages_are}
 use Rattle.pfr_report.specs.declared.note.What.{What}
 use Rattle.pfr_report.specs.declared.note.What.TheVariants.{Restored, Updated}
-use Rattle.pfr_story.specs.Deeds.{deed_moves}
 use Rattle.pfr_story.specs.JobPlans.{JobNotes, begun_job, finished_job, abandoned, worked, written_over, done_with, by_log, with_job, copied_over, copied_again, raised_to, concluded, by_second_pass, second_pass, same_digest, by_digest, by_first_pass, recovery_work, judged_source, work_of, resumed_if, by_source, by_open, resumed}
 use Rattle.pfr_story.specs.Plans.{mine, store, asks, judged_recovery}
-use Rattle.pfr_story.specs.Safety.{Rule, IsSafe, AllSafe}
-use Rattle.pfr_story.specs.Story.{Story, Move, Says, Does, Asks, after, noted, operated, then, says, called, image_at, device_of}
-use Rattle.pfr_story.proofs.BringRules.{IsOwn}
+use Rattle.pfr_story.specs.Safety.{Rule, AllSafe}
+use Rattle.pfr_story.specs.Story.{Story, Move, Says, Does, Asks, after, noted, operated, then, says, device_of}
 use Rattle.pfr_story.proofs.SafetyLaws.{AllSafe-append}
-use Rattle.pfr_story.proofs.JobRules.{AllJobOps, finish_own, raise_own, heeding_own, ignoring_own, AllowsJobs, calls_allowed, deeds_allowed}
+use Rattle.pfr_story.proofs.JobRules.{AllInLog, finish_own, heeding_own, ignoring_own, AllowsJobs, calls_allowed, deeds_allowed, raise_allowed}
+
+-- the store keeps its size
+start_kept : (moves : List Move) (story : Story) → (after moves story).nv.start ≡ story.nv.start
+start_kept [] story = refl
+start_kept (Says w ∷ moves) story = start_kept moves (noted w story)
+start_kept (Asks which ∷ moves) story = start_kept moves story
+start_kept (Does device.Bmc op ∷ moves) story = start_kept moves (operated device.Bmc op story)
+start_kept (Does device.Pch op ∷ moves) story = start_kept moves (operated device.Pch op story)
+start_kept (Does device.Nv op ∷ moves) story = start_kept moves (operated device.Nv op story)
+
+pub store_sized : (moves : List Move) (story : Story) → length (store (after moves story)) ≡ length (store story)
+store_sized moves story =
+    let there : Story = after moves story in
+    length-play there.nv.start there.nv.ops ∙ ap (λ (bytes : List ℕ). length bytes) (start_kept moves story) ∙ sym (length-play story.nv.start story.nv.ops)
 
 -- and all that is told of one
 pub record TellsJobs (G : Rule) (b : Bank) (notes : JobNotes) : Type 0 where
@@ -54,14 +53,11 @@ pub record TellsJobs (G : Rule) (b : Bank) (notes : JobNotes) : Type 0 where
 
 module _ (G : Rule) (b : Bank) (h : AllowsJobs G b) where
   -- ---- each plan of a job, whatever it leads to
-  pub begin_allowed : (kind : JobKind) (digest : List ℕ) (story : Story) → AllJobOps b (begin_plan (store story) b kind digest) → AllSafe G (begun_job b kind digest story) story
+  pub begin_allowed : (kind : JobKind) (digest : List ℕ) (story : Story) → AllInLog b (begin_plan (store story) b kind digest) → AllSafe G (begun_job b kind digest story) story
   begin_allowed kind digest story own = calls_allowed G b h (begin_plan (store story) b kind digest) story own
 
   pub finish_allowed : (story : Story) → AllSafe G (finished_job b story) story
   finish_allowed story = calls_allowed G b h (finish_plan (store story) b) story (finish_own (store story) b)
-
-  pub raise_allowed : (svn : ℕ) (fuses : FusesState) (story : Story) → svn ≤ 128 → AllSafe G (raised_to svn b fuses story) story
-  raise_allowed svn fuses story few = calls_allowed G b h (raise_plan (floor_of fuses b) b svn) story (raise_own b (floor_of fuses b) svn few)
 
   pub work_allowed : (kind : JobKind) (fuses : FusesState) (capsule : CapsuleState) (story : Story) → AllSafe G (worked b kind fuses capsule story) story
   unfolding active_heeding active_pages
@@ -113,7 +109,7 @@ module _ (G : Rule) (b : Bank) (h : AllowsJobs G b) where
         AllSafe-append G moves (then (finished_job b) (says (λ _. that)) (after moves story)) story (work_allowed kind fuses capsule story) (end_allowed that tell (after moves story))
 
     pub job_allowed : (kind : JobKind) (fuses : FusesState) (capsule : CapsuleState) (that : What) → ((there : Story) → G (Says (λ _. that)) there) → (story : Story)
-        → (is_spent (store story) b ≡ false → AllJobOps b (begin_plan (store story) b kind capsule.digest)) → AllSafe G (with_job b kind fuses capsule that story) story
+        → (is_spent (store story) b ≡ false → AllInLog b (begin_plan (store story) b kind capsule.digest)) → AllSafe G (with_job b kind fuses capsule that story) story
     job_allowed kind fuses capsule that tell story own = (h.asks device.Nv story (inr refl), by_spent (is_spent (store story) b) refl)
       where
         by_spent : (t : Bool) → is_spent (store story) b ≡ t → AllSafe G (by_log t b kind fuses capsule that story) story
@@ -123,58 +119,58 @@ module _ (G : Rule) (b : Bank) (h : AllowsJobs G b) where
             AllSafe-append G moves (done_with b kind fuses capsule that (after moves story)) story (begin_allowed kind capsule.digest story (own e)) (done_allowed kind fuses capsule that tell (after moves story))
 
     module _ (accepts : Acceptance) (fuses : FusesState) (small : (story : Story) (standing : CapsuleState) → judged_recovery accepts b fuses story ≡ Ok standing → standing.manifest.svn ≤ 128) where
-      conclude_allowed : (standing : CapsuleState) (story : Story) → standing.manifest.svn ≤ 128 → AllSafe G (concluded notes.recovery_updated b fuses standing story) story
-      conclude_allowed standing story few =
+      conclude_allowed : (standing : CapsuleState) (story : Story) → standing.manifest.svn ≤ 128 → length (store story) ≡ 32768 → AllSafe G (concluded notes.recovery_updated b fuses standing story) story
+      conclude_allowed standing story few size =
           let moves : List Move = raised_to standing.manifest.svn b fuses story in
-          AllSafe-append G moves (then (finished_job b) (says (λ _. notes.recovery_updated standing.manifest.svn)) (after moves story)) story (raise_allowed standing.manifest.svn fuses story few)
+          AllSafe-append G moves (then (finished_job b) (says (λ _. notes.recovery_updated standing.manifest.svn)) (after moves story)) story (raise_allowed G b h fuses standing.manifest.svn story few size)
           (end_allowed (notes.recovery_updated standing.manifest.svn) (tells.recovery_updated standing.manifest.svn) (after moves story))
 
-      second_allowed : (capsule : CapsuleState) (story : Story) → AllSafe G (second_pass notes.given_up notes.recovery_updated accepts b fuses capsule story) story
-      second_allowed capsule story =
+      second_allowed : (capsule : CapsuleState) (story : Story) → length (store story) ≡ 32768 → AllSafe G (second_pass notes.given_up notes.recovery_updated accepts b fuses capsule story) story
+      second_allowed capsule story size =
           let moves : List Move = copied_again b fuses capsule story in
           let there : Story = after moves story in
           AllSafe-append G moves (asks b there ++ by_second_pass notes.given_up notes.recovery_updated b fuses (judged_recovery accepts b fuses there) there) story (again_allowed fuses capsule story)
-          (h.asks (device_of b) there (inl refl), by_judged there (judged_recovery accepts b fuses there) refl)
+          (h.asks (device_of b) there (inl refl), by_judged there (store_sized moves story ∙ size) (judged_recovery accepts b fuses there) refl)
         where
-          by_judged : (there : Story) (judged : Result CapsuleState CapsuleFail) → judged_recovery accepts b fuses there ≡ judged → AllSafe G (by_second_pass notes.given_up notes.recovery_updated b fuses judged there) there
-          by_judged there (Ok standing) e = conclude_allowed standing there (small there standing e)
-          by_judged there (Err cause) e = abandon_allowed there
+          by_judged : (there : Story) → length (store there) ≡ 32768 → (judged : Result CapsuleState CapsuleFail) → judged_recovery accepts b fuses there ≡ judged → AllSafe G (by_second_pass notes.given_up notes.recovery_updated b fuses judged there) there
+          by_judged there sized (Ok standing) e = conclude_allowed standing there (small there standing e) sized
+          by_judged there sized (Err cause) e = abandon_allowed there
 
-      pub recovery_allowed : (capsule : CapsuleState) (story : Story) → AllSafe G (recovery_work notes.given_up notes.recovery_updated accepts b fuses capsule story) story
-      recovery_allowed capsule story =
+      pub recovery_allowed : (capsule : CapsuleState) (story : Story) → length (store story) ≡ 32768 → AllSafe G (recovery_work notes.given_up notes.recovery_updated accepts b fuses capsule story) story
+      recovery_allowed capsule story size =
           let moves : List Move = copied_over b fuses capsule story in
           let there : Story = after moves story in
           AllSafe-append G moves (asks b there ++ by_first_pass notes.given_up notes.recovery_updated accepts b fuses capsule (judged_recovery accepts b fuses there) there) story (copy_allowed fuses capsule story)
-          (h.asks (device_of b) there (inl refl), by_judged there (judged_recovery accepts b fuses there) refl)
+          (h.asks (device_of b) there (inl refl), by_judged there (store_sized moves story ∙ size) (judged_recovery accepts b fuses there) refl)
         where
-          by_same : (there : Story) (standing : CapsuleState) → standing.manifest.svn ≤ 128 → (t : Bool) → AllSafe G (by_digest t notes.given_up notes.recovery_updated accepts b fuses capsule standing there) there
-          by_same there standing few true = conclude_allowed standing there few
-          by_same there standing few false = second_allowed capsule there
+          by_same : (there : Story) → length (store there) ≡ 32768 → (standing : CapsuleState) → standing.manifest.svn ≤ 128 → (t : Bool) → AllSafe G (by_digest t notes.given_up notes.recovery_updated accepts b fuses capsule standing there) there
+          by_same there sized standing few true = conclude_allowed standing there few sized
+          by_same there sized standing few false = second_allowed capsule there sized
 
-          by_judged : (there : Story) (judged : Result CapsuleState CapsuleFail) → judged_recovery accepts b fuses there ≡ judged
+          by_judged : (there : Story) → length (store there) ≡ 32768 → (judged : Result CapsuleState CapsuleFail) → judged_recovery accepts b fuses there ≡ judged
               → AllSafe G (by_first_pass notes.given_up notes.recovery_updated accepts b fuses capsule judged there) there
-          by_judged there (Ok standing) e = by_same there standing (small there standing e) (same_digest standing.digest capsule.digest)
-          by_judged there (Err cause) e = second_allowed capsule there
+          by_judged there sized (Ok standing) e = by_same there sized standing (small there standing e) (same_digest standing.digest capsule.digest)
+          by_judged there sized (Err cause) e = second_allowed capsule there sized
 
       -- a job that is open at a power-on
-      work_of_allowed : (capsule : CapsuleState) (kind : JobKind) (story : Story) → AllSafe G (work_of notes accepts b fuses capsule kind story) story
-      work_of_allowed capsule (ActiveFromRecovery level) story = done_allowed (ActiveFromRecovery level) fuses capsule (Restored b level) (tells.restored level) story
-      work_of_allowed capsule (ActiveFromStaging dynamic) story =
+      work_of_allowed : (capsule : CapsuleState) (kind : JobKind) (story : Story) → length (store story) ≡ 32768 → AllSafe G (work_of notes accepts b fuses capsule kind story) story
+      work_of_allowed capsule (ActiveFromRecovery level) story size = done_allowed (ActiveFromRecovery level) fuses capsule (Restored b level) (tells.restored level) story
+      work_of_allowed capsule (ActiveFromStaging dynamic) story size =
           done_allowed (ActiveFromStaging dynamic) fuses capsule (Updated b dynamic capsule.manifest.svn) (tells.updated dynamic capsule.manifest.svn) story
-      work_of_allowed capsule RecoveryFromStaging story = recovery_allowed capsule story
+      work_of_allowed capsule RecoveryFromStaging story size = recovery_allowed capsule story size
 
-      resume_allowed : (t : Bool) (capsule : CapsuleState) (kind : JobKind) (story : Story) → AllSafe G (resumed_if t notes accepts b fuses capsule kind story) story
-      resume_allowed true capsule kind story = (tells.resumed kind story, work_of_allowed capsule kind (noted (λ _. notes.resumed kind) story))
-      resume_allowed false capsule kind story = abandon_allowed story
+      resume_allowed : (t : Bool) (capsule : CapsuleState) (kind : JobKind) (story : Story) → length (store story) ≡ 32768 → AllSafe G (resumed_if t notes accepts b fuses capsule kind story) story
+      resume_allowed true capsule kind story size = (tells.resumed kind story, work_of_allowed capsule kind (noted (λ _. notes.resumed kind) story) size)
+      resume_allowed false capsule kind story size = abandon_allowed story
 
-      source_allowed : (kind : JobKind) (digest : List ℕ) (judged : Result CapsuleState CapsuleFail) (story : Story) → AllSafe G (by_source notes accepts b fuses kind digest judged story) story
-      source_allowed kind digest (Ok capsule) story = resume_allowed (same_digest capsule.digest digest) capsule kind story
-      source_allowed kind digest (Err cause) story = abandon_allowed story
+      source_allowed : (kind : JobKind) (digest : List ℕ) (judged : Result CapsuleState CapsuleFail) (story : Story) → length (store story) ≡ 32768 → AllSafe G (by_source notes accepts b fuses kind digest judged story) story
+      source_allowed kind digest (Ok capsule) story size = resume_allowed (same_digest capsule.digest digest) capsule kind story size
+      source_allowed kind digest (Err cause) story size = abandon_allowed story
 
-      open_allowed : (opened : OpenJob) (story : Story) → AllSafe G (by_open notes accepts b fuses opened story) story
-      open_allowed job.None story = tt
-      open_allowed job.Bad story = abandon_allowed story
-      open_allowed (job.Job kind digest) story = (h.asks (device_of b) story (inl refl), source_allowed kind digest (judged_source accepts b fuses kind story) story)
+      open_allowed : (opened : OpenJob) (story : Story) → length (store story) ≡ 32768 → AllSafe G (by_open notes accepts b fuses opened story) story
+      open_allowed job.None story size = tt
+      open_allowed job.Bad story size = abandon_allowed story
+      open_allowed (job.Job kind digest) story size = (h.asks (device_of b) story (inl refl), source_allowed kind digest (judged_source accepts b fuses kind story) story size)
 
-      pub resumed_allowed : (story : Story) → AllSafe G (resumed notes accepts b fuses story) story
-      resumed_allowed story = (h.asks device.Nv story (inr refl), open_allowed (open_job (store story) b) story)
+      pub resumed_allowed : (story : Story) → length (store story) ≡ 32768 → AllSafe G (resumed notes accepts b fuses story) story
+      resumed_allowed story size = (h.asks device.Nv story (inr refl), open_allowed (open_job (store story) b) story size)
