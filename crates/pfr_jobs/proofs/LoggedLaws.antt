@@ -43,7 +43,7 @@ cleared_again row bit bytes cleared =
     ap (λ (x : ℕ). set row (bit / 8) x) (same_byte (get_or row (bit / 8) 0) bit (bytes (bit / 8)) cleared) ∙ set-get_or row (bit / 8) 0
 
 -- ---- bytes that are put in their own place
-own_bytes : (old new : List ℕ) (at count : ℕ) → length new ≡ length old → at + count ≤ length old → ((p : ℕ) → (p < at) ⊎ (at + count ≤ p) → get_or new p 0 ≡ get_or old p 0)
+pub own_bytes : (old new : List ℕ) (at count : ℕ) → length new ≡ length old → at + count ≤ length old → ((p : ℕ) → (p < at) ⊎ (at + count ≤ p) → get_or new p 0 ≡ get_or old p 0)
     → new ≡ written old at (bytes_at new at count)
 own_bytes old new at count long fits out =
     ext_get_or 0 new (written old at (bytes_at new at count)) (long ∙ sym (length-written old at (bytes_at new at count))) (λ p h. each p (omega (arith, h, long)) (cases_lt p at) (cases_lt p (at + count)))

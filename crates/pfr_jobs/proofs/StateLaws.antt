@@ -193,7 +193,7 @@ module _ (nv : List ℕ) (b : Bank) (k : ℕ) (size : length nv ≡ 32768) (last
           changed_marks op (36 + group / 8) (omega arith) (omega (arith, small)) (omega arith) refl
           ∙ clearing-row nv (current_at nv b + 64 * k + 36) 16 group (omega (arith, small)) (omega (arith, size, current_inside nv b, few))
           ∙ ap (λ (row : List ℕ). with_cleared row group)
-            (ap (λ (p : ℕ). bytes_at nv p 16) (sym place) ∙ sym (part_of nv (current_at nv b) 4096 (64 * k + 36) 16 (omega (arith, few))) ∙ sym (ap (λ (l : Option ℕ). marks_in (current_page nv b) l) last))
+          (ap (λ (p : ℕ). bytes_at nv p 16) (sym place) ∙ sym (part_of nv (current_at nv b) 4096 (64 * k + 36) 16 (omega (arith, few))) ∙ sym (ap (λ (l : Option ℕ). marks_in (current_page nv b) l) last))
 
   -- The end of a job changes nothing else than what is open.
   abbrev ending : Operation
