@@ -1,9 +1,12 @@
 -- What the calls of a log do, by its plans, where it stands as the store says.
 use Rattle.std.proofs.Common.{◌≡◌, ◌∙◌, ℕ, ◌+◌, ◌*◌, ◌≤◌, ◌<◌, Bool, true, false, if◌then◌else◌, List, [], ◌∷◌, length, Option, Some, None, refl, sym, ap, arith}
 use Rattle.pfr_flash.specs.Bytes.{bytes_at}
+use Rattle.pfr_flash.specs.FlashState.{FlashState, now}
 use Rattle.pfr_flash.specs.FuseRow.{with_cleared, clearing}
 use Rattle.pfr_flash.specs.Operation.{Operation, Program, play}
+use Rattle.pfr_flash.specs.Reading.{EndsAt}
 use Rattle.pfr_flash.specs.declared.names.Bank.{Bank}
+use Rattle.pfr_flash.proofs.EndsLemmas.{ends_content}
 use Rattle.pfr_jobs.specs.declared.job.OpenJob.{OpenJob}
 use Rattle.pfr_jobs.specs.declared.job.OpenJob.TheVariants as job
 use Rattle.pfr_jobs.specs.Log.{spent_in, selector, page_by, current_at, current_page, last_gated, used_in, first_unspent, open_by, open_in, open_job}
@@ -32,6 +35,11 @@ module _ (log : LogState) (nv : List ℕ) (b : Bank) (k : ℕ) (stands : log ≡
   -- its last gated slot lies in the store
   pub stands_inside : log.last ≡ Some k → (k < 64) × (log.page + 4096 ≤ 32768)
   stands_inside e = ((last_facts (current_page nv b) 64 k (stands_last (Some k) e)).0, omega (arith, stands_page, current_inside nv b))
+
+-- a log that was read stands as the store says
+pub load_stands : (log : LogState) (b : Bank) (old new : FlashState) → log ≡ log_of (now old) b → EndsAt None old new → log ≡ log_of (now new) log.bank
+load_stands log b old new is ends =
+    is ∙ ap (λ (image : List ℕ). log_of image b) (sym (ends_content ends)) ∙ sym (ap (λ (c : Bank). log_of (now new) c) (ap (λ (l : LogState). l.bank) is))
 
 -- ---- the plans
 module _ (nv : List ℕ) (b : Bank) (k : ℕ) (last : last_gated (current_page nv b) 64 ≡ Some k) where
