@@ -1,2 +1,3 @@
 pub mod CertLaw
+pub mod SparingLaw
 mod Parts

@@ -34,11 +34,11 @@ use Rattle.pfr_description.specs.declared.keys.PublicKey.{PublicKey}
 
 -- ---- entries
 -- the root entry
-root_read : (desc : Description) (key : KeyDescription) (block0 block : List ℕ) → IsKeyValue desc.root → HasParts1 desc key block0 block → public_key_at block 144 ≡ entry_of 0xA757A046 desc.curve any any desc.root
-root_read desc key block0 block root p =
+pub root_read : (desc : Description) (block : List ℕ) → IsKeyValue desc.root → bytes_at block 128 148 ≡ head_bytes desc → public_key_at block 144 ≡ entry_of 0xA757A046 desc.curve any any desc.root
+root_read desc block root there =
     let head = head1 desc root in
-    let magic : number_at block 144 ≡ 0xA757A046 = number_inside_at block (head_bytes desc) 128 148 16 144 p.head refl (omega arith) ∙ head.entry in
-    let bytes : bytes_at block 148 128 ≡ key_bytes desc.curve any any desc.root = inside_at block (head_bytes desc) 128 148 20 148 128 p.head refl (omega arith) ∙ head.root in
+    let magic : number_at block 144 ≡ 0xA757A046 = number_inside_at block (head_bytes desc) 128 148 16 144 there refl (omega arith) ∙ head.entry in
+    let bytes : bytes_at block 148 128 ≡ key_bytes desc.curve any any desc.root = inside_at block (head_bytes desc) 128 148 20 148 128 there refl (omega arith) ∙ head.root in
     key_read block 144 0xA757A046 desc.curve any any desc.root (omega arith) (omega arith) root magic bytes
 
 -- a key entry: its magic, key and signature
@@ -83,6 +83,25 @@ signed_there : (accepts : Acceptance) (curve : Curve) (magic permissions id : �
     → key ≡ entry_of magic curve permissions id by → read ≡ message → signature ≡ signature_in (marks_of curve by message) → accepts.ask (marks_of curve by message) ≡ true → IsSigned accepts curve key read signature
 signed_there accepts curve magic permissions id by message read key signature is_key is_message is_signature accepted = rw (is_key, is_message, is_signature) (record { magic = refl; accepted = accepted })
 
+-- the root's key, with the hash that the store is given
+pub root_made : (desc : Description) (block : List ℕ) → IsKeyValue desc.root → bytes_at block 128 148 ≡ head_bytes desc → IsRoot (public_key_at block 144) desc.curve (root_hash One desc.curve desc.root)
+unfolding root_hash
+root_made desc block root there = rw (root_read desc block root there) (record { magic = refl; permissions = refl; key_id = refl; curve_number = curve_of-number desc.curve; hash = refl })
+
+-- a block-0 entry at a place, by the key that an entry has
+pub entry_made : (curve : Curve) (magic permissions id : ℕ) (by : PublicKey) (block0 block : List ℕ) (at : ℕ) (key : chain.PublicKey) (accepts : Acceptance)
+    → key ≡ entry_of magic curve permissions id by → bytes_at block 0 128 ≡ block0 → bytes_at block at 104 ≡ block0_entry (marks_of curve by block0)
+    → accepts.ask (marks_of curve by block0) ≡ true → IsBlock0Entry block at curve key accepts
+entry_made curve magic permissions id by block0 block at key accepts is_key first last accepted =
+    let marks : Ask = marks_of curve by block0 in
+    let m = marks_long curve by block0 in
+    let entry = block0_entry_read marks m in
+    let signature : signature_at block (at + 4) ≡ signature_in marks = signature_read block (at + 4) marks m (inside_at block (block0_entry marks) at 104 4 (at + 4) 100 last refl (omega arith) ∙ entry.signature) in
+    record {
+      magic = number_inside_at block (block0_entry marks) at 104 0 at last (omega arith) (omega arith) ∙ entry.magic;
+      signed = signed_there accepts curve magic permissions id by block0 _ _ _ is_key first signature accepted;
+    }
+
 -- ---- Block 1
 module _ (desc : Description) (key : KeyDescription) (block0 block : List ℕ) (root : IsKeyValue desc.root) (signer : IsSignerValue key) (p : HasParts1 desc key block0 block) where
   signer_read : public_key_at block 276 ≡ entry_of 0x14711C2F desc.curve key.permissions key.id key.key
@@ -92,17 +111,13 @@ module _ (desc : Description) (key : KeyDescription) (block0 block : List ℕ) (
       let bytes : bytes_at block 280 128 ≡ signed_key desc key = inside_at block (key_entry desc key) 276 232 4 280 128 p.entry refl (omega arith) ∙ entry.signed in
       key_read block 276 0x14711C2F desc.curve key.permissions key.id key.key signer.permissions (omega (arith, signer.id)) signer.key magic bytes
 
-  root_made : IsRoot (public_key_at block 144) desc.curve (root_hash One desc.curve desc.root)
-  unfolding root_hash
-  root_made = rw (root_read desc key block0 block root p) (record { magic = refl; permissions = refl; key_id = refl; curve_number = curve_of-number desc.curve; hash = refl })
-
   key_made : (type : ContentType) (row : List ℕ) (accepts : Acceptance) → MaySign key.id key.permissions type row → accepts.ask (marks_on_key desc key) ≡ true → IsKey block desc.curve type row accepts key.id
   key_made type row accepts may accepted =
       let entry = entry_read desc key signer.key in
       let signature : signature_at block 408 ≡ signature_in (marks_on_key desc key) =
       signature_read block 408 (marks_on_key desc key) (marks_long desc.curve desc.root (signed_key desc key)) (inside_at block (key_entry desc key) 276 232 132 408 100 p.entry refl (omega arith) ∙ entry.signature) in
       let message : bytes_at block 280 128 ≡ signed_key desc key = inside_at block (key_entry desc key) 276 232 4 280 128 p.entry refl (omega arith) ∙ entry.signed in
-      let of_root = root_read desc key block0 block root p in
+      let of_root = root_read desc block root p.head in
       record {
         magic = ap (λ (k : chain.PublicKey). k.magic) signer_read;
         same_curve = ap (λ (k : chain.PublicKey). k.curve) signer_read ∙ sym (ap (λ (k : chain.PublicKey). k.curve) of_root);
@@ -111,24 +126,13 @@ module _ (desc : Description) (key : KeyDescription) (block0 block : List ℕ) (
         signed = signed_there accepts desc.curve 0xA757A046 any any desc.root (signed_key desc key) _ _ _ of_root message signature accepted;
       }
 
-  entry_made : (accepts : Acceptance) → accepts.ask (marks_of desc.curve key.key block0) ≡ true → IsBlock0Entry block 508 desc.curve (public_key_at block 276) accepts
-  entry_made accepts accepted =
-      let marks : Ask = marks_of desc.curve key.key block0 in
-      let m = marks_long desc.curve key.key block0 in
-      let entry = block0_entry_read marks m in
-      let signature : signature_at block 512 ≡ signature_in marks = signature_read block 512 marks m (inside_at block (block0_entry marks) 508 104 4 512 100 p.last refl (omega arith) ∙ entry.signature) in
-      record {
-        magic = number_inside_at block (block0_entry marks) 508 104 0 508 p.last refl (omega arith) ∙ entry.magic;
-        signed = signed_there accepts desc.curve 0x14711C2F key.permissions key.id key.key block0 _ _ _ signer_read p.first signature accepted;
-      }
-
   -- the block is one of form 1, signed by the key
   pub form1_made : (type : ContentType) (row : List ℕ) (accepts : Acceptance) → is_certificate type ≡ false → MaySign key.id key.permissions type row → accepts.ask (marks_on_key desc key) ≡ true
       → accepts.ask (marks_of desc.curve key.key block0) ≡ true → IsForm1 block type (root_hash One desc.curve desc.root) row accepts (Some key.id)
   form1_made type row accepts other may on_key on_block0 = record {
     curve = desc.curve;
-    root_entry = root_made;
-    signer = record { no_certificate = other; key = key_made type row accepts may on_key; entry = entry_made accepts on_block0 };
+    root_entry = root_made desc block root p.head;
+    signer = record { no_certificate = other; key = key_made type row accepts may on_key; entry = entry_made desc.curve 0x14711C2F key.permissions key.id key.key block0 block 508 _ accepts signer_read p.first p.last on_block0 };
   }
 
 -- ---- the chain

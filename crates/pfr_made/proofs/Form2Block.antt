@@ -17,26 +17,13 @@ use Rattle.pfr_description.specs.Described.{Description}
 use Rattle.pfr_description.specs.declared.keys.KeyDescription.{KeyDescription}
 use Rattle.pfr_description.specs.declared.keys.PublicKey.{PublicKey}
 
--- what is read of a block, in the order of its bytes
-pub record HasParts (block : List ℕ) (desc : Description) (signer : KeyDescription) (block0 : List ℕ) : Type 0 where
-  pub front : bytes_at block 0 128 ≡ block0
-  pub magic : number_at block 128 ≡ 0xF27F28D8
-  pub root_magic : number_at block 144 ≡ 0xA757A047
-  pub root : HasKey block 148 desc.curve any any desc.root
-  pub key_magic : number_at block 260 ≡ 0x14711C30
-  pub key : HasKey block 264 desc.curve signer.permissions signer.id signer.key
-  pub signed : bytes_at block 264 112 ≡ signed_key desc signer
-  pub marks_on_key : HasMarks block 376 (marks_on_key desc signer)
-  pub entry_magic : number_at block 476 ≡ 0x15364368
-  pub marks_on_block0 : HasMarks block 480 (long_marks_of signer.key block0)
-
 -- ---- what stands where
-record HasHead (block : List ℕ) (desc : Description) : Type 0 where
+pub record HasHead (block : List ℕ) (desc : Description) : Type 0 where
   pub magic : number_at block 128 ≡ 0xF27F28D8
   pub root_magic : number_at block 144 ≡ 0xA757A047
   pub root : HasKey block 148 desc.curve any any desc.root
 
-has_head : (block : List ℕ) (desc : Description) → IsKeyValue desc.root → Stands block 128 (head_bytes desc) → HasHead block desc
+pub has_head : (block : List ℕ) (desc : Description) → IsKeyValue desc.root → Stands block 128 (head_bytes desc) → HasHead block desc
 unfolding head_bytes number_bytes zeros
 has_head block desc root h =
     let key : List ℕ = key_bytes desc.curve any any desc.root in
@@ -71,11 +58,11 @@ has_entry block desc signer value h =
       marks = has_marks block 376 (marks_on_key desc signer) (marks_long C384 desc.root key) b;
     }
 
-record HasBlock0Entry (block : List ℕ) (at : ℕ) (marks : Ask) : Type 0 where
+pub record HasBlock0Entry (block : List ℕ) (at : ℕ) (marks : Ask) : Type 0 where
   pub magic : number_at block at ≡ 0x15364368
   pub signature : HasMarks block (at + 4) marks
 
-has_block0_entry : (block : List ℕ) (at : ℕ) (key : PublicKey) (message : List ℕ) → Stands block at (block0_entry (long_marks_of key message)) → HasBlock0Entry block at (long_marks_of key message)
+pub has_block0_entry : (block : List ℕ) (at : ℕ) (key : PublicKey) (message : List ℕ) → Stands block at (block0_entry (long_marks_of key message)) → HasBlock0Entry block at (long_marks_of key message)
 unfolding block0_entry number_bytes
 has_block0_entry block at key message h =
     let marks : List ℕ = signature_bytes (long_marks_of key message) in
@@ -84,6 +71,16 @@ has_block0_entry block at key message h =
       magic = read_number block at 0x15364368 (omega arith) (stands_front block at (number_bytes 0x15364368) marks h);
       signature = has_marks block (at + 4) (long_marks_of key message) (marks_long C384 key message) a;
     }
+
+-- what is read of a block, in the order of its bytes
+pub record HasParts (block : List ℕ) (desc : Description) (signer : KeyDescription) (block0 : List ℕ) : Type 0 where
+  pub front : bytes_at block 0 128 ≡ block0
+  pub head : HasHead block desc
+  pub key_magic : number_at block 260 ≡ 0x14711C30
+  pub key : HasKey block 264 desc.curve signer.permissions signer.id signer.key
+  pub signed : bytes_at block 264 112 ≡ signed_key desc signer
+  pub marks_on_key : HasMarks block 376 (marks_on_key desc signer)
+  pub entry : HasBlock0Entry block 476 (long_marks_of signer.key block0)
 
 pub has_parts : (block : List ℕ) (desc : Description) (signer : KeyDescription) (block0 : List ℕ) → IsKeyValue desc.root → IsSignerValue signer → HasParts2 desc signer block0 block
     → HasParts block desc signer block0
@@ -94,13 +91,10 @@ has_parts block desc signer block0 root value parts =
     let end = has_block0_entry block 476 signer.key block0 (stands block 476 104 (block0_entry marks) (length-block0_entry2 marks (marks_long C384 signer.key block0)) parts.last) in
     record {
       front = parts.first;
-      magic = first.magic;
-      root_magic = first.root_magic;
-      root = first.root;
+      head = first;
       key_magic = middle.magic;
       key = middle.key;
       signed = middle.signed;
       marks_on_key = middle.marks;
-      entry_magic = end.magic;
-      marks_on_block0 = end.signature;
+      entry = end;
     }

@@ -8,6 +8,8 @@ pub mod AreasMade
 pub mod BlankMade
 pub mod BlockFourMade
 pub mod BlockLengthsMade
+pub mod BlockThreeMade
+pub mod CertMade
 pub mod BlockSignedMade
 pub mod ByteLaws
 pub mod ChainMade

@@ -1,18 +1,10 @@
 -- Certificates, which cancel keys.
 use Rattle.std.specs.Prelude.{ℕ, List}
 use Rattle.pfr_flash.specs.declared.names.ContentType.{ContentType}
-use Rattle.pfr_flash.specs.declared.names.ContentType.TheVariants.{PchManifest, PchCapsule, BmcManifest, BmcCapsule, PchManifestCancel, PchCapsuleCancel, BmcManifestCancel, BmcCapsuleCancel}
+use Rattle.pfr_cert.specs.Certificate.{cancelling}
 use Rattle.pfr_made.specs.Blocks.{root_signed_bytes, root_signed_row}
 use Rattle.pfr_made.specs.Fields.{number_bytes, padded}
 use Rattle.pfr_description.specs.Described.{Description}
-
--- the type of the certificates that cancel a key of a signing type
-abbrev pub cancelling : ContentType → ContentType
-cancelling PchManifest = PchManifestCancel
-cancelling PchCapsule = PchCapsuleCancel
-cancelling BmcManifest = BmcManifestCancel
-cancelling BmcCapsule = BmcCapsuleCancel
-cancelling type = type
 
 -- what a certificate's block signs: the key's id, and zeros up to 128 bytes
 unfoldable pub certificate_body : ℕ → List ℕ

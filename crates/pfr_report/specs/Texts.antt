@@ -10,17 +10,19 @@ use Rattle.pfr_flash.specs.declared.names.Device.TheVariants as device
 use Rattle.pfr_filter.specs.declared.verdict.BusOp.{BusOp}
 use Rattle.pfr_filter.specs.declared.verdict.BusOp.TheVariants as op
 use Rattle.pfr_capsule.specs.Answer.{capsule_failure}
+use Rattle.pfr_cert.specs.Answer.{cert_failure}
+use Rattle.pfr_fuses.specs.FuseMap.{IsSigning}
 use Rattle.pfr_watch.specs.declared.stage.Stage.{Stage}
 use Rattle.pfr_watch.specs.declared.stage.Stage.TheVariants as stage
-use Rattle.pfr_report.specs.Words.{rule_word, active_text, capsule_text, block_text, smbus_word, AreFound}
+use Rattle.pfr_report.specs.Words.{rule_word, active_text, capsule_text, cert_text, block_text, smbus_word, kind_word, type_word, AreFound}
 use Rattle.pfr_report.specs.declared.note.LockWhy.{LockWhy}
 use Rattle.pfr_report.specs.declared.note.LockWhy.TheVariants.{Unprovisioned, SlotsSpent, Layout, FlashFault, StoreFault, NoGoodImage, WatchdogSpent, NoRecovery}
 use Rattle.pfr_report.specs.declared.note.ProvisionWhy.{ProvisionWhy}
 use Rattle.pfr_report.specs.declared.note.ProvisionWhy.TheVariants as provision
 use Rattle.pfr_report.specs.declared.note.Refusal.{Refusal}
-use Rattle.pfr_report.specs.declared.note.Refusal.TheVariants.{Capsule}
+use Rattle.pfr_report.specs.declared.note.Refusal.TheVariants.{Capsule, Cert, ManifestDiffers, JobsSpent}
 use Rattle.pfr_report.specs.declared.note.What.{What}
-use Rattle.pfr_report.specs.declared.note.What.TheVariants.{Power, Held, Released, Locked, Lost, Untrusted, Restored, Updated, Refused, Expired, Passed, Booted, BusPassed, BusBlocked, SmbusPassed, SmbusBlocked, Provisioned, ProvisionRefused, Ignored}
+use Rattle.pfr_report.specs.declared.note.What.TheVariants.{Power, Held, Released, Locked, Lost, Untrusted, Resumed, Abandoned, Restored, Updated, RecoveryUpdated, Cancelled, Refused, Expired, Passed, Booted, BusPassed, BusBlocked, SmbusPassed, SmbusBlocked, Provisioned, ProvisionRefused, Ignored}
 use Rattle.pfr_report.specs.declared.note.Note.{Note}
 
 abbrev pub bank_word : Bank → List ℕ
@@ -75,6 +77,9 @@ update_word true = codes "full"
 
 abbrev pub refusal_text : Refusal → List ℕ
 refusal_text (Capsule cause) = capsule_text cause
+refusal_text (Cert cause) = cert_text cause
+refusal_text ManifestDiffers = codes "manifest-differs"
+refusal_text JobsSpent = codes "jobs-spent"
 
 -- a stage that is passed on the way of a boot; of no other is it noted that it was passed
 abbrev pub stage_word : Stage → List ℕ
@@ -96,8 +101,12 @@ what_text (Released bank svn counts) = bank_word bank ++ (codes " released svn "
 what_text (Locked bank why counts) = bank_word bank ++ (codes " locked " ++ lock_word why)
 what_text (Lost device counts) = codes "lost" ++ lost_word device
 what_text (Untrusted bank why) = bank_word bank ++ (codes " untrusted " ++ active_text why)
+what_text (Resumed bank kind) = bank_word bank ++ (codes " resumed " ++ kind_word kind)
+what_text (Abandoned bank) = bank_word bank ++ codes " job abandoned"
 what_text (Restored bank level) = bank_word bank ++ (codes " restored level " ++ decimal level)
 what_text (Updated bank dynamic svn) = bank_word bank ++ (codes " updated " ++ (update_word dynamic ++ (codes " svn " ++ decimal svn)))
+what_text (RecoveryUpdated bank svn) = bank_word bank ++ (codes " recovery updated svn " ++ decimal svn)
+what_text (Cancelled type id) = codes "cancelled " ++ (type_word type ++ (codes " " ++ decimal id))
 what_text (Refused bank why) = bank_word bank ++ (codes " refused " ++ refusal_text why)
 what_text (Expired bank level) = bank_word bank ++ (codes " watchdog " ++ decimal level)
 what_text (Passed bank stage) = bank_word bank ++ (codes " passed " ++ stage_word stage)
@@ -127,11 +136,14 @@ HasLockText why = Unit {0}
 -- the same of a refusal
 abbrev pub HasRefusalText : Refusal → Type 0
 HasRefusalText (Capsule cause) = IsFound capsule_failure cause
+HasRefusalText (Cert cause) = IsFound cert_failure cause
+HasRefusalText why = Unit {0}
 
--- a note's cause is no failed device, and its stage has a word
+-- a note's cause is no failed device, and its stage or type has a word
 abbrev pub HasText : What → Type 0
 HasText (Untrusted bank why) = IsFound active_failure why
 HasText (Locked bank why counts) = HasLockText why
+HasText (Cancelled type id) = IsSigning type
 HasText (Refused bank why) = HasRefusalText why
 HasText (Passed bank stage) = HasStageWord stage
 HasText what = Unit {0}

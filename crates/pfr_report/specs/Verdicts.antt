@@ -8,20 +8,13 @@ use Rattle.pfr_auth.specs.declared.areas.Area.{Area}
 use Rattle.pfr_auth.specs.declared.areas.Area.TheVariants.{Recovery, Staging}
 use Rattle.pfr_capsule.specs.Answer.{capsule_failure}
 use Rattle.pfr_capsule.specs.declared.fail.CapsuleFail.{CapsuleFail}
-use Rattle.pfr_jobs.specs.declared.job.JobKind.{JobKind}
-use Rattle.pfr_jobs.specs.declared.job.JobKind.TheVariants.{ActiveFromRecovery, ActiveFromStaging, RecoveryFromStaging}
 use Rattle.pfr_jobs.specs.declared.job.OpenJob.{OpenJob}
 use Rattle.pfr_jobs.specs.declared.job.OpenJob.TheVariants as job
-use Rattle.pfr_report.specs.Words.{rule_word, active_text, capsule_text}
+use Rattle.pfr_report.specs.Words.{rule_word, active_text, capsule_text, kind_word}
 use Rattle.pfr_report.specs.Texts.{bank_word}
 use Rattle.pfr_report.specs.declared.verdict.Standing.{Standing}
 use Rattle.pfr_report.specs.declared.verdict.Standing.TheVariants.{Unprovisioned, SlotsSpent, LayoutBad, Ready}
 use Rattle.pfr_report.specs.declared.verdict.BankVerdict.{BankVerdict}
-
-abbrev pub kind_word : JobKind → List ℕ
-kind_word (ActiveFromRecovery level) = codes "active-from-recovery"
-kind_word (ActiveFromStaging dynamic) = codes "active-from-staging"
-kind_word RecoveryFromStaging = codes "recovery-from-staging"
 
 abbrev pub job_word : OpenJob → List ℕ
 job_word job.None = codes "none"

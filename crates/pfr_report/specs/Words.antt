@@ -14,6 +14,12 @@ use Rattle.pfr_filter.specs.declared.verdict.BlockCause.TheVariants as block
 use Rattle.pfr_capsule.specs.Answer.{capsule_failure}
 use Rattle.pfr_capsule.specs.declared.fail.CapsuleFail.{CapsuleFail}
 use Rattle.pfr_capsule.specs.declared.fail.CapsuleFail.TheVariants as capsule
+use Rattle.pfr_cert.specs.declared.fail.CertFail.{CertFail}
+use Rattle.pfr_cert.specs.declared.fail.CertFail.TheVariants as cert
+use Rattle.pfr_flash.specs.declared.names.ContentType.{ContentType}
+use Rattle.pfr_flash.specs.declared.names.ContentType.TheVariants as type
+use Rattle.pfr_jobs.specs.declared.job.JobKind.{JobKind}
+use Rattle.pfr_jobs.specs.declared.job.JobKind.TheVariants as job
 use Rattle.pfr_auth.specs.Answer.{active_failure}
 use Rattle.pfr_auth.specs.declared.fail.ActiveFail.{ActiveFail}
 use Rattle.pfr_auth.specs.declared.fail.ActiveFail.TheVariants as active
@@ -159,6 +165,37 @@ capsule_number cause = None
 
 abbrev pub capsule_text : CapsuleFail → List ℕ
 capsule_text cause = capsule_kind cause ++ numbered (capsule_word cause) (capsule_number cause)
+
+-- the same of a certificate's cause, which names no number
+abbrev pub cert_kind : CertFail → List ℕ
+cert_kind (cert.Chain cause) = codes "chain:"
+cert_kind cause = []
+
+abbrev pub cert_word : CertFail → List ℕ
+cert_word (cert.Chain cause) = chain_word cause
+cert_word cert.Body = codes "body"
+cert_word cert.KeyId = codes "key-id"
+cert_word cert.OtherBank = codes "other-bank"
+cert_word cert.KeyInUse = codes "key-in-use"
+cert_word cert.AlreadyCancelled = codes "already-cancelled"
+cert_word (cert.Flash f) = []
+
+abbrev pub cert_text : CertFail → List ℕ
+cert_text cause = cert_kind cause ++ cert_word cause
+
+-- the word of a signing type; no key of another type is cancelled
+abbrev pub type_word : ContentType → List ℕ
+type_word type.PchManifest = codes "pch-manifest"
+type_word type.PchCapsule = codes "pch-capsule"
+type_word type.BmcManifest = codes "bmc-manifest"
+type_word type.BmcCapsule = codes "bmc-capsule"
+type_word type = []
+
+-- the word of a kind of jobs
+abbrev pub kind_word : JobKind → List ℕ
+kind_word (job.ActiveFromRecovery level) = codes "active-from-recovery"
+kind_word (job.ActiveFromStaging dynamic) = codes "active-from-staging"
+kind_word job.RecoveryFromStaging = codes "recovery-from-staging"
 
 -- both causes of a bank without a good image are such
 pub record AreFound (active : ActiveFail) (recovery : CapsuleFail) : Type 0 where

@@ -1,13 +1,18 @@
 // The words of causes.
 ghost use Rattle.std.specs.Prelude.{◌≡◌, None, Some};
-ghost use Rattle.pfr_report.specs.Words.{block_word, chain_word, manifest_number, manifest_word, rule_word, smbus_word};
+ghost use Rattle.pfr_report.specs.Words.{block_word, cert_kind, cert_word, chain_word, kind_word, manifest_number, manifest_word, rule_word, smbus_word, type_word};
 ghost use Rattle.pfr_chain.specs.Answer.{chain_failure};
+ghost use Rattle.pfr_cert.specs.Answer.{cert_failure};
+ghost use Rattle.pfr_flash.specs.Answer.{IsFound};
+ghost use Rattle.pfr_fuses.specs.FuseMap.{IsSigning};
 ghost use Rattle.pfr_report.specs.Texts.{bank_word, lock_word, lost_word, op_word, provision_word, stage_word, HasStageWord, HasWord};
 
 use crate::note::{LockWhy, ProvisionWhy};
+use pfr_cert::CertFail;
 use pfr_chain::ChainFail;
 use pfr_filter::{BlockCause, BusOp};
-use pfr_flash::{Bank, Device, LayoutRule};
+use pfr_flash::{Bank, ContentType, Device, LayoutRule};
+use pfr_jobs::JobKind;
 use pfr_manifest::ManifestFail;
 use pfr_smbus::SmbusCause;
 use pfr_watch::Stage;
@@ -98,6 +103,57 @@ pub fn stage_word(stage: Stage) -> &'static [u8]
         Stage::Acm => b"acm",
         Stage::Ibb => b"ibb",
         Stage::Bmc | Stage::Obb | Stage::Done => unreachable!(),
+    }
+}
+
+/// The word of a kind of jobs.
+pub fn kind_word(kind: JobKind) -> &'static [u8]
+    ensures { result.now ≡ kind_word kind }
+{
+    match kind {
+        JobKind::ActiveFromRecovery { .. } => b"active-from-recovery",
+        JobKind::ActiveFromStaging { .. } => b"active-from-staging",
+        JobKind::RecoveryFromStaging => b"recovery-from-staging",
+    }
+}
+
+/// The word of a signing type.
+pub fn type_word(ty: ContentType) -> &'static [u8]
+    requires { IsSigning ty }
+    ensures { result.now ≡ type_word ty }
+{
+    match ty {
+        ContentType::PchManifest => b"pch-manifest",
+        ContentType::PchCapsule => b"pch-capsule",
+        ContentType::BmcManifest => b"bmc-manifest",
+        ContentType::BmcCapsule => b"bmc-capsule",
+        _ => unreachable!(),
+    }
+}
+
+/// What is before the word of a certificate's cause.
+pub fn cert_kind(cause: CertFail) -> &'static [u8]
+    ensures { result.now ≡ cert_kind cause }
+{
+    match cause {
+        CertFail::Chain(_) => b"chain:",
+        _ => b"",
+    }
+}
+
+/// The word of a certificate's cause, which is no failed device.
+pub fn cert_word(cause: CertFail) -> &'static [u8]
+    requires { IsFound cert_failure cause }
+    ensures { result.now ≡ cert_word cause }
+{
+    match cause {
+        CertFail::Chain(cause) => chain_word(cause),
+        CertFail::Body => b"body",
+        CertFail::KeyId => b"key-id",
+        CertFail::OtherBank => b"other-bank",
+        CertFail::KeyInUse => b"key-in-use",
+        CertFail::AlreadyCancelled => b"already-cancelled",
+        CertFail::Flash(_) => unreachable!(),
     }
 }
 

@@ -4,20 +4,24 @@ ghost use Rattle.pfr_flash.specs.Answer.{IsFound};
 ghost use Rattle.pfr_auth.specs.Answer.{active_failure};
 ghost use Rattle.pfr_shelf.specs.Pieces.{Writes};
 ghost use Rattle.pfr_capsule.specs.Answer.{capsule_failure};
-ghost use Rattle.pfr_report.specs.Words.{active_text, block_text, capsule_text, AreFound};
+ghost use Rattle.pfr_cert.specs.Answer.{cert_failure};
+ghost use Rattle.pfr_fuses.specs.FuseMap.{IsSigning};
+ghost use Rattle.pfr_report.specs.Words.{active_text, block_text, capsule_text, cert_text, kind_word, type_word, AreFound};
 ghost use Rattle.pfr_report.specs.Texts.{bank_word, lock_word, note_text, refusal_text, update_word, HasLockText, HasRefusalText, HasText};
 ghost use Rattle.pfr_report.specs.declared.note.LockWhy.TheVariants.{NoGoodImage};
 
 use crate::cause::{active_cause, block_cause, capsule_cause};
 use crate::cause_words::{
-    bank_word, lock_word, lost_word, op_word, provision_word, smbus_word, stage_word,
+    bank_word, cert_kind, cert_word, kind_word, lock_word, lost_word, op_word, provision_word,
+    smbus_word, stage_word, type_word,
 };
 use crate::note::{LockWhy, Note, Refusal, What};
 use itoa::Buffer;
 use pfr_auth::ActiveFail;
 use pfr_capsule::CapsuleFail;
+use pfr_cert::CertFail;
 use pfr_filter::BlockCause;
-use pfr_flash::Bank;
+use pfr_flash::{Bank, ContentType};
 use pfr_shelf::{Sink, SinkFail, write_pieces};
 
 // The line of words alone.
@@ -192,6 +196,46 @@ fn write_locked<K: Sink>(item: u32, bank: Bank, why: LockWhy, out: &mut K) -> Re
     }
 }
 
+// The line of a bank whose update by a certificate is refused.
+fn write_cert_refused<K: Sink>(
+    item: u32,
+    bank: Bank,
+    why: CertFail,
+    out: &mut K,
+) -> Result<(), SinkFail>
+    requires { IsFound cert_failure why }
+    ensures { Writes K.tells K.written K.faults out.old out.new
+        (decimal item ++ (codes " " ++ ((bank_word bank ++ (codes " refused " ++ cert_text why)) ++ codes "\n"))) result }
+{
+    let mut buffer = Buffer::new();
+    let item = buffer.format(item).as_bytes();
+    write_pieces(
+        out,
+        &[
+            item,
+            b" ",
+            bank_word(bank),
+            b" refused ",
+            cert_kind(why),
+            cert_word(why),
+            b"\n",
+        ],
+    )
+}
+
+// The line of a key that was cancelled.
+fn write_cancelled<K: Sink>(item: u32, ty: ContentType, id: u8, out: &mut K) -> Result<(), SinkFail>
+    requires { IsSigning ty }
+    ensures { Writes K.tells K.written K.faults out.old out.new
+        (decimal item ++ (codes " " ++ ((codes "cancelled " ++ (type_word ty ++ (codes " " ++ decimal id))) ++ codes "\n"))) result }
+{
+    let mut item_buffer = Buffer::new();
+    let item = item_buffer.format(item).as_bytes();
+    let mut buffer = Buffer::new();
+    let id = buffer.format(id).as_bytes();
+    write_pieces(out, &[item, b" cancelled ", type_word(ty), b" ", id, b"\n"])
+}
+
 // The line of a bank whose update is refused.
 fn write_refused<K: Sink>(item: u32, bank: Bank, why: Refusal, out: &mut K) -> Result<(), SinkFail>
     requires { HasRefusalText why }
@@ -200,6 +244,9 @@ fn write_refused<K: Sink>(item: u32, bank: Bank, why: Refusal, out: &mut K) -> R
 {
     match why {
         Refusal::Capsule(cause) => write_capsule_cause(item, bank, b" refused ", cause, out),
+        Refusal::Cert(cause) => write_cert_refused(item, bank, cause, out),
+        Refusal::ManifestDiffers => write_bank(item, bank, b" refused ", b"manifest-differs", out),
+        Refusal::JobsSpent => write_bank(item, bank, b" refused ", b"jobs-spent", out),
     }
 }
 
@@ -267,10 +314,18 @@ pub fn write_note<K: Sink>(note: &Note, out: &mut K) -> Result<(), SinkFail>
         What::Locked { bank, why, .. } => write_locked(item, bank, why, out),
         What::Lost { device, .. } => write_words(item, b"lost", lost_word(device), out),
         What::Untrusted { bank, why } => write_untrusted(item, bank, why, out),
+        What::Resumed { bank, kind } => {
+            write_bank(item, bank, b" resumed ", kind_word(kind), out)
+        }
+        What::Abandoned { bank } => write_bank(item, bank, b" job abandoned", b"", out),
         What::Restored { bank, level } => {
             write_number(item, bank, b" restored level ", level, out)
         }
         What::Updated { bank, dynamic, svn } => write_updated(item, bank, dynamic, svn, out),
+        What::RecoveryUpdated { bank, svn } => {
+            write_number(item, bank, b" recovery updated svn ", svn, out)
+        }
+        What::Cancelled { ty, id } => write_cancelled(item, ty, id, out),
         What::Refused { bank, why } => write_refused(item, bank, why, out),
         What::Expired { bank, level } => write_number(item, bank, b" watchdog ", level, out),
         What::Passed { bank, stage } => {

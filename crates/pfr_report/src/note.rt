@@ -2,8 +2,10 @@
 
 use pfr_auth::ActiveFail;
 use pfr_capsule::CapsuleFail;
+use pfr_cert::CertFail;
 use pfr_filter::{BlockCause, BusOp};
-use pfr_flash::{Bank, Counts, Device, LayoutRule};
+use pfr_flash::{Bank, ContentType, Counts, Device, LayoutRule};
+use pfr_jobs::JobKind;
 use pfr_smbus::SmbusCause;
 use pfr_watch::Stage;
 
@@ -44,6 +46,12 @@ pub enum ProvisionWhy {
 pub enum Refusal {
     /// What is in the staging area is no good image.
     Capsule(CapsuleFail),
+    /// What is in the staging area is no certificate for the bank, or its key can't be cancelled.
+    Cert(CertFail),
+    /// The image in the staging area has another manifest than the active one.
+    ManifestDiffers,
+    /// The bank's log has no room for another job.
+    JobsSpent,
 }
 
 /// What happened. Counts are those of the operations done on each device up to that moment.
@@ -79,6 +87,15 @@ pub enum What {
         bank: Bank,
         why: ActiveFail,
     },
+    /// A job of this kind that the bank's log had open goes on.
+    Resumed {
+        bank: Bank,
+        kind: JobKind,
+    },
+    /// The job that the bank's log had open was given up: its capsule isn't there.
+    Abandoned {
+        bank: Bank,
+    },
     /// The bank's active image was restored from the capsule in the recovery area, at this level of recovery, 1 to 3.
     Restored {
         bank: Bank,
@@ -91,7 +108,17 @@ pub enum What {
         dynamic: bool,
         svn: u8,
     },
-    /// An update of the bank was refused, and its active image is as it was.
+    /// The bank's recovery area was updated from the capsule in the staging area, whose security version number this is.
+    RecoveryUpdated {
+        bank: Bank,
+        svn: u8,
+    },
+    /// The key of this id was cancelled: it signs no more of this type.
+    Cancelled {
+        ty: ContentType,
+        id: u8,
+    },
+    /// An update of the bank was refused, and its images are as they were.
     Refused {
         bank: Bank,
         why: Refusal,

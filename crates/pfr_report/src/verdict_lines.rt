@@ -5,27 +5,17 @@ ghost use Rattle.pfr_auth.specs.Answer.{active_failure};
 ghost use Rattle.pfr_shelf.specs.Pieces.{Writes};
 ghost use Rattle.pfr_capsule.specs.Answer.{capsule_failure};
 ghost use Rattle.pfr_report.specs.Words.{active_text, capsule_text, rule_word};
-ghost use Rattle.pfr_report.specs.Verdicts.{area_text, area_word, image_text, job_word, judged_lines, kind_word, line, verdict_text, yes_or_no, HasCauses};
+ghost use Rattle.pfr_report.specs.Verdicts.{area_text, area_word, image_text, job_word, judged_lines, line, verdict_text, yes_or_no, HasCauses};
 
 use crate::cause::{active_cause, capsule_cause};
-use crate::cause_words::{bank_word, rule_word};
+use crate::cause_words::{bank_word, kind_word, rule_word};
 use crate::verdict::{BankVerdict, Standing};
 use itoa::Buffer;
 use pfr_auth::{ActiveFail, Area};
 use pfr_capsule::CapsuleFail;
 use pfr_flash::Bank;
-use pfr_jobs::{JobKind, OpenJob};
+use pfr_jobs::OpenJob;
 use pfr_shelf::{Sink, SinkFail, write_pieces};
-
-fn kind_word(kind: JobKind) -> &'static [u8]
-    ensures { result.now ≡ kind_word kind }
-{
-    match kind {
-        JobKind::ActiveFromRecovery { .. } => b"active-from-recovery",
-        JobKind::ActiveFromStaging { .. } => b"active-from-staging",
-        JobKind::RecoveryFromStaging => b"recovery-from-staging",
-    }
-}
 
 fn job_word(job: OpenJob) -> &'static [u8]
     ensures { result.now ≡ job_word job }

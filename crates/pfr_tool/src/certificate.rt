@@ -1,7 +1,9 @@
 // Certificates, which cancel keys.
 ghost use Rattle.std.specs.Prelude.{◌≡◌, vec_len, IfOk};
 ghost use Rattle.pfr_fuses.specs.FuseMap.{IsSigning};
-ghost use Rattle.pfr_made.specs.Certificates.{cancelling, certificate_body, certificate_bytes, certificate_row};
+ghost use Rattle.pfr_cert.specs.Certificate.{cancelling};
+ghost use Rattle.pfr_made.specs.Certificates.{certificate_body, certificate_bytes, certificate_row};
+ghost use Rattle.pfr_made.specs.Trust.{IsWorthyCert};
 
 use crate::block::sign_by_root;
 use crate::writing::{pad, push_number};
@@ -44,6 +46,7 @@ fn certificate_body(alloc: Global, id: u8) -> Result<Vec<u8>, NoMemory>
 }
 
 /// Makes the certificate that cancels the key of this id for a signing type.
+#[tactic(auto, using(pfr_made::proofs::CertMade::worthy_cert))]
 pub fn make_cert(
     alloc: Global,
     desc: &Description,
@@ -53,7 +56,11 @@ pub fn make_cert(
     requires { IsSigning ty }
     ensures cert { IfOk result (λ made. made.cert ≡ certificate_bytes desc.now ty id) }
     ensures rows { IfOk result (λ made. made.rows ≡ certificate_row desc.now ty id) }
+
+    // With the store of the same description the bank of the type takes it, for any engine that accepts the row.
+    ensures worth { IfOk result (λ made. IsWorthyCert desc.now ty id made.cert made.rows) }
 {
+    desc.sound();
     let body = certificate_body(alloc, id)?;
     let signed = sign_by_root(alloc, desc, cancelling(ty), &body)?;
     Ok(MadeCert {
