@@ -46,3 +46,4 @@ pub mod UpdateLaws
 pub mod RunLaws
 pub mod KeepingLaws
 pub mod TrustedRunLaws
+pub mod JobSafety
