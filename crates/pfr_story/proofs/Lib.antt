@@ -47,3 +47,4 @@ pub mod RunLaws
 pub mod KeepingLaws
 pub mod TrustedRunLaws
 pub mod JobSafety
+pub mod JobSafetyPasses
