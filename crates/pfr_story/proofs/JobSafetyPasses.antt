@@ -227,7 +227,7 @@ pub mark_torn : (image : List ℕ) (at : ℕ) (op done : Operation) → IsMarkAt
 mark_torn image at op done m same = record { slot = m.slot; group = m.group; few = m.few; small = m.small; place = same.0 ∙ m.place; one = same.1 ∙ m.one }
 
 module _ (b : Bank) (from len : ℕ) where
-  one_passed : (deed : Deed) (story : Story) → length (store story) ≡ 32768 → IsWork from len (current_at (store story) b) deed → IsPassed b from len story (moved_by (deed_move b deed) story)
+  pub one_passed : (deed : Deed) (story : Story) → length (store story) ≡ 32768 → IsWork from len (current_at (store story) b) deed → IsPassed b from len story (moved_by (deed_move b deed) story)
   one_passed (Asks which) story size work = record { kept = kept_refl b story; still = refl; current = refl; left = λ inside. refl }
   one_passed (Does side.Bank op) story size work =
       let same : store (operated (device_of b) op story) ≡ store story = store_operated b op story in

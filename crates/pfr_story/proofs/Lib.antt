@@ -48,3 +48,5 @@ pub mod KeepingLaws
 pub mod TrustedRunLaws
 pub mod JobSafety
 pub mod JobSafetyPasses
+pub mod JobSafetyOther
+pub mod JobSafetyActive
