@@ -50,3 +50,4 @@ pub mod JobSafety
 pub mod JobSafetyPasses
 pub mod JobSafetyOther
 pub mod JobSafetyActive
+pub mod JobSafetyRaise
