@@ -51,3 +51,4 @@ pub mod JobSafetyPasses
 pub mod JobSafetyOther
 pub mod JobSafetyActive
 pub mod JobSafetyRaise
+pub mod JobSafetyRecovery
