@@ -49,7 +49,7 @@ use Rattle.pfr_story.proofs.JobSafetyOther.{KeepsBoth, safe_both, other_deeds}
 use Rattle.pfr_story.proofs.JobSafetyActive.{LeadsAt, leads_from, leads_at, IsBegun, begun_at}
 use Rattle.pfr_story.proofs.JobSafetyRaise.{IsRecovered, concluded_leads}
 
-abbrev found_ok : CapsuleState → Result CapsuleState CapsuleFail
+abbrev pub found_ok : CapsuleState → Result CapsuleState CapsuleFail
 found_ok x = Ok x
 
 pub one_capsule : (x y : CapsuleState) → found_ok x ≡ found_ok y → x ≡ y

@@ -52,3 +52,4 @@ pub mod JobSafetyOther
 pub mod JobSafetyActive
 pub mod JobSafetyRaise
 pub mod JobSafetyRecovery
+pub mod JobSafetyResumed
