@@ -53,3 +53,4 @@ pub mod JobSafetyActive
 pub mod JobSafetyRaise
 pub mod JobSafetyRecovery
 pub mod JobSafetyResumed
+pub mod JobSafetyCancelled
