@@ -254,7 +254,7 @@ module _ (accepts : Acceptance) (b : Bank) (fuses : FusesState) where
       pub unspent : is_spent (store story) b ≡ false
       pub judged : judged_staging accepts b fuses story ≡ Ok capsule
 
-    begun_staged : (story : Story) → IsStagedNext story → LeadsAt (KeepsBoth accepts b) (begun_job b RecoveryFromStaging capsule.digest story) (IsStaged capsule.length capsule.digest) story
+    pub begun_staged : (story : Story) → IsStagedNext story → LeadsAt (KeepsBoth accepts b) (begun_job b RecoveryFromStaging capsule.digest story) (IsStaged capsule.length capsule.digest) story
     begun_staged story p =
         let h = p.jobless.holds in
         let g = found_staged accepts b fuses capsule story h.provisioned h.layout h.bytes p.judged in

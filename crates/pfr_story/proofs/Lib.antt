@@ -54,3 +54,4 @@ pub mod JobSafetyRaise
 pub mod JobSafetyRecovery
 pub mod JobSafetyResumed
 pub mod JobSafetyCancelled
+pub mod JobSafetyLaws
