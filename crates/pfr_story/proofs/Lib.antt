@@ -48,3 +48,12 @@ pub mod UpdateLaws
 pub mod RunLaws
 pub mod KeepingLaws
 pub mod TrustedRunLaws
+pub mod JobSafety
+pub mod JobSafetyPasses
+pub mod JobSafetyOther
+pub mod JobSafetyActive
+pub mod JobSafetyRaise
+pub mod JobSafetyRecovery
+pub mod JobSafetyResumed
+pub mod JobSafetyCancelled
+pub mod JobSafetyLaws
