@@ -46,3 +46,5 @@ pub mod UpdateLaws
 pub mod RunLaws
 pub mod KeepingLaws
 pub mod TrustedRunLaws
+pub mod JobEnds
+pub mod JobFresh
