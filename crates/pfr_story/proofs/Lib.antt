@@ -48,3 +48,4 @@ pub mod KeepingLaws
 pub mod TrustedRunLaws
 pub mod JobEnds
 pub mod JobFresh
+pub mod JobSteps
