@@ -49,3 +49,5 @@ pub mod TrustedRunLaws
 pub mod JobEnds
 pub mod JobFresh
 pub mod JobSteps
+pub mod JobPages
+pub mod JobDone
