@@ -51,3 +51,5 @@ pub mod JobFresh
 pub mod JobSteps
 pub mod JobPages
 pub mod JobDone
+pub mod JobRaise
+pub mod JobRecovery
