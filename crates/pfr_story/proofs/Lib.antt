@@ -53,3 +53,5 @@ pub mod JobPages
 pub mod JobDone
 pub mod JobRaise
 pub mod JobRecovery
+pub mod JobCounts
+pub mod JobRecoveryWork
