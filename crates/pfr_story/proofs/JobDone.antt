@@ -27,7 +27,7 @@ use Rattle.pfr_jobs.specs.declared.job.OpenJob.TheVariants as job
 use Rattle.pfr_jobs.proofs.SlotLaw.{IsDigest}
 use Rattle.pfr_strokes.specs.Replaced.{replaced}
 use Rattle.pfr_strokes.specs.Strokes.{strokes_of}
-use Rattle.pfr_strokes.proofs.ReplacedLaws.{IsOneOf}
+use Rattle.pfr_strokes.proofs.ReplacedLaws.{AllCan, IsOneOf}
 use Rattle.pfr_rebuilt.specs.ActiveCopying.{active_page, active_pages, active_rebuilt}
 use Rattle.pfr_rebuilt.specs.Passing.{group_pages, left_pages}
 use Rattle.pfr_recoverable.proofs.CutLaw.{good_with}
@@ -43,7 +43,7 @@ use Rattle.pfr_story.proofs.SafetyLaws.{image_noted, image_called}
 use Rattle.pfr_story.proofs.AnewLaws.{MadeFrom}
 use Rattle.pfr_story.proofs.JobEnds.{left_one, left_all, group_small}
 use Rattle.pfr_story.proofs.JobFresh.{takes_job, begin_fresh}
-use Rattle.pfr_story.proofs.JobPages.{active_replaced}
+use Rattle.pfr_story.proofs.JobPages.{replaced_bytes, active_can, active_replaced}
 use Rattle.pfr_story.proofs.JobSteps.{StandsSo, stands_then, begun_stands, finished_stands, worked_stands, written_stands, active_below}
 
 -- ---- a note, and the end of a job
@@ -95,6 +95,11 @@ module _ (accepts : Acceptance) (b : Bank) (kind : JobKind) (fuses : FusesState)
       subst (λ (c : CapsuleState). (list : List ℕ) → ((n : ℕ) → IsOneOf n list → IsOneOf n (active_pages kind image c layout)) → play image (strokes_of (active_page image c layout) list) ≡ replaced image (active_page image c layout) list) from.capsule_is
       (active_replaced kind image (store story) from.place from.len b accepts from.good from.size.blocks from.size.most from.inside from.bytes layout)
 
+  can : (list : List ℕ) → ((n : ℕ) → IsOneOf n list → IsOneOf n (active_pages kind image capsule layout)) → AllCan (length image) (active_page image capsule layout) list
+  can =
+      subst (λ (c : CapsuleState). (list : List ℕ) → ((n : ℕ) → IsOneOf n list → IsOneOf n (active_pages kind image c layout)) → AllCan (length image) (active_page image c layout) list) from.capsule_is
+      (active_can kind image (store story) from.place from.len b accepts from.good from.size.blocks from.size.most from.inside from.bytes layout)
+
   pub worked_replaced : StandsSo b (open_job (store story) b) (active_resumed kind b image (store story) capsule layout) story (after (worked b kind fuses capsule story) story)
   worked_replaced =
       let pages : List ℕ = active_pages kind image capsule layout in
@@ -107,6 +112,12 @@ module _ (accepts : Acceptance) (b : Bank) (kind : JobKind) (fuses : FusesState)
       let pages : List ℕ = active_pages kind image capsule layout in
       stands_as b (open_job (store story) b) (open_job (store story) b) (play image (strokes_of (active_page image capsule layout) pages)) (active_rebuilt kind image capsule layout) story
       (after (written_over b kind fuses capsule story) story) refl (played pages (λ n one. one)) (written_stands b fuses capsule story size kind)
+
+  pub resumed_bytes : AreBytes (active_resumed kind b image (store story) capsule layout)
+  resumed_bytes =
+      let pages : List ℕ = active_pages kind image capsule layout in
+      replaced_bytes (length image) image (active_page image capsule layout) (left_pages (is_marked (store story) b) (group_pages (length image)) pages) from.bytes
+      (can (left_pages (is_marked (store story) b) (group_pages (length image)) pages) (λ n one. left_one (is_marked (store story) b) (group_pages (length image)) pages n one))
 
   -- where none of its groups is marked, that is the whole image
   pub unmarked_whole : ((group : ℕ) → group < 128 → is_marked (store story) b group ≡ false) → active_resumed kind b image (store story) capsule layout ≡ active_rebuilt kind image capsule layout

@@ -1,5 +1,6 @@
 -- Where the whole work on a recovery job leads, and in how many operations.
 use Rattle.std.proofs.Common.{◌≡◌, ◌∙◌, ℕ, ◌+◌, ◌*◌, ◌/◌, ◌%◌, ◌≤◌, ◌<◌, refl, sym, ap, subst, arith, Bool, true, false, if◌then◌else◌, List, [], ◌∷◌, ◌++◌, length, Result, Ok, Err}
+use Rattle.pfr_flash.specs.Bytes.{AreBytes}
 use Rattle.pfr_flash.specs.declared.layout.Layout.{Layout}
 use Rattle.pfr_flash.specs.declared.names.Bank.{Bank}
 use Rattle.pfr_flash.specs.declared.names.Device.TheVariants as device
@@ -45,6 +46,8 @@ pub record IsUpdated (accepts : Acceptance) (b : Bank) (fuses : FusesState) (cap
   pub digest : found.digest ≡ capsule.digest
   pub judged : judged_recovery accepts b fuses new ≡ Ok found
   pub image : mine b new ≡ recovery_done accepts b (mine b old) (store old) fuses capsule
+  pub long : length (mine b new) ≡ length (mine b old)
+  pub bytes : AreBytes (mine b new)
   pub other : mine (other_bank b) new ≡ mine (other_bank b) old
   pub size : length (store new) ≡ 32768
   pub fuses_say : fuses_of (store new) ≡ Ok (raised fuses b found.manifest.svn)
@@ -90,6 +93,11 @@ module _ (given_up : What) (told : ℕ → What) (accepts : Acceptance) (b : Ban
   two_stands : StandsSo b (open_job (store once) b) (recovery_rebuilt (mine b once) layout.staging_at capsule.length layout) once twice
   two_stands = second_stands accepts b fuses capsule once one_staged
 
+  two_long : length (mine b twice) ≡ length (mine b once)
+  two_long =
+      ap (λ (bytes : List ℕ). length bytes) two_stands.bank
+      ∙ length-replaced (mine b once) (recovery_page (mine b once) layout.staging_at capsule.length layout) _
+
   two_staged : IsStaged accepts b fuses capsule twice
   two_staged = second_staged accepts b fuses capsule once one_staged
 
@@ -104,9 +112,9 @@ module _ (given_up : What) (told : ℕ → What) (accepts : Acceptance) (b : Ban
 
   -- from where the capsule of the job was found
   concluded_from : (found : CapsuleState) (there : Story) → IsStaged accepts b fuses capsule there → (open_job (store there) b ≡ job.None → ⊥) → judged_recovery accepts b fuses there ≡ Ok found → found.digest ≡ capsule.digest
-      → mine b there ≡ recovery_done accepts b (mine b story) (store story) fuses capsule → mine (other_bank b) there ≡ mine (other_bank b) story → done_on b there ≤ done_on b story + 34 * pages
+      → mine b there ≡ recovery_done accepts b (mine b story) (store story) fuses capsule → mine (other_bank b) there ≡ mine (other_bank b) story → length (mine b there) ≡ length (mine b story) → done_on b there ≤ done_on b story + 34 * pages
       → Ends (after (concluded told b fuses found there) there)
-  concluded_from found there at_work still_open j same image other few =
+  concluded_from found there at_work still_open j same image other long few =
       let f = judged_found accepts b fuses capsule found there at_work j in
       let c : IsConcluded accepts b fuses found.manifest.svn there (after (concluded told b fuses found there) there) =
       concluded_ends accepts told b fuses found there at_work.store_size at_work.provisioned two still_open f.area f.capsule_is in
@@ -116,6 +124,8 @@ module _ (given_up : What) (told : ℕ → What) (accepts : Acceptance) (b : Ban
         digest = same;
         judged = ap (λ (bytes : List ℕ). judge_area Recovery b bytes fuses accepts) c.bank ∙ j;
         image = c.bank ∙ image;
+        long = ap (λ (bytes : List ℕ). length bytes) c.bank ∙ long;
+        bytes = subst AreBytes (sym c.bank) at_work.bytes;
         other = c.other ∙ other;
         size = c.size;
         fuses_say = c.fuses_say;
@@ -132,7 +142,7 @@ module _ (given_up : What) (told : ℕ → What) (accepts : Acceptance) (b : Ban
       two_stands.bank ∙ ap (λ (bytes : List ℕ). recovery_rebuilt bytes layout.staging_at capsule.length layout) one.bank
       ∙ sym (ap (λ (t : Bool). if t then once_image else recovery_rebuilt once_image layout.staging_at capsule.length layout) missing) in
       let ends : Ends (after (concluded told b fuses copied.found twice) twice) =
-      concluded_from copied.found twice two_staged (λ e. one_open (sym two_stands.logged.opened ∙ e)) copied.judged copied.same image (two_stands.other ∙ one.other) two_few in
+      concluded_from copied.found twice two_staged (λ e. one_open (sym two_stands.logged.opened ∙ e)) copied.judged copied.same image (two_stands.other ∙ one.other) (two_long ∙ one_long) two_few in
       subst (λ (s : Story). Ends s) (sym (after-append (copied_again b fuses capsule once) (asks b twice ++ by_second_pass given_up told b fuses (judged_recovery accepts b fuses twice) twice) once))
       (subst (λ (r : Result CapsuleState CapsuleFail). Ends (after (by_second_pass given_up told b fuses r twice) twice)) (sym copied.judged) ends)
 
@@ -149,7 +159,7 @@ module _ (given_up : What) (told : ℕ → What) (accepts : Acceptance) (b : Ban
       by_same true f =
           let image : mine b once ≡ recovery_done accepts b (mine b story) (store story) fuses capsule =
           one.bank ∙ sym (ap (λ (t : Bool). if t then once_image else recovery_rebuilt once_image layout.staging_at capsule.length layout) (found_once (Ok found) e ∙ f)) in
-          concluded_from found once one_staged one_open e (digests_same found.digest capsule.digest f) image one.other (omega (arith, one_few))
+          concluded_from found once one_staged one_open e (digests_same found.digest capsule.digest f) image one.other one_long (omega (arith, one_few))
 
   -- Work on a recovery job always ends so: it is never given up.
   pub recovery_work_ends : IsUpdated accepts b fuses capsule story (after (recovery_work given_up told accepts b fuses capsule story) story)

@@ -55,3 +55,4 @@ pub mod JobRaise
 pub mod JobRecovery
 pub mod JobCounts
 pub mod JobRecoveryWork
+pub mod JobResumed

@@ -9,13 +9,17 @@ use Rattle.pfr_capsule.specs.CapsuleState.{CapsuleState}
 use Rattle.pfr_capsule.specs.declared.fail.CapsuleFail.{CapsuleFail}
 use Rattle.pfr_auth.specs.Areas.{judge_area}
 use Rattle.pfr_auth.specs.declared.areas.Area.TheVariants.{Recovery}
+use Rattle.pfr_jobs.specs.Log.{open_job}
 use Rattle.pfr_jobs.specs.LogState.{is_marked}
 use Rattle.pfr_jobs.specs.declared.job.JobKind.{JobKind}
+use Rattle.pfr_jobs.specs.declared.job.JobKind.TheVariants.{ActiveFromRecovery, ActiveFromStaging, RecoveryFromStaging}
+use Rattle.pfr_jobs.specs.declared.job.OpenJob.{OpenJob}
+use Rattle.pfr_jobs.specs.declared.job.OpenJob.TheVariants as job
 use Rattle.pfr_strokes.specs.Replaced.{replaced}
 use Rattle.pfr_rebuilt.specs.ActiveCopying.{active_page, active_pages}
 use Rattle.pfr_rebuilt.specs.Copying.{recovery_page, recovery_pages, recovery_rebuilt}
 use Rattle.pfr_rebuilt.specs.Passing.{group_pages, left_pages}
-use Rattle.pfr_story.specs.JobPlans.{same_digest}
+use Rattle.pfr_story.specs.JobPlans.{same_digest, source_of}
 
 -- an active job: each page whose group isn't marked holds what the capsule gives for it
 abbrev pub active_resumed : JobKind → Bank → List ℕ → List ℕ → CapsuleState → Layout → List ℕ
@@ -40,3 +44,24 @@ recovery_redone accepts bank once fuses capsule =
 
 abbrev pub recovery_done : Acceptance → Bank → List ℕ → List ℕ → FusesState → CapsuleState → List ℕ
 recovery_done accepts bank image nv fuses capsule = recovery_redone accepts bank (recovery_resumed bank image nv capsule.length (layout_of fuses.provision bank)) fuses capsule
+
+-- ---- a job that is open
+-- done with this capsule
+abbrev pub image_worked : Acceptance → Bank → List ℕ → List ℕ → FusesState → CapsuleState → JobKind → List ℕ
+image_worked accepts bank image nv fuses capsule (ActiveFromRecovery level) = active_resumed (ActiveFromRecovery level) bank image nv capsule (layout_of fuses.provision bank)
+image_worked accepts bank image nv fuses capsule (ActiveFromStaging dynamic) = active_resumed (ActiveFromStaging dynamic) bank image nv capsule (layout_of fuses.provision bank)
+image_worked accepts bank image nv fuses capsule RecoveryFromStaging = recovery_done accepts bank image nv fuses capsule
+
+-- where its capsule stands in its source area, and else nothing is done
+abbrev pub image_from : Acceptance → Bank → List ℕ → List ℕ → FusesState → JobKind → List ℕ → Result CapsuleState CapsuleFail → List ℕ
+image_from accepts bank image nv fuses kind digest (Ok capsule) = if same_digest capsule.digest digest then image_worked accepts bank image nv fuses capsule kind else image
+image_from accepts bank image nv fuses kind digest (Err cause) = image
+
+abbrev pub image_by : Acceptance → Bank → List ℕ → List ℕ → FusesState → OpenJob → List ℕ
+image_by accepts bank image nv fuses job.None = image
+image_by accepts bank image nv fuses job.Bad = image
+image_by accepts bank image nv fuses (job.Job kind digest) = image_from accepts bank image nv fuses kind digest (judge_area (source_of kind) bank image fuses accepts)
+
+-- The bank once the job that is open was resumed or given up.
+abbrev pub image_resumed : Acceptance → Bank → List ℕ → List ℕ → FusesState → List ℕ
+image_resumed accepts bank image nv fuses = image_by accepts bank image nv fuses (open_job nv bank)
