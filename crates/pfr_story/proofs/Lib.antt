@@ -56,3 +56,4 @@ pub mod JobRecovery
 pub mod JobCounts
 pub mod JobRecoveryWork
 pub mod JobResumed
+pub mod JobTail
