@@ -57,3 +57,4 @@ pub mod JobCounts
 pub mod JobRecoveryWork
 pub mod JobResumed
 pub mod JobTail
+pub mod JobPower
