@@ -58,3 +58,4 @@ pub mod JobRecoveryWork
 pub mod JobResumed
 pub mod JobTail
 pub mod JobPower
+pub mod JobRecoveryBegun
