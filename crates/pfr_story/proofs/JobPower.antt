@@ -32,7 +32,7 @@ use Rattle.pfr_story.specs.Safety.{AllSafe}
 use Rattle.pfr_story.specs.Recovery.{KeepsRecoverable}
 use Rattle.pfr_story.specs.Plans.{mine, store, job_ops, copied, restored}
 use Rattle.pfr_story.specs.JobPlans.{begun_job, finished_job, worked, written_over, done_with, by_log, with_job, JobNotes, resumed}
-use Rattle.pfr_story.specs.JobContents.{image_resumed}
+use Rattle.pfr_story.specs.JobContents.{image_resumed, fuses_resumed}
 use Rattle.pfr_story.proofs.Sequence.{after-append}
 use Rattle.pfr_story.proofs.SafetyLaws.{past_called, safe_whole, kept_by}
 use Rattle.pfr_story.proofs.RecoverableLaws.{true_kept}
@@ -126,7 +126,10 @@ module _ (notes : JobNotes) (accepts : Acceptance) (b : Bank) (fuses : FusesStat
   abbrev there : Story
   there = after (resumed notes accepts b fuses story) story
 
-  pub resumed_so : IsResumedTo b fuses (image_resumed accepts b (mine b story) (store story) fuses) story (after (resumed notes accepts b fuses story) story)
+  abbrev later : FusesState
+  later = fuses_resumed accepts b (mine b story) (store story) fuses
+
+  pub resumed_so : IsResumedTo b fuses (image_resumed accepts b (mine b story) (store story) fuses) (fuses_resumed accepts b (mine b story) (store story) fuses) story (after (resumed notes accepts b fuses story) story)
   resumed_so = resumed_ends notes accepts b fuses story h
 
   -- nothing is open then, so the recovery area is good
@@ -143,22 +146,22 @@ module _ (notes : JobNotes) (accepts : Acceptance) (b : Bank) (fuses : FusesStat
   long = ap (λ (image : List ℕ). length image) resumed_so.bank ∙ resumed_so.long
 
   power_few : (end : Story) → IsFew b fuses story there
-      → ((len : ℕ) → len ≤ (layout_of resumed_so.later.provision b).area_len → done_on b end + 17 * length (recovery_pages (layout_of resumed_so.later.provision b) len (length (mine b there))) ≤ done_on b there + 17 * (length (mine b there) / 4096))
+      → ((len : ℕ) → len ≤ (layout_of later.provision b).area_len → done_on b end + 17 * length (recovery_pages (layout_of later.provision b) len (length (mine b there))) ≤ done_on b there + 17 * (length (mine b there) / 4096))
       → done_on b end ≤ done_on b story + 34 * (length (mine b story) / 4096)
   power_few end (inl few) tail_few = omega (arith, few, tail_few 0 (omega arith), long)
   power_few end (inr (len, fits, few)) tail_few =
-      let same : layout_of resumed_so.later.provision b ≡ layout_of fuses.provision b = ap (λ (p : RootSlot). layout_of p b) resumed_so.provision in
-      let pages : length (recovery_pages (layout_of resumed_so.later.provision b) len (length (mine b there))) ≡ length (recovery_pages (layout_of fuses.provision b) len (length (mine b story))) =
+      let same : layout_of later.provision b ≡ layout_of fuses.provision b = ap (λ (p : RootSlot). layout_of p b) resumed_so.provision in
+      let pages : length (recovery_pages (layout_of later.provision b) len (length (mine b there))) ≡ length (recovery_pages (layout_of fuses.provision b) len (length (mine b story))) =
       ap (λ (l : Layout). length (recovery_pages l len (length (mine b there)))) same ∙ ap (λ (n : ℕ). length (recovery_pages (layout_of fuses.provision b) len n)) long in
-      let room : len ≤ (layout_of resumed_so.later.provision b).area_len = subst (λ (l : Layout). len ≤ l.area_len) (sym same) fits in
+      let room : len ≤ (layout_of later.provision b).area_len = subst (λ (l : Layout). len ≤ l.area_len) (sym same) fits in
       omega (arith, few, pages, tail_few len room, recovery_few (layout_of fuses.provision b) len (length (mine b story)), long)
 
-  module _ (restores : Restoring) (well : (capsule : CapsuleState) (w : Counts → What) → capsule ≡ resumed_good.good.capsule → RestoresFrom accepts b resumed_so.later capsule (noted w there) → RestoresWell accepts b resumed_so.later capsule (restores resumed_so.later capsule) (noted w there)) where
+  module _ (restores : Restoring) (well : (capsule : CapsuleState) (w : Counts → What) → capsule ≡ resumed_good.good.capsule → RestoresFrom accepts b later capsule (noted w there) → RestoresWell accepts b later capsule (restores later capsule) (noted w there)) where
     -- Whatever is open, it ends released, if the plan that restores it does well.
     pub power_ends : PowerEnds b (power_with restores notes accepts b fuses story) story
     power_ends =
-        let tail_moves : List Move = tail_with restores accepts b resumed_so.later there in
-        let t = tail_ends restores accepts b resumed_so.later there resumed_so.says resumed_good (subst AreBytes (sym resumed_so.bank) resumed_so.bytes) (subst (λ (n : ℕ). IsBankSize n) (sym long) h.size) well in
+        let tail_moves : List Move = tail_with restores accepts b later there in
+        let t = tail_ends restores accepts b later there resumed_so.says resumed_good (subst AreBytes (sym resumed_so.bank) resumed_so.bytes) (subst (λ (n : ℕ). IsBankSize n) (sym long) h.size) well in
         let end = ap (λ (s : Story). done_on b s) (after-append (resumed notes accepts b fuses story) tail_moves story) in
         subst (λ (r : Result FusesState FuseFail). PowerEnds b (resumed notes accepts b fuses story ++ tail_by restores accepts b r there) story) (sym resumed_so.says) (record {
           released = ends_behind b (resumed notes accepts b fuses story) tail_moves story t.released;
@@ -171,7 +174,7 @@ module _ (notes : JobNotes) (accepts : Acceptance) (b : Bank) (fuses : FusesStat
   -- as it stands, without a job
   pub power_releases : PowerEnds b (power_with (restored b 1) notes accepts b fuses story) story
   power_releases =
-      let then_fuses : FusesState = (resumed_so notes accepts b fuses story h recoverable safe).later in
+      let then_fuses : FusesState = fuses_resumed accepts b (mine b story) (store story) fuses in
       power_ends notes accepts b fuses story h recoverable safe (restored b 1) (λ capsule w e from. restored_well accepts b then_fuses capsule (noted w (after (resumed notes accepts b fuses story) story)) from)
 
   -- A bank that can be recovered, whatever job is open, ends released, where it is restored by a job.
@@ -182,4 +185,4 @@ module _ (notes : JobNotes) (accepts : Acceptance) (b : Bank) (fuses : FusesStat
       let there : Story = after (resumed notes accepts b fuses story) story in
       let so = resumed_so notes accepts b fuses story h recoverable safe in
       power_ends notes accepts b fuses story h recoverable safe restores (λ capsule w e from.
-      job_well accepts b so.later capsule (Restored b 1) (noted w there) from so.size so.opened (subst (λ (c : CapsuleState). IsDigest c.digest) (sym e) digest))
+      job_well accepts b (fuses_resumed accepts b (mine b story) (store story) fuses) capsule (Restored b 1) (noted w there) from so.size so.opened (subst (λ (c : CapsuleState). IsDigest c.digest) (sym e) digest))

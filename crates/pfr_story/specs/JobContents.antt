@@ -3,6 +3,7 @@ use Rattle.std.specs.Prelude.{ℕ, Bool, true, false, if◌then◌else◌, List,
 use Rattle.pfr_flash.specs.declared.layout.Layout.{Layout}
 use Rattle.pfr_flash.specs.declared.names.Bank.{Bank}
 use Rattle.pfr_engine.specs.Acceptance.{Acceptance}
+use Rattle.pfr_fuses.specs.Changes.{raised}
 use Rattle.pfr_fuses.specs.FusesState.{FusesState}
 use Rattle.pfr_fuses.specs.RootSlot.{layout_of}
 use Rattle.pfr_capsule.specs.CapsuleState.{CapsuleState}
@@ -65,3 +66,28 @@ image_by accepts bank image nv fuses (job.Job kind digest) = image_from accepts 
 -- The bank once the job that is open was resumed or given up.
 abbrev pub image_resumed : Acceptance → Bank → List ℕ → List ℕ → FusesState → List ℕ
 image_resumed accepts bank image nv fuses = image_by accepts bank image nv fuses (open_job nv bank)
+
+-- ---- what the store says then
+-- the floor is raised to the version of a capsule that was found
+abbrev pub fuses_by : Bank → FusesState → Result CapsuleState CapsuleFail → FusesState
+fuses_by bank fuses (Ok found) = raised fuses bank found.manifest.svn
+fuses_by bank fuses (Err cause) = fuses
+
+-- a recovery job raises it to that of the capsule in the recovery area
+abbrev pub fuses_worked : Acceptance → Bank → List ℕ → List ℕ → FusesState → CapsuleState → JobKind → FusesState
+fuses_worked accepts bank image nv fuses capsule (ActiveFromRecovery level) = fuses
+fuses_worked accepts bank image nv fuses capsule (ActiveFromStaging dynamic) = fuses
+fuses_worked accepts bank image nv fuses capsule RecoveryFromStaging = fuses_by bank fuses (judge_area Recovery bank (recovery_done accepts bank image nv fuses capsule) fuses accepts)
+
+abbrev pub fuses_from : Acceptance → Bank → List ℕ → List ℕ → FusesState → JobKind → List ℕ → Result CapsuleState CapsuleFail → FusesState
+fuses_from accepts bank image nv fuses kind digest (Ok capsule) = if same_digest capsule.digest digest then fuses_worked accepts bank image nv fuses capsule kind else fuses
+fuses_from accepts bank image nv fuses kind digest (Err cause) = fuses
+
+abbrev pub fuses_at : Acceptance → Bank → List ℕ → List ℕ → FusesState → OpenJob → FusesState
+fuses_at accepts bank image nv fuses job.None = fuses
+fuses_at accepts bank image nv fuses job.Bad = fuses
+fuses_at accepts bank image nv fuses (job.Job kind digest) = fuses_from accepts bank image nv fuses kind digest (judge_area (source_of kind) bank image fuses accepts)
+
+-- The fuses once the job that is open was resumed or given up.
+abbrev pub fuses_resumed : Acceptance → Bank → List ℕ → List ℕ → FusesState → FusesState
+fuses_resumed accepts bank image nv fuses = fuses_at accepts bank image nv fuses (open_job nv bank)
