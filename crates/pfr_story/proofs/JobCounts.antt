@@ -1,5 +1,5 @@
 -- How many operations the steps of a job's work do.
-use Rattle.std.proofs.Common.{◌≡◌, ◌∙◌, ℕ, suc, ◌+◌, ◌*◌, ◌/◌, ◌≤◌, ◌==◌, refl, sym, ap, subst, arith, Bool, true, false, if◌then◌else◌, List, [], ◌∷◌, ◌++◌, length, length-append, ◌⊎◌, inl, inr, Option, Some, None}
+use Rattle.std.proofs.Common.{◌≡◌, ◌∙◌, ℕ, ◌+◌, ◌*◌, ◌≤◌, ◌==◌, refl, ap, arith, Bool, true, false, if◌then◌else◌, List, [], ◌∷◌, length, length-append, ◌⊎◌, inl, inr, Option, Some, None}
 use Rattle.pfr_flash.specs.Operation.{Operation}
 use Rattle.pfr_flash.specs.declared.layout.Layout.{Layout}
 use Rattle.pfr_flash.specs.declared.names.Bank.{Bank}
@@ -14,7 +14,6 @@ use Rattle.pfr_jobs.specs.LogPlans.{slot_plan, switch_plan, begin_by, begin_plan
 use Rattle.pfr_jobs.specs.LogState.{is_marked}
 use Rattle.pfr_jobs.specs.declared.job.JobKind.{JobKind}
 use Rattle.pfr_strokes.specs.Deeds.{Deed, side_ops}
-use Rattle.pfr_strokes.specs.Strokes.{strokes_of}
 use Rattle.pfr_strokes.specs.declared.side.Side.TheVariants as side
 use Rattle.pfr_strokes.proofs.ReplacedLaws.{strokes_of_few}
 use Rattle.pfr_rebuilt.specs.ActiveCopying.{active_page, active_pages}

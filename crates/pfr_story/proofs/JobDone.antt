@@ -1,5 +1,5 @@
 -- Where work on an active job leads.
-use Rattle.std.proofs.Common.{◌≡◌, ◌∙◌, ℕ, ◌+◌, ◌/◌, ◌≤◌, ◌<◌, refl, sym, ap, subst, arith, Bool, true, false, List, [], ◌∷◌, ◌++◌, length, Result, Ok}
+use Rattle.std.proofs.Common.{◌≡◌, ◌∙◌, ℕ, ◌+◌, ◌/◌, ◌≤◌, ◌<◌, refl, sym, ap, subst, Bool, true, false, List, [], ◌∷◌, ◌++◌, length, Ok}
 use Rattle.pfr_flash.specs.Layout.{IsBankSize}
 use Rattle.pfr_flash.specs.Bytes.{AreBytes}
 use Rattle.pfr_flash.specs.declared.layout.Layout.{Layout}
@@ -34,7 +34,7 @@ use Rattle.pfr_recoverable.proofs.CutLaw.{good_with}
 use Rattle.pfr_recoverable.proofs.RestoredLaw.{restored_trusted}
 use Rattle.pfr_recoverable.proofs.StaysLaw.{fuses_one}
 use Rattle.pfr_report.specs.declared.note.What.{What}
-use Rattle.pfr_story.specs.Story.{Story, Move, Says, after, noted, other_bank, device_of}
+use Rattle.pfr_story.specs.Story.{Story, Says, after, noted, other_bank, device_of}
 use Rattle.pfr_story.specs.Plans.{mine, store, judged_active}
 use Rattle.pfr_story.specs.JobPlans.{begun_job, finished_job, worked, written_over, done_with, by_log, with_job}
 use Rattle.pfr_story.specs.JobContents.{active_resumed}

@@ -1,12 +1,12 @@
 -- What a job's passes leave of a bank and of the store.
-use Rattle.std.proofs.Common.{◌≡◌, ◌∙◌, ℕ, suc, ◌+◌, ◌*◌, ◌/◌, ◌≤◌, ◌<◌, refl, sym, ap, subst, arith, Bool, true, false, not, if◌then◌else◌, List, [], ◌∷◌, ◌++◌, length, filter, ◌⊎◌, inl, inr, Option}
+use Rattle.std.proofs.Common.{◌≡◌, ◌∙◌, ℕ, suc, ◌/◌, ◌≤◌, ◌<◌, refl, sym, ap, subst, arith, Bool, true, false, not, if◌then◌else◌, List, [], ◌∷◌, ◌++◌, length, inl, inr}
 use Rattle.std.proofs.Math.Nat.{div-lt_iff_lt-mul}
 use Rattle.pfr_flash.specs.Operation.{Operation, play, applied}
-use Rattle.pfr_flash.specs.Range.{place_of, len_of, IsWithin, AllWithin}
+use Rattle.pfr_flash.specs.Range.{IsWithin, AllWithin}
 use Rattle.pfr_flash.specs.declared.layout.Layout.{Layout}
 use Rattle.pfr_flash.specs.declared.names.Bank.{Bank}
 use Rattle.pfr_flash.specs.declared.names.Bank.TheVariants as bank
-use Rattle.pfr_flash.proofs.PlayLemmas.{length-applied, length-play, play-append}
+use Rattle.pfr_flash.proofs.PlayLemmas.{length-applied, length-play}
 use Rattle.pfr_flash.proofs.RangeLemmas.{SameOutside-play}
 use Rattle.pfr_fuses.specs.FusesOf.{fuses_of}
 use Rattle.pfr_fuses.proofs.StaysLemmas.{fuses_of-same}

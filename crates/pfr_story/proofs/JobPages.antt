@@ -1,20 +1,18 @@
 -- Each page of a job can be replaced, and the staged capsule stays while the recovery area is.
-use Rattle.std.proofs.Common.{◌≡◌, ◌∙◌, ℕ, ◌+◌, ◌-◌, ◌*◌, ◌/◌, ◌%◌, ◌≤◌, ◌<◌, ◌&&◌, ◌||◌, Bool, true, false, not, if◌then◌else◌, refl, sym, ap, subst, arith, List, [], ◌∷◌, ◌++◌, length, filter, ◌⊎◌, inl, inr}
+use Rattle.std.proofs.Common.{◌≡◌, ◌∙◌, ℕ, ◌+◌, ◌-◌, ◌*◌, ◌/◌, ◌%◌, ◌≤◌, ◌<◌, ◌&&◌, ◌||◌, Bool, true, false, not, if◌then◌else◌, refl, sym, ap, subst, arith, List, [], ◌∷◌, length, filter, ◌⊎◌, inl, inr}
 use Rattle.std.proofs.lemmas.Bool.{false≢true}
 use Rattle.pfr_flash.specs.Bytes.{AreBytes, bytes_at, written}
 use Rattle.pfr_flash.specs.Layout.{IsValidLayout}
 use Rattle.pfr_flash.specs.Operation.{Operation, play}
-use Rattle.pfr_flash.specs.Range.{place_of, len_of, IsWithin, AllWithin}
+use Rattle.pfr_flash.specs.Range.{AllWithin}
 use Rattle.pfr_flash.specs.declared.layout.Layout.{Layout}
 use Rattle.pfr_flash.specs.declared.names.Bank.{Bank}
 use Rattle.pfr_flash.proofs.AreBytesLemmas.{AreBytes-bytes_at, AreBytes-written}
-use Rattle.pfr_flash.proofs.BytesLemmas.{length-written}
 use Rattle.pfr_flash.proofs.PartsLemmas.{same_front}
 use Rattle.pfr_flash.proofs.PlayLemmas.{length-play}
 use Rattle.pfr_flash.proofs.RangeLemmas.{SameOutside-play, bytes_at-outside, AllWithin-append}
 use Rattle.pfr_engine.specs.Acceptance.{Acceptance}
 use Rattle.pfr_fuses.specs.FusesOf.{fuses_of}
-use Rattle.pfr_manifest.specs.declared.manifest.Manifest.{Manifest}
 use Rattle.pfr_manifest.specs.declared.region.Region.{Region}
 use Rattle.pfr_capsule.specs.CapsuleState.{CapsuleState}
 use Rattle.pfr_capsule.specs.Good.{IsGood}
@@ -148,8 +146,7 @@ good_again image later nv then_nv place len b accepts g size blocks same stored 
     let front : bytes_at image place g.capsule.length ≡ bytes_at later place g.capsule.length = same_front image later place place len g.capsule.length (sym same) room in
     let moved : IsGood later place len nv b accepts = good_moved image later nv place place len len b accepts g (sym size) blocks front room in
     let is = capsule_moved image later nv place place len len b accepts g (sym size) blocks front room in
-    let h = good_with later nv then_nv place len b accepts moved stored in
-    (
+    let h = good_with later nv then_nv place len b accepts moved stored in (
       h.0,
       record {
         len = ap (λ (c : CapsuleState). c.length) (h.1 ∙ is) ∙ length_moved image later nv place place len len b accepts g (sym size) blocks front room;

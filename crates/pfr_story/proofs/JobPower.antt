@@ -1,5 +1,5 @@
 -- A bank that can be recovered ends released: the job that is open is resumed, and then the bank is checked and recovered.
-use Rattle.std.proofs.Common.{◌≡◌, ◌∙◌, ℕ, ◌+◌, ◌*◌, ◌/◌, ◌≤◌, refl, sym, ap, subst, arith, Bool, true, false, List, [], ◌∷◌, ◌++◌, length, length-append, ◌⊎◌, inl, inr, Result, Ok, Err}
+use Rattle.std.proofs.Common.{◌≡◌, ◌∙◌, ℕ, ◌+◌, ◌*◌, ◌/◌, ◌≤◌, refl, sym, ap, subst, arith, Bool, true, false, List, [], ◌∷◌, ◌++◌, length, length-append, inl, inr, Result, Ok, Err}
 use Rattle.pfr_flash.specs.Bytes.{AreBytes}
 use Rattle.pfr_flash.specs.Layout.{IsBankSize}
 use Rattle.pfr_flash.specs.Operation.{Operation}
@@ -42,7 +42,7 @@ use Rattle.pfr_story.proofs.JobSteps.{bank_called}
 use Rattle.pfr_story.proofs.JobDone.{done_is, with_job_done}
 use Rattle.pfr_story.proofs.JobCounts.{done_on, noted_count, store_count, worked_few, written_few}
 use Rattle.pfr_story.proofs.JobResumed.{IsHeldReady, IsFew, IsResumedTo, resumed_ends}
-use Rattle.pfr_story.proofs.JobTail.{recovery_few, Restoring, tail_with, EndsReleased, ends_behind, RestoresWell, TailEnds, tail_ends}
+use Rattle.pfr_story.proofs.JobTail.{recovery_few, Restoring, tail_with, EndsReleased, ends_behind, RestoresWell, tail_ends}
 
 -- ---- a restore as it stands, without a job
 count_is : (b : Bank) (story : Story) → done_on b story ≡ length (past_at (device_of b) story).ops

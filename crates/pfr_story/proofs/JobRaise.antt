@@ -1,5 +1,5 @@
 -- Where the raise of a floor leads, and the end of a recovery job.
-use Rattle.std.proofs.Common.{◌≡◌, ◌∙◌, ℕ, ◌+◌, ◌-◌, ◌*◌, ◌/◌, ◌≤◌, ◌<◌, refl, sym, ap, subst, arith, Bool, true, false, nat_le, if◌then◌else◌, List, [], ◌∷◌, ◌++◌, length, inl, inr, Result, Ok}
+use Rattle.std.proofs.Common.{◌≡◌, ◌∙◌, ℕ, ◌+◌, ◌-◌, ◌/◌, ◌≤◌, ◌<◌, refl, sym, ap, subst, arith, Bool, true, false, nat_le, if◌then◌else◌, List, [], ◌∷◌, ◌++◌, length, inl, inr, Ok}
 use Rattle.std.proofs.lemmas.Bool.Decides.{nat_tests}
 use Rattle.pfr_flash.specs.FuseRow.{clearing, fuse_byte, with_cleared}
 use Rattle.pfr_flash.specs.Operation.{Operation, Program, play}
@@ -14,13 +14,13 @@ use Rattle.pfr_engine.specs.Acceptance.{Acceptance}
 use Rattle.pfr_fuses.specs.Changes.{raise_plan, raised, with_floor}
 use Rattle.pfr_fuses.specs.FuseMap.{profile_of, floor_at}
 use Rattle.pfr_fuses.specs.FusesState.{FusesState, floor_of, floor_row}
-use Rattle.pfr_fuses.specs.FusesOf.{fuses_of, floor_fuses}
+use Rattle.pfr_fuses.specs.FusesOf.{fuses_of}
 use Rattle.pfr_fuses.specs.declared.profile.Profile.TheVariants as profile
 use Rattle.pfr_fuses.proofs.ExactLemmas.{ChangedAt, fuses_of-but_floor, floor-cleared, floor_kept}
 use Rattle.pfr_fuses.proofs.GrowthLemmas.{profile-outside, slots-outside}
 use Rattle.pfr_fuses.proofs.StaysLemmas.{floor_in_sector}
 use Rattle.pfr_capsule.specs.CapsuleState.{CapsuleState}
-use Rattle.pfr_jobs.specs.Log.{log_at, open_job}
+use Rattle.pfr_jobs.specs.Log.{open_job}
 use Rattle.pfr_jobs.specs.declared.job.OpenJob.TheVariants as job
 use Rattle.pfr_jobs.proofs.BeginLaw.{log_high}
 use Rattle.pfr_jobs.proofs.CutLaws.{outside_keeps}

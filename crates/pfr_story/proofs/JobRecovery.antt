@@ -1,7 +1,5 @@
 -- Where work on a recovery job leads.
-use Rattle.std.proofs.Common.{◌≡◌, ◌∙◌, ℕ, ◌+◌, ◌/◌, ◌%◌, ◌≤◌, ◌<◌, ◌==◌, ◌&&◌, refl, sym, ap, subst, arith, Bool, true, false, List, [], ◌∷◌, ◌++◌, length, ◌⊎◌, inl, inr, Result, Ok, Err}
-use Rattle.std.specs.Prelude.{nat_eq}
-use Rattle.std.specs.Cmp.Lexicographic.{pointwise}
+use Rattle.std.proofs.Common.{◌≡◌, ◌∙◌, ℕ, ◌==◌, ◌&&◌, refl, sym, ap, subst, Bool, true, false, List, [], ◌∷◌, length, Ok}
 use Rattle.std.proofs.lemmas.Bool.{eqb-true, false≢true}
 use Rattle.pfr_flash.specs.Bytes.{AreBytes, bytes_at}
 use Rattle.pfr_flash.specs.Layout.{IsBankSize, IsValidLayout}
@@ -10,21 +8,17 @@ use Rattle.pfr_flash.specs.declared.layout.Layout.{Layout}
 use Rattle.pfr_flash.specs.declared.names.Bank.{Bank}
 use Rattle.pfr_flash.proofs.PlayLemmas.{length-play}
 use Rattle.pfr_engine.specs.Acceptance.{Acceptance}
-use Rattle.pfr_fuses.specs.Changes.{raised}
 use Rattle.pfr_fuses.specs.FusesState.{FusesState}
 use Rattle.pfr_fuses.specs.FusesOf.{fuses_of}
 use Rattle.pfr_fuses.specs.RootSlot.{layout_of}
-use Rattle.pfr_fuses.specs.declared.profile.Profile.TheVariants as profile
 use Rattle.pfr_capsule.specs.CapsuleState.{CapsuleState}
 use Rattle.pfr_capsule.specs.Good.{IsGood}
-use Rattle.pfr_capsule.specs.declared.fail.CapsuleFail.{CapsuleFail}
 use Rattle.pfr_capsule.proofs.GoodLaw.{good_found}
 use Rattle.pfr_auth.specs.Areas.{judge_area}
 use Rattle.pfr_auth.specs.declared.areas.Area.TheVariants.{Recovery}
 use Rattle.pfr_jobs.specs.Log.{open_job}
 use Rattle.pfr_jobs.specs.LogState.{is_marked}
 use Rattle.pfr_jobs.specs.declared.job.OpenJob.{OpenJob}
-use Rattle.pfr_jobs.specs.declared.job.OpenJob.TheVariants as job
 use Rattle.pfr_strokes.specs.Replaced.{replaced}
 use Rattle.pfr_strokes.specs.Strokes.{strokes_of}
 use Rattle.pfr_strokes.proofs.ReplacedLaws.{IsOneOf}
@@ -32,19 +26,15 @@ use Rattle.pfr_rebuilt.specs.Copying.{recovery_page, recovery_pages, recovery_re
 use Rattle.pfr_rebuilt.specs.Passing.{group_pages, left_pages}
 use Rattle.pfr_rebuilt.proofs.CopiedLaw.{copied_good, copied_digest}
 use Rattle.pfr_recoverable.specs.Recoverable.{HasGoodRecovery}
-use Rattle.pfr_recoverable.proofs.CutLaw.{good_with}
-use Rattle.pfr_report.specs.declared.note.What.{What}
-use Rattle.pfr_story.specs.Story.{Story, after, other_bank}
-use Rattle.pfr_story.specs.Plans.{mine, store, asks, judged_recovery}
-use Rattle.pfr_story.specs.JobPlans.{copied_over, copied_again, concluded, by_second_pass, second_pass, same_digest, by_digest, by_first_pass, recovery_work}
+use Rattle.pfr_story.specs.Story.{Story, after}
+use Rattle.pfr_story.specs.Plans.{mine, store, judged_recovery}
+use Rattle.pfr_story.specs.JobPlans.{copied_over, copied_again, same_digest}
 use Rattle.pfr_story.specs.JobContents.{recovery_resumed}
-use Rattle.pfr_story.proofs.Sequence.{after-append}
 use Rattle.pfr_story.proofs.RestoreLaws.{stand_for, found_good}
 use Rattle.pfr_story.proofs.JobEnds.{left_one}
 use Rattle.pfr_story.proofs.JobPages.{IsSameCapsule, same_again, recovery_replaced, recovery_bytes, staging_stays, good_again}
-use Rattle.pfr_story.proofs.JobSteps.{StandsSo, stands_then, copied_stands, again_stands}
+use Rattle.pfr_story.proofs.JobSteps.{StandsSo, copied_stands, again_stands}
 use Rattle.pfr_story.proofs.JobDone.{stands_as}
-use Rattle.pfr_story.proofs.JobRaise.{IsConcluded, concluded_ends}
 
 -- digests that are spelled alike are the same
 pub digests_same : (xs ys : List ℕ) → same_digest xs ys ≡ true → xs ≡ ys

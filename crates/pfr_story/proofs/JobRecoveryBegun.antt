@@ -1,5 +1,5 @@
 -- Where a recovery job leads that is begun and done at once.
-use Rattle.std.proofs.Common.{◌≡◌, ◌∙◌, ℕ, ◌+◌, ◌*◌, ◌/◌, ◌≤◌, ◌<◌, ◌==◌, ◌&&◌, refl, sym, ap, subst, arith, Bool, true, false, if◌then◌else◌, List, [], ◌∷◌, length, Result, Ok}
+use Rattle.std.proofs.Common.{◌≡◌, ◌∙◌, ℕ, ◌+◌, ◌*◌, ◌/◌, ◌≤◌, ◌<◌, ◌&&◌, refl, sym, ap, subst, arith, Bool, true, false, if◌then◌else◌, List, [], ◌∷◌, length, Result, Ok}
 use Rattle.std.proofs.lemmas.Bool.{eq-eqb}
 use Rattle.pfr_flash.specs.Bytes.{AreBytes, bytes_at}
 use Rattle.pfr_flash.specs.Layout.{IsBankSize, IsValidLayout}

@@ -1,9 +1,8 @@
 -- Where the whole work on a recovery job leads, and in how many operations.
-use Rattle.std.proofs.Common.{◌≡◌, ◌∙◌, ℕ, ◌+◌, ◌*◌, ◌/◌, ◌%◌, ◌≤◌, ◌<◌, refl, sym, ap, subst, arith, Bool, true, false, if◌then◌else◌, List, [], ◌∷◌, ◌++◌, length, Result, Ok, Err}
+use Rattle.std.proofs.Common.{◌≡◌, ◌∙◌, ℕ, ◌+◌, ◌*◌, ◌≤◌, refl, sym, ap, subst, arith, Bool, true, false, if◌then◌else◌, List, [], ◌∷◌, ◌++◌, length, Result, Ok, Err}
 use Rattle.pfr_flash.specs.Bytes.{AreBytes}
 use Rattle.pfr_flash.specs.declared.layout.Layout.{Layout}
 use Rattle.pfr_flash.specs.declared.names.Bank.{Bank}
-use Rattle.pfr_flash.specs.declared.names.Device.TheVariants as device
 use Rattle.pfr_engine.specs.Acceptance.{Acceptance}
 use Rattle.pfr_fuses.specs.Changes.{raise_plan, raised}
 use Rattle.pfr_fuses.specs.FusesState.{FusesState, floor_of}
@@ -21,14 +20,14 @@ use Rattle.pfr_strokes.proofs.ReplacedLaws.{length-replaced}
 use Rattle.pfr_rebuilt.specs.Copying.{recovery_page, recovery_pages, recovery_rebuilt}
 use Rattle.pfr_recoverable.specs.Recoverable.{HasGoodRecovery}
 use Rattle.pfr_report.specs.declared.note.What.{What}
-use Rattle.pfr_story.specs.Story.{Story, Says, after, noted, other_bank}
+use Rattle.pfr_story.specs.Story.{Story, Says, after, other_bank}
 use Rattle.pfr_story.specs.Plans.{mine, store, asks, judged_recovery}
 use Rattle.pfr_story.specs.JobPlans.{finished_job, raised_to, copied_over, copied_again, concluded, by_second_pass, second_pass, same_digest, by_digest, by_first_pass, recovery_work}
-use Rattle.pfr_story.specs.JobContents.{is_found, recovery_resumed, recovery_redone, recovery_done}
+use Rattle.pfr_story.specs.JobContents.{is_found, recovery_resumed, recovery_done}
 use Rattle.pfr_story.proofs.Sequence.{after-append}
 use Rattle.pfr_story.proofs.JobSteps.{StandsSo}
 use Rattle.pfr_story.proofs.JobRaise.{IsConcluded, concluded_ends}
-use Rattle.pfr_story.proofs.JobRecovery.{digests_same, IsStaged, first_stands, first_staged, second_stands, second_staged, IsFound, judged_found, IsCopied, second_good}
+use Rattle.pfr_story.proofs.JobRecovery.{digests_same, IsStaged, first_stands, first_staged, second_stands, second_staged, judged_found, IsCopied, second_good}
 use Rattle.pfr_story.proofs.JobCounts.{done_on, noted_count, store_count, copied_few, again_few}
 
 -- ---- the end does nothing to the bank

@@ -1,5 +1,5 @@
 -- Where a job leads that is open at a power-on: resumed or given up.
-use Rattle.std.proofs.Common.{◌≡◌, ◌∙◌, ℕ, ◌+◌, ◌-◌, ◌*◌, ◌/◌, ◌≤◌, refl, sym, ap, subst, arith, Bool, true, false, if◌then◌else◌, List, [], ◌∷◌, ◌++◌, length, ◌⊎◌, inl, inr, Result, Ok, Err}
+use Rattle.std.proofs.Common.{◌≡◌, ◌∙◌, ℕ, ◌+◌, ◌-◌, ◌*◌, ◌/◌, ◌≤◌, refl, sym, ap, subst, arith, Bool, true, false, if◌then◌else◌, List, [], ◌∷◌, length, ◌⊎◌, inl, inr, Result, Ok, Err}
 use Rattle.pfr_flash.specs.Bytes.{AreBytes}
 use Rattle.pfr_flash.specs.FuseRow.{with_cleared}
 use Rattle.pfr_flash.specs.Layout.{IsBankSize, IsValidLayout}
@@ -13,7 +13,6 @@ use Rattle.pfr_fuses.specs.FusesState.{FusesState, floor_row}
 use Rattle.pfr_fuses.specs.FusesOf.{fuses_of}
 use Rattle.pfr_fuses.specs.RootSlot.{layout_of}
 use Rattle.pfr_fuses.specs.declared.profile.Profile.TheVariants as profile
-use Rattle.pfr_fuses.specs.declared.root_slot.RootSlot.{RootSlot}
 use Rattle.pfr_fuses.proofs.ClearingLemmas.{raised_cases}
 use Rattle.pfr_capsule.specs.CapsuleState.{CapsuleState}
 use Rattle.pfr_capsule.specs.declared.fail.CapsuleFail.{CapsuleFail}
@@ -27,15 +26,15 @@ use Rattle.pfr_jobs.specs.declared.job.JobKind.TheVariants.{ActiveFromRecovery, 
 use Rattle.pfr_jobs.specs.declared.job.OpenJob.{OpenJob}
 use Rattle.pfr_jobs.specs.declared.job.OpenJob.TheVariants as job
 use Rattle.pfr_strokes.proofs.ReplacedLaws.{length-replaced}
-use Rattle.pfr_rebuilt.specs.ActiveCopying.{active_page, active_pages}
-use Rattle.pfr_rebuilt.specs.Copying.{recovery_page, recovery_pages, recovery_rebuilt}
+use Rattle.pfr_rebuilt.specs.ActiveCopying.{active_page}
+use Rattle.pfr_rebuilt.specs.Copying.{recovery_pages}
 use Rattle.pfr_rebuilt.proofs.ActiveLaw.{active_few}
 use Rattle.pfr_report.specs.declared.note.What.{What}
 use Rattle.pfr_report.specs.declared.note.What.TheVariants.{Restored, Updated}
 use Rattle.pfr_story.specs.Story.{Story, Says, after, noted, other_bank, device_of}
 use Rattle.pfr_story.specs.Plans.{mine, store}
 use Rattle.pfr_story.specs.JobPlans.{finished_job, abandoned, worked, done_with, same_digest, source_of, judged_source, JobNotes, work_of, resumed_if, by_source, by_open, resumed}
-use Rattle.pfr_story.specs.JobContents.{active_resumed, recovery_resumed, recovery_done, image_worked, image_from, image_by, image_resumed, fuses_by, fuses_worked, fuses_from, fuses_at, fuses_resumed}
+use Rattle.pfr_story.specs.JobContents.{active_resumed, recovery_done, image_worked, image_from, image_by, image_resumed, fuses_by, fuses_worked, fuses_from, fuses_at, fuses_resumed}
 use Rattle.pfr_story.proofs.Sequence.{after-append}
 use Rattle.pfr_story.proofs.SafetyLaws.{image_noted}
 use Rattle.pfr_story.proofs.AnewLaws.{MadeFrom}
@@ -44,7 +43,7 @@ use Rattle.pfr_story.proofs.JobPages.{IsSameCapsule}
 use Rattle.pfr_story.proofs.JobSteps.{StandsSo, finished_stands}
 use Rattle.pfr_story.proofs.JobDone.{stands_noted, done_is, done_stands, resumed_bytes}
 use Rattle.pfr_story.proofs.JobRecovery.{IsStaged}
-use Rattle.pfr_story.proofs.JobRecoveryWork.{IsUpdated, recovery_work_ends}
+use Rattle.pfr_story.proofs.JobRecoveryWork.{recovery_work_ends}
 use Rattle.pfr_story.proofs.JobCounts.{done_on, noted_count, store_count, worked_few}
 
 -- ---- a bank that is ready for work
