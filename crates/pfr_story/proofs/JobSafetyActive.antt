@@ -21,7 +21,7 @@ use Rattle.pfr_jobs.specs.declared.job.JobKind.{JobKind}
 use Rattle.pfr_jobs.specs.declared.job.JobKind.TheVariants.{RecoveryFromStaging}
 use Rattle.pfr_jobs.specs.declared.job.OpenJob.TheVariants as job
 use Rattle.pfr_jobs.proofs.SlotLaw.{IsDigest}
-use Rattle.pfr_jobs.proofs.BeginLaw.{TakesJob, in_slot, by_switch, used_is, begin_done, begin_within, begin_own, begin_before}
+use Rattle.pfr_jobs.proofs.BeginLaw.{TakesJob, in_slot, by_switch, used_is, begin_done, begin_within, begin_in_log, begin_before}
 use Rattle.pfr_rebuilt.specs.Passing.{active_heeding, active_ignoring}
 use Rattle.pfr_strokes.specs.Deeds.{Deed}
 use Rattle.pfr_recoverable.proofs.StaysLaw.{fuses_one}
@@ -97,7 +97,7 @@ module _ (accepts : Acceptance) (b : Bank) (fuses : FusesState) where
       record {
         safe = safe_both (KeepsRecoverable accepts b) (KeepsRecoverable accepts (other_bank b)) (called device.Nv plan) story
             (begun_safe accepts b plan story (begin_before (store story) b kind digest p.holds.store_size p.none takes d valid) (begin_within (store story) b kind digest p.holds.store_size p.none takes d valid) p.holds.store_size)
-            (other_logged accepts b plan story p.holds.store_size (begin_own (store story) b kind digest p.holds.store_size p.none takes d valid));
+            (other_logged accepts b plan story p.holds.store_size (begin_in_log (store story) b kind digest p.holds.store_size p.none takes d valid));
         ends = record {
           kept = kept_logged b plan story p.holds.store_size (begin_within (store story) b kind digest p.holds.store_size p.none takes d valid);
           same = mine_called b plan story;

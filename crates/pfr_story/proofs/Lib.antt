@@ -57,3 +57,16 @@ pub mod JobSafetyRecovery
 pub mod JobSafetyResumed
 pub mod JobSafetyCancelled
 pub mod JobSafetyLaws
+pub mod JobEnds
+pub mod JobFresh
+pub mod JobSteps
+pub mod JobPages
+pub mod JobDone
+pub mod JobRaise
+pub mod JobRecovery
+pub mod JobCounts
+pub mod JobRecoveryWork
+pub mod JobResumed
+pub mod JobTail
+pub mod JobPower
+pub mod JobRecoveryBegun

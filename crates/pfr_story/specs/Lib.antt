@@ -21,3 +21,4 @@ pub mod Keeping
 pub mod Run
 pub mod Recovery
 pub mod Contents
+pub mod JobContents
