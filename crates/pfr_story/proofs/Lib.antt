@@ -29,6 +29,7 @@ pub mod RiseLaws
 pub mod KeepLaws
 pub mod RecoveryLaws
 pub mod FuseLaws
+pub mod JobGrowth
 pub mod StoreLaws
 pub mod EventLaws
 pub mod JudgedLaws
