@@ -122,7 +122,7 @@ slots_kept from len old new low size same outside number by =
     let slots : (k : ℕ) → k < 8 → slot_at new k ≡ slot_at old k = slots-outside from len old new low size same outside in
     (IsProvisionedBy-same old new number slots by, slots number by.within)
 
-within_outside : (from len : ℕ) (image : List ℕ) (op : Operation) → IsWithin from len op → SameOutside from len image (applied image op)
+pub within_outside : (from len : ℕ) (image : List ℕ) (op : Operation) → IsWithin from len op → SameOutside from len image (applied image op)
 within_outside from len image op w = SameOutside-wider (place_of op) (len_of op) from len image (applied image op) w.low w.high (SameOutside-applied image op)
 
 -- neither log has a byte of any fuse, in either profile
@@ -132,7 +132,7 @@ floor_apart b One bank.Pch = inl (omega (arith, log_low b))
 floor_apart b Two bank.Bmc = inr (omega (arith, log_high b))
 floor_apart b Two bank.Pch = inr (omega (arith, log_high b))
 
-row_low : (type : ContentType) → IsSigning type → row_at One type + 16 ≤ 0x1000
+pub row_low : (type : ContentType) → IsSigning type → row_at One type + 16 ≤ 0x1000
 row_low PchManifest s = omega arith
 row_low PchCapsule s = omega arith
 row_low BmcManifest s = omega arith
@@ -144,7 +144,7 @@ row_apart b One type s = inl (omega (arith, log_low b, row_low type s))
 row_apart b Two type s = inr (omega (arith, log_high b, (row_in_sector type s).0))
 
 -- what is done in a log leaves all of them
-log_grown : (b : Bank) (image : List ℕ) (op : Operation) → IsInLog b op → length image ≡ 32768 → IsGrown image (applied image op)
+pub log_grown : (b : Bank) (image : List ℕ) (op : Operation) → IsInLog b op → length image ≡ 32768 → IsGrown image (applied image op)
 log_grown b image op w size =
     let new : List ℕ = applied image op in
     let same : length new ≡ length image = length-applied image op in
@@ -159,7 +159,7 @@ log_grown b image op w size =
     }
 
 -- and what only clears bits in sector 7 adds to them
-cleared_grown : (image : List ℕ) (op : Operation) → IsWithin 0x7000 4096 op → OnlyClears image (applied image op) → length image ≡ 32768 → IsGrown image (applied image op)
+pub cleared_grown : (image : List ℕ) (op : Operation) → IsWithin 0x7000 4096 op → OnlyClears image (applied image op) → length image ≡ 32768 → IsGrown image (applied image op)
 cleared_grown image op w clears size =
     let new : List ℕ = applied image op in
     let outside : SameOutside 0x7000 4096 image new = within_outside 0x7000 4096 image op w in
@@ -169,7 +169,7 @@ cleared_grown image op w clears size =
     }
 
 -- ---- what a job does
-floor_in_sector : (b : Bank) → (0x7000 ≤ floor_at Two b) × (floor_at Two b + 16 ≤ 0x8000)
+pub floor_in_sector : (b : Bank) → (0x7000 ≤ floor_at Two b) × (floor_at Two b + 16 ≤ 0x8000)
 floor_in_sector bank.Bmc = (omega arith, omega arith)
 floor_in_sector bank.Pch = (omega arith, omega arith)
 

@@ -24,12 +24,14 @@ pub mod RecoverableLaws
 pub mod Bytes
 pub mod SpanLaws
 pub mod SpanSteps
+pub mod Carried
 pub mod MomentLaws
 pub mod RiseLaws
 pub mod KeepLaws
 pub mod RecoveryLaws
 pub mod FuseLaws
 pub mod JobGrowth
+pub mod JobLeaves
 pub mod StoreLaws
 pub mod EventLaws
 pub mod JudgedLaws
