@@ -37,6 +37,7 @@ pub mod EventLaws
 pub mod JudgedLaws
 pub mod ProvisionLaws
 pub mod FilterLaws
+pub mod JobQuiet
 pub mod GrowthLaws
 pub mod ContentsLaws
 pub mod GuardLaws
