@@ -183,11 +183,11 @@ module _ (accepts : Acceptance) (which : Bank) where
   InWork = Both (KeepsSpans accepts which) LeavesNv
 
   -- no span of this bank is open, or another bank is in work and the store is settled
-  abbrev IsIdle : Bank → Bank → Story → Type 0
+  abbrev pub IsIdle : Bank → Bank → Story → Type 0
   IsIdle w b story = (opens_from w [] story.notes ≡ []) ⊎ ((same_bank w b ≡ false) × IsSettled (store story))
 
   -- Bank b is in work; where it is this bank, the store is settled.
-  record AtWork (b : Bank) (story : Story) : Type 0 where
+  pub record AtWork (b : Bank) (story : Story) : Type 0 where
     pub idle : IsIdle which b story
     pub settled : same_bank which b ≡ true → IsSettled (store story)
 
@@ -207,7 +207,7 @@ module _ (accepts : Acceptance) (which : Bank) where
   held_idle bank.Pch bank.Pch story p = inl (opens_told bank.Pch (what.Held bank.Pch) story)
 
   -- an operation of the bank in work
-  spared_at : (w b : Bank) (op : Operation) (story : Story) → IsIdle w b story → KeepsSpans accepts w (Does (device_of b) op) story
+  pub spared_at : (w b : Bank) (op : Operation) (story : Story) → IsIdle w b story → KeepsSpans accepts w (Does (device_of b) op) story
   spared_at w b op story (inl e) = open_none (SparesOpen accepts w (device_of b) op story) (opens_from w [] story.notes) e
   spared_at bank.Bmc bank.Bmc op story (inr other) = absurd (let e = other.0 in cc)
   spared_at bank.Bmc bank.Pch op story (inr other) = open_any (SparesOpen accepts bank.Bmc device.Pch op story) (λ begin. record { spares = λ t. tt; settled = other.1 }) (opens_from bank.Bmc [] story.notes)
@@ -221,7 +221,7 @@ module _ (accepts : Acceptance) (which : Bank) where
   op_safe : (b : Bank) (op : Operation) (story : Story) → AtWork b story → InWork (Does (device_of b) op) story
   op_safe b op story w = (spared_at which b op story w.idle, leaves_nv b op story)
 
-  op_work : (b : Bank) (op : Operation) (story : Story) → AtWork b story → AtWork b (operated (device_of b) op story)
+  pub op_work : (b : Bank) (op : Operation) (story : Story) → AtWork b story → AtWork b (operated (device_of b) op story)
   op_work bank.Bmc op story w = record { idle = w.idle; settled = w.settled }
   op_work bank.Pch op story w = record { idle = w.idle; settled = w.settled }
 
@@ -234,7 +234,7 @@ module _ (accepts : Acceptance) (which : Bank) where
   ops_work b (op ∷ ops) story w = ops_work b ops (operated (device_of b) op story) (op_work b op story w)
 
   -- a note that neither opens nor ends a span
-  still_work : (b : Bank) (w : Counts → What) (story : Story) → ((opens : List Counts) → opens_after which (w (counts_of story)) opens ≡ opens) → AtWork b story → AtWork b (noted w story)
+  pub still_work : (b : Bank) (w : Counts → What) (story : Story) → ((opens : List Counts) → opens_after which (w (counts_of story)) opens ≡ opens) → AtWork b story → AtWork b (noted w story)
   still_work b w story still p =
       record {
         idle = elim p.idle [ inl e ↦ inl (opens_told which w story ∙ still (opens_from which [] story.notes) ∙ e) | inr other ↦ inr other ];

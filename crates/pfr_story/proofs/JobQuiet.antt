@@ -1,0 +1,141 @@
+-- While a job on a bank is done, only its device and the store are called, and all that is told is of the job.
+use Rattle.std.proofs.Common.{◌≡◌, ◌∙◌, refl, sym, subst, ℕ, ◌≤◌, Bool, false, List, length, inl, inr, Ok}
+use Rattle.pfr_flash.specs.Operation.{Operation}
+use Rattle.pfr_flash.specs.declared.names.Bank.{Bank}
+use Rattle.pfr_flash.specs.declared.names.Bank.TheVariants as bank
+use Rattle.pfr_flash.specs.declared.names.Counts.{Counts}
+use Rattle.pfr_flash.specs.declared.names.Device.{Device}
+use Rattle.pfr_flash.specs.declared.names.Device.TheVariants as device
+use Rattle.pfr_engine.specs.Acceptance.{Acceptance}
+use Rattle.pfr_fuses.specs.FusesState.{FusesState}
+use Rattle.pfr_capsule.specs.CapsuleState.{CapsuleState}
+use Rattle.pfr_jobs.specs.LogPlans.{begin_plan}
+use Rattle.pfr_jobs.specs.LogState.{is_spent}
+use Rattle.pfr_jobs.specs.declared.job.JobKind.{JobKind}
+use Rattle.pfr_report.specs.declared.note.What.{What}
+use Rattle.pfr_report.specs.declared.note.What.TheVariants as what
+use Rattle.pfr_story.specs.JobPlans.{JobNotes, with_job, resumed}
+use Rattle.pfr_story.specs.Plans.{store, judged_recovery}
+use Rattle.pfr_story.specs.Safety.{Rule, AllSafe, AllMake, Keeps}
+use Rattle.pfr_story.specs.Story.{Past, Story, Says, Does, Asks, past_at, device_of}
+use Rattle.pfr_story.proofs.BringRules.{IsOwn, Making, safe_made}
+use Rattle.pfr_story.proofs.Facts.{IsLoss, IsNoLoss}
+use Rattle.pfr_story.proofs.FilterLaws.{past_noted, past_other}
+use Rattle.pfr_story.proofs.JobRules.{AllInLog, AllowsJobs}
+use Rattle.pfr_story.proofs.JobWalks.{TellsJobs, job_allowed, resumed_allowed}
+use Rattle.pfr_story.proofs.Made.{Whichever}
+use Rattle.pfr_story.proofs.StepTraces.{LeavesOther}
+use Rattle.pfr_story.proofs.TailLaws.{Apart}
+use Rattle.pfr_story.proofs.Traces.{Saying}
+
+-- ---- what is told of a job
+-- all that is told of a job on a bank is so
+pub record AllTold (P : What → Type 0) (b : Bank) (notes : JobNotes) : Type 0 where
+  pub resumed : (kind : JobKind) → P (notes.resumed kind)
+  pub given_up : P notes.given_up
+  pub restored : (level : ℕ) → P (what.Restored b level)
+  pub updated : (dynamic : Bool) (svn : ℕ) → P (what.Updated b dynamic svn)
+  pub recovery_updated : (svn : ℕ) → P (notes.recovery_updated svn)
+
+-- a rule that lets what is so through lets all of it through
+pub all_told : (G : Rule) (P : What → Type 0) (b : Bank) (notes : JobNotes) → ((that : What) (story : Story) → P that → G (Says (λ _. that)) story) → AllTold P b notes → TellsJobs G b notes
+all_told G P b notes tell all = record {
+  resumed = λ kind story. tell (notes.resumed kind) story (all.resumed kind);
+  given_up = λ story. tell notes.given_up story all.given_up;
+  restored = λ level story. tell (what.Restored b level) story (all.restored level);
+  updated = λ dynamic svn story. tell (what.Updated b dynamic svn) story (all.updated dynamic svn);
+  recovery_updated = λ svn story. tell (notes.recovery_updated svn) story (all.recovery_updated svn);
+}
+
+-- ---- rules that ask only which devices are called, or only what is told
+pub own_jobs : (b : Bank) (S : (Counts → What) → Type 0) → AllowsJobs (Making (IsOwn b) S) b
+own_jobs b S = record { asks = λ which story own. own; works = λ op story. inl refl; logs = λ op story own. inr refl; raises = λ op story raise. inr refl }
+
+pub made_jobs : (b : Bank) (S : (Counts → What) → Type 0) → AllowsJobs (Making Whichever S) b
+made_jobs b S = record { asks = λ which story own. tt; works = λ op story. tt; logs = λ op story own. tt; raises = λ op story raise. tt }
+
+pub told_jobs : (b : Bank) (F : What → Story → Type 0) → AllowsJobs (Saying F) b
+told_jobs b F = record { asks = λ which story own. tt; works = λ op story. tt; logs = λ op story own. tt; raises = λ op story raise. tt }
+
+pub making_told : (D : Device → Type 0) (S : (Counts → What) → Type 0) (b : Bank) (notes : JobNotes) → AllTold (λ that. S (λ _. that)) b notes → TellsJobs (Making D S) b notes
+making_told D S b notes all = all_told (Making D S) (λ that. S (λ _. that)) b notes (λ that story p. p) all
+
+-- of a fact that doesn't ask where it is told
+pub saying_told : (P : What → Type 0) (b : Bank) (notes : JobNotes) → AllTold P b notes → TellsJobs (Saying (λ that story. P that)) b notes
+saying_told P b notes all = all_told (Saying (λ that story. P that)) P b notes (λ that story p. p) all
+
+-- ---- no loss is told
+-- none of the notes that are still open is a loss
+pub record AreNoLoss (notes : JobNotes) : Type 0 where
+  pub resumed : (kind : JobKind) → ¬ IsLoss (notes.resumed kind)
+  pub given_up : ¬ IsLoss notes.given_up
+  pub recovery_updated : (svn : ℕ) → ¬ IsLoss (notes.recovery_updated svn)
+
+pub quiet_told : (D : Device → Type 0) (b : Bank) (notes : JobNotes) → AreNoLoss notes → TellsJobs (Making D IsNoLoss) b notes
+quiet_told D b notes none = making_told D IsNoLoss b notes (record {
+  resumed = λ kind at. none.resumed kind;
+  given_up = λ at. none.given_up;
+  restored = λ level at loss. loss;
+  updated = λ dynamic svn at loss. loss;
+  recovery_updated = λ svn at. none.recovery_updated svn;
+})
+
+-- ---- nothing that guards the other bank is told
+pub record AreGuardless (b : Bank) (notes : JobNotes) : Type 0 where
+  pub resumed : (kind : JobKind) → LeavesOther b (λ _. notes.resumed kind)
+  pub given_up : LeavesOther b (λ _. notes.given_up)
+  pub recovery_updated : (svn : ℕ) → LeavesOther b (λ _. notes.recovery_updated svn)
+
+restored_leaves : (b : Bank) (level : ℕ) → LeavesOther b (λ _. what.Restored b level)
+restored_leaves bank.Bmc level at guard = refl
+restored_leaves bank.Pch level at guard = refl
+
+updated_leaves : (b : Bank) (dynamic : Bool) (svn : ℕ) → LeavesOther b (λ _. what.Updated b dynamic svn)
+updated_leaves bank.Bmc dynamic svn at guard = refl
+updated_leaves bank.Pch dynamic svn at guard = refl
+
+pub guardless_told : (D : Device → Type 0) (b : Bank) (notes : JobNotes) → AreGuardless b notes → TellsJobs (Making D (LeavesOther b)) b notes
+guardless_told D b notes leave = making_told D (LeavesOther b) b notes (record {
+  resumed = leave.resumed;
+  given_up = leave.given_up;
+  restored = restored_leaves b;
+  updated = updated_leaves b;
+  recovery_updated = leave.recovery_updated;
+})
+
+-- ---- nothing is told of another bank
+pub record AreApart (which : Bank) (notes : JobNotes) : Type 0 where
+  pub resumed : (kind : JobKind) → Apart which (notes.resumed kind)
+  pub given_up : Apart which notes.given_up
+  pub recovery_updated : (svn : ℕ) → Apart which (notes.recovery_updated svn)
+
+pub others_told : (D : Device → Type 0) (which b : Bank) (notes : JobNotes) → ¬ (b ≡ which) → AreApart which notes → TellsJobs (Making D (λ w. (at : Counts) → Apart which (w at))) b notes
+others_told D which b notes other apart = making_told D (λ w. (at : Counts) → Apart which (w at)) b notes (record {
+  resumed = λ kind at. apart.resumed kind;
+  given_up = λ at. apart.given_up;
+  restored = λ level at e. other e;
+  updated = λ dynamic svn at e. other e;
+  recovery_updated = λ svn at. apart.recovery_updated svn;
+})
+
+-- ---- the devices that aren't called are as before
+pub uncalled_same : (D : Device → Type 0) (S : (Counts → What) → Type 0) (from : Story) → Keeps (Making D S) (λ story. (other : Device) → ¬ D other → past_at other story ≡ past_at other from)
+uncalled_same D S from (Says w) story g p = λ other apart. past_noted other w story ∙ p other apart
+uncalled_same D S from (Does which op) story g p =
+    λ other apart. past_other which other op story (λ e. apart (subst D (sym e) g)) ∙ p other apart
+uncalled_same D S from (Asks which) story g p = p
+
+-- ---- which moves a whole job makes
+module _ (b : Bank) (S : (Counts → What) → Type 0) (notes : JobNotes) (tells : TellsJobs (Making (IsOwn b) S) b notes) where
+  pub job_makes : (kind : JobKind) (fuses : FusesState) (capsule : CapsuleState) (that : What) → S (λ _. that) → (story : Story)
+      → (is_spent (store story) b ≡ false → AllInLog b (begin_plan (store story) b kind capsule.digest)) → AllMake (IsOwn b) S (with_job b kind fuses capsule that story)
+  job_makes kind fuses capsule that told story own =
+      safe_made (IsOwn b) S (with_job b kind fuses capsule that story) story
+      (job_allowed (Making (IsOwn b) S) b (own_jobs b S) notes tells kind fuses capsule that (λ there. told) story own)
+
+  pub resumed_makes : (accepts : Acceptance) (fuses : FusesState)
+      → ((story : Story) (standing : CapsuleState) → judged_recovery accepts b fuses story ≡ Ok standing → standing.manifest.svn ≤ 128) → (story : Story) → length (store story) ≡ 32768
+      → AllMake (IsOwn b) S (resumed notes accepts b fuses story)
+  resumed_makes accepts fuses small story size =
+      safe_made (IsOwn b) S (resumed notes accepts b fuses story) story
+      (resumed_allowed (Making (IsOwn b) S) b (own_jobs b S) notes tells accepts fuses small story size)
