@@ -8,11 +8,11 @@ from __future__ import annotations
 
 import random
 
+import certifier
 import day_scripts
 import foreseer
 import frame_scripts
 import jobber
-import judge
 import maker
 import restorer
 from day_scripts import prefixed
@@ -29,7 +29,7 @@ SIBLINGS = {
     "wide": (("regions.1.pages=erase",), ("regions.3.pages=keep",), ("capsule.reserved=hex:" + "5a" * 100,)),
 }
 SIZES = {"small": 256, "tiny": 32, "wide": 1024}
-INTENTS = ("active", "active", "full", "recovery", "recovery", "recovery", "recovery", "cert", "cert", "cert")
+INTENTS = ("active", "active", "full", "recovery", "recovery", "recovery", "recovery")
 # How often an item of each kind is drawn.
 KINDS = {"tick": 10, "boot": 12, "update": 40, "spi": 12, "smbus": 1, "arm": 26, "power": 8, "off": 1, "provision": 1}
 # How often a log of each kind is drawn.
@@ -269,6 +269,14 @@ def drawn_arm(rng, platform):
     return f"{rng.choice(('cut', 'cut', 'fault'))} {device} {nth} {drawn_tear(rng, platform, name)}"
 
 
+def drawn_update(rng, platform, name):
+    """An update, of an intent that mostly fits what is staged."""
+    at = platform.place(name, "staging_at")
+    is_certificate = restorer.numbers(platform.devices[name].image, at + 8, 1)[0] in certifier.CANCELLING
+    fits = rng.randrange(8) > 0
+    return f"update {name} {'cert' if is_certificate == fits else rng.choice(INTENTS)}"
+
+
 def drawn_items(rng, platform, shapes, slot):
     """The next items of a script, by what runs then."""
     if not any(platform.runs(name) for name in maker.BANKS) and rng.randrange(6):
@@ -276,9 +284,9 @@ def drawn_items(rng, platform, shapes, slot):
     kind = rng.choices(list(KINDS), KINDS.values())[0]
     name = rng.choice(maker.BANKS)
     if kind == "update":
-        return [f"update {name} {rng.choice(INTENTS)}"]
+        return [drawn_update(rng, platform, name)]
     if kind == "arm":
-        return [drawn_arm(rng, platform)] + [f"update {name} {rng.choice(INTENTS)}"] * rng.randrange(2)
+        return [drawn_arm(rng, platform)] + [drawn_update(rng, platform, name)] * rng.randrange(2)
     if kind == "boot":
         return day_scripts.drawn_boot(rng, platform)
     if kind == "spi":
@@ -306,8 +314,8 @@ def drawn_script(rng):
     shapes = {name: shape_of(files, name) for name in maker.BANKS}
     platform, lines = foreseer.platform_of(files, jobs=True), []
     for _ in range(rng.choice((6, 12, 24, 40))):
-        if not rng.randrange(16):
-            name = rng.choice(maker.BANKS)
+        name = rng.choice(maker.BANKS)
+        if platform.runs(name) and not rng.randrange(12):
             layout = restorer.layout_of(files["nv"], name)
             items = staging_frames(name, files[name], layout, rng.choice(certificates)) + [f"update {name} cert"]
         else:
