@@ -6,13 +6,16 @@ import hashlib
 import os
 import re
 
+import checker
 import day_scripts
 import foreseer
 import frame_scripts
+import job_scripts
+import jobber
 import maker
 import restorer
 from case_reader import CaseFault
-from platforms import description_of, made_platform
+from platforms import description_of, made_certificate, made_platform, spans_of
 
 TOP = os.path.dirname(os.path.dirname(os.path.abspath(__file__)))
 CHUNK = 1 << 20
@@ -170,6 +173,27 @@ class Files:
             lines = f"spi {bank} 06\nspi {bank} 02{at + begin:08x}{piece.hex()}\n"
             self.held[name] += data_of(lines) if piece.strip(b"\xff") else b""
 
+    def certificate(self, name, bank, part, key_id, *options):
+        """certificate NAME BANK PART ID [OPTION..]: a certificate that cancels a key of the manifests or capsules; its row goes to `engine`."""
+        made, row = made_certificate(bank, part, int(key_id, 0), options)
+        self.held[name] = made
+        self.held["engine"] = self.held.get("engine", b"") + row
+
+    def slot(self, name, at, work, source, *options):
+        """slot NAME AT WORK FROM [OPTION..]: a job's slot at a place of a store, with the digest of a file's bytes."""
+        given = dict(option.split("=", 1) for option in options)
+        marks = bytearray(maker.blank(jobber.REST - jobber.MARKS))
+        for group in spans_of(given.get("marks", "")):
+            marks[group // 8] &= ~(1 << group % 8)
+        head = bytes.fromhex(given.get("gate", "00")) + jobber.body_of(work, maker.sha256(self.get(source))) + bytes(marks)
+        rest = maker.blank(jobber.END - jobber.REST) + bytes.fromhex(given.get("end", "ff"))
+        self.put_at(name, int(at, 0), head + rest)
+
+    def digits(self, name, source, begin="0", end=""):
+        """digits NAME FROM [BEGIN END]: at a text's end the digits of a file's bytes."""
+        data = self.get(source)
+        self.held[name] += data[int(begin, 0) : int(end, 0) if end else len(data)].hex().encode()
+
     def drawn(self, number):
         """drawn N: the files of a platform and a script of frames, drawn from the number."""
         self.held.update(frame_scripts.drawn_files(int(number)))
@@ -177,6 +201,10 @@ class Files:
     def drawn_day(self, number):
         """drawn_day N: the files of a platform and a script of boots, ticks, updates and frames, drawn from the number."""
         self.held.update(day_scripts.drawn_files(int(number)))
+
+    def drawn_jobs(self, number):
+        """drawn_jobs N: the same of updates of all intents, over stores whose logs are drawn too."""
+        self.held.update(job_scripts.drawn_files(int(number)))
 
     def sweep(self, name):
         """sweep NAME: a script that gives the BMC all frames of a kind."""
@@ -189,6 +217,12 @@ class Files:
         found = foreseer.foreseen(*images, *texts, *map(int, wear))
         for part, content in zip(found._fields, found):
             self.held[f"{name}.{part}"] = content
+
+    def verdicts(self, name, *words):
+        """verdicts NAME [BMC PCH NV]: what `check` writes, and that it leaves all as it is."""
+        images = [bytes(self.get(word)) for word in words or ("bmc", "pch", "nv")]
+        self.held[name + ".report"] = checker.verdicts(*images, self.get("engine").decode()).encode()
+        self.held.update({f"{name}.{part}": image for part, image in zip(("bmc", "pch", "nv"), images)})
 
     # ---- their use
 
@@ -210,7 +244,7 @@ class Files:
 
 LINES = (
     "platform source copy text script fill zeros folder seal turn put number into append keep change repeat"
-    " restored updated cut_restore frames drawn drawn_day sweep foresee".split()
+    " restored updated cut_restore frames certificate slot digits drawn drawn_day drawn_jobs sweep foresee verdicts".split()
 )
 
 

@@ -3,13 +3,18 @@
 `foreseen` plays a script over two banks and a store, and gives the report and the bytes that stand there afterwards. The
 judgements are those of judge.py, the frames those of framer.py, the watches those of watcher.py, and what is written in a
 restore and in an update is restorer.py's. Of what goes beyond this nothing is told: it is Unforeseen.
+
+Where JOBS says so, the logs of jobs count, as jobber.py reads them, and certificates as certifier.py does. Else each log counts as
+spent, and no job is ever open.
 """
 
 from __future__ import annotations
 
 from collections import namedtuple
 
+import certifier
 import framer
+import jobber
 import judge
 import maker
 import restorer
@@ -19,6 +24,7 @@ from watcher import SPENT, Watch
 
 STORE_ROOM = 65536
 NEVER_READ = 1 << 31
+JOBS = False
 
 Foreseen = namedtuple("Foreseen", "report bmc pch nv")
 
@@ -28,7 +34,7 @@ class Unforeseen(Exception):
 
 
 class Fault(Exception):
-    """A device fails a call."""
+    """A device fails a call: its name."""
 
 
 class Lost(Exception):
@@ -61,12 +67,12 @@ class Device:
             raise Unforeseen("a fault of a later read")
         if self.read_due == 1:
             self.read_due = 0
-            raise Fault
+            raise Fault(self.name)
 
     def operate(self, at, piece):
         """Does an operation, an erase where it has no bytes, as far as arms and room allow."""
         if self.done == self.room:
-            raise Fault
+            raise Fault(self.name)
         self.done += 1
         met = {what: tear for what, (number, tear) in self.due.items() if number == self.done}
         self.due = {what: due for what, due in self.due.items() if what not in met}
@@ -77,17 +83,18 @@ class Device:
         if "cut" in met:
             raise Lost(self.name)
         if met:
-            raise Fault
+            raise Fault(self.name)
 
 
 class Platform:
     """Two banks and a store, and what was noted of them. `rows` are the engine's."""
 
-    def __init__(self, bmc, pch, nv, rows, wear=8):
+    def __init__(self, bmc, pch, nv, rows, wear=8, jobs=None):
         images = {"bmc": bmc, "pch": pch}
         self.devices = {name: Device(name, image, 17 * wear * (len(image) // PAGE)) for name, image in images.items()}
         self.devices["nv"] = Device("nv", nv, STORE_ROOM)
         self.rows = rows
+        self.jobs = JOBS if jobs is None else jobs
         self.seats = {name: Seat("off") for name in maker.BANKS}
         self.watches = {name: Watch(name) for name in maker.BANKS}
         self.item = 0
@@ -136,15 +143,22 @@ class Platform:
         self.seats[name] = Seat("held")
 
     def work(self, name, task, *given):
-        """Does a task with a bank that is held; a fault of the bank's device locks it."""
+        """Does a task with a bank that is held; a fault of its device or of the store locks it."""
         self.hold(name)
         try:
             task(name, *given)
-        except Fault:
-            self.lock(name, "flash-fault")
+        except Fault as fault:
+            self.lock(name, "store-fault" if str(fault) == "nv" else "flash-fault")
 
     def stored(self):
         return bytes(self.devices["nv"].image)
+
+    def image(self, name):
+        return bytes(self.devices[name].image)
+
+    def place(self, name, area):
+        """Where an area of a bank begins."""
+        return getattr(restorer.layout_of(self.stored(), name), area)
 
     # ---- the items
 
@@ -232,16 +246,19 @@ class Platform:
             fuses = maker.FLOORS["bmc"]
             self.write("nv", [(fuses, None), (fuses, judge.moved_fuses(store)), (maker.PROFILE_GATE, b"\0")])
 
-    def copy(self, name, work):
-        """Copies the pages of a good capsule."""
-        self.write(name, restorer.strokes(bytes(self.devices[name].image), self.stored(), name, work))
+    def copy(self, name, work, job=None):
+        """Copies the pages of a good capsule; those of a job but for the groups that are marked."""
+        for device, *operation in jobber.passed(self.image(name), self.stored(), name, work, job):
+            self.write(device, [operation])
 
     def judged(self, name, area):
         """Why a bank's capsule in an area is bad, or nothing."""
         self.devices[name].read()
-        image, store = bytes(self.devices[name].image), self.stored()
-        at = getattr(restorer.layout_of(store, name), area)
-        return judge.cause_of(judge.judge_capsule, image, at, name, store, self.rows)
+        return judge.cause_of(judge.judge_capsule, self.image(name), self.place(name, area), name, self.stored(), self.rows)
+
+    def digest(self, name, area):
+        """The digest of the good capsule in an area."""
+        return jobber.capsule_digest(self.image(name), self.place(name, area))
 
     def bring_up(self, name):
         """A bank's turn in a power-on."""
@@ -252,6 +269,9 @@ class Platform:
         cause = judge.layout_cause(restorer.layout_of(store, name), len(self.devices[name].image))
         if cause:
             return self.lock(name, f"layout {cause}")
+        job = jobber.job_of(store, name) if self.jobs else None
+        if job:
+            self.resume(name, job)
         self.settle(name)
 
     def settle(self, name):
@@ -264,7 +284,7 @@ class Platform:
             bad = self.judged(name, "recovery_at")
             if bad:
                 return self.lock(name, f"no-good-image {cause} {bad}")
-            self.restore(name, 1)
+            self.do(name, "1")
         self.release(name, bytes(device.image), restorer.layout_of(store, name))
 
     def release(self, name, image, layout):
@@ -272,10 +292,6 @@ class Platform:
         self.say(f"{name} released svn {manifest.svn}")
         self.seats[name] = Seat("running", manifest, layout)
         self.watches[name].restart()
-
-    def restore(self, name, level):
-        self.copy(name, str(level))
-        self.say(f"{name} restored level {level}")
 
     def expire(self, name):
         """A boot has failed."""
@@ -290,20 +306,84 @@ class Platform:
         bad = self.judged(name, "recovery_at")
         if bad:
             return self.lock(name, f"no-recovery {bad}")
-        self.restore(name, level)
+        self.do(name, str(level))
         self.settle(name)
 
     def renew(self, name, intent):
-        """Does an update by the capsule that is staged, or refuses it."""
+        """Does an update by what is staged, or refuses it."""
+        if not self.jobs and intent not in restorer.UPDATES:
+            raise Unforeseen(f"an update of the intent {intent}")
         self.know_store()
-        bad = self.judged(name, "staging_at")
-        if bad:
-            self.say(f"{name} refused {bad}")
-        else:
-            self.copy(name, intent)
-            svn = framer.active_manifest(bytes(self.devices[name].image), restorer.layout_of(self.stored(), name)).svn
-            self.say(f"{name} updated {intent} svn {svn}")
+        cause = self.cancel(name) if intent == "cert" else self.judged(name, "staging_at") or self.bar(name, intent)
+        if cause:
+            self.say(f"{name} refused {cause}")
+        elif intent != "cert":
+            self.do(name, intent)
         self.settle(name)
+
+    # ---- jobs
+
+    def is_spent(self, name):
+        """Whether a work is done without a job."""
+        return not self.jobs or jobber.is_spent(self.stored(), name)
+
+    def bar(self, name, intent):
+        """Why an update isn't done although its capsule is good, or nothing: the recovery area takes what runs, and by a job alone."""
+        if intent != "recovery":
+            return ""
+        image, store = self.image(name), self.stored()
+        running = judge.judge_image(image, name, store, self.rows)
+        staged = judge.judge_capsule(image, self.place(name, "staging_at"), name, store, self.rows)
+        return "manifest-differs" if running != staged else "jobs-spent" if self.is_spent(name) else ""
+
+    def do(self, name, work):
+        """Does a work with a good capsule from its begin on."""
+        job = None
+        if not self.is_spent(name):
+            self.write("nv", jobber.begun(self.stored(), name, work, self.digest(name, jobber.area_of(work))))
+            job = jobber.job_of(self.stored(), name)
+        self.carry_out(name, work, job)
+
+    def resume(self, name, job):
+        """Goes on with a job that a power-on finds open, or gives it up."""
+        area = jobber.area_of(job.work)
+        if not job.work or self.judged(name, area) or self.digest(name, area) != job.digest:
+            self.write("nv", [jobber.finished(job)])
+            return self.say(f"{name} job abandoned")
+        self.say(f"{name} resumed {jobber.name_of(job)}")
+        self.carry_out(name, job.work, job)
+
+    def carry_out(self, name, work, job):
+        """Copies what a work copies, closes its job, and notes it."""
+        self.copy(name, work, job)
+        area = jobber.area_of(work)
+        if work == "recovery":
+            area = "recovery_at"
+            if self.judged(name, area) or self.digest(name, area) != job.digest:
+                self.copy(name, work)
+        svn = jobber.capsule_svn(self.image(name), self.place(name, area))
+        if work == "recovery":
+            self.write("nv", jobber.raised(self.stored(), name, svn))
+        if job:
+            self.write("nv", [jobber.finished(job)])
+        told = {"recovery": f"recovery updated svn {svn}", **{update: f"updated {update} svn {svn}" for update in restorer.UPDATES}}
+        self.say(f"{name} {told.get(work, f'restored level {work}')}")
+
+    def cancel(self, name):
+        """Cancels a key by the certificate that is staged, or gives why it doesn't."""
+        self.devices[name].read()
+        given = self.image(name), name, self.stored()
+        cause = judge.cause_of(certifier.judge_certificate, *given, self.rows)
+        if cause:
+            return cause
+        certificate = certifier.judge_certificate(*given, self.rows)
+        cause = judge.cause_of(certifier.judge_use, certificate, *given, not self.judged(name, "recovery_at"))
+        if not cause:
+            self.write("nv", [jobber.fuse(maker.CANCELLED[certificate.kind], certificate.key_id)])
+            self.say(f"cancelled {certifier.WORDS[certificate.kind]} {certificate.key_id}")
+        return cause
+
+    # ---- what isn't known
 
     def know_store(self):
         """Whether the store is read again behind a power-on is nobody's to know."""
@@ -335,14 +415,14 @@ def rows_of(engine):
     return set(engine.lower().split("\n"))
 
 
-def platform_of(files):
+def platform_of(files, jobs=None):
     """The platform of some files by name."""
-    return Platform(files["bmc"], files["pch"], files["nv"], rows_of(files["engine"].decode()))
+    return Platform(files["bmc"], files["pch"], files["nv"], rows_of(files["engine"].decode()), jobs=jobs)
 
 
-def foreseen(bmc, pch, nv, engine, script, wear=8):
+def foreseen(bmc, pch, nv, engine, script, wear=8, jobs=None):
     """The report of a script, and the images and the store that it leaves."""
-    platform = Platform(bmc, pch, nv, rows_of(engine), wear)
+    platform = Platform(bmc, pch, nv, rows_of(engine), wear, jobs)
     for line in items_of(script):
         platform.take(line)
     report = "".join(note + "\n" for note in platform.notes).encode()

@@ -140,15 +140,21 @@ def judge_grant(grant, kind, keys):
     need(grant.key_id not in keys.cancelled[kind], "cancelled")
 
 
-def judge_entries(block, kind, keys):
-    """Judges Block 1 of form 1."""
+def judge_root(block, keys):
+    """Judges Block 1 of form 1 up to the root entry: gives the curve, the magic of its signatures, and the key."""
     need(numbers(block, 128, 1) == (0xF27F28D7,), "block1-magic")
     magic, curve, permissions, key_id = numbers(block, 144, 4)
     known = magic == 0xA757A046 and curve in maker.CURVES.values()
     need(known and permissions == key_id == maker.ANY, "root-entry")
-    root, key = block[160:256], block[292:388]
+    root = block[160:256]
     need(maker.sha256(root) == keys.root, "root-hash")
-    signing = next(maker.SIGNATURE_MAGICS[size] for size, number in maker.CURVES.items() if number == curve)
+    return curve, next(maker.SIGNATURE_MAGICS[size] for size, number in maker.CURVES.items() if number == curve), root
+
+
+def judge_entries(block, kind, keys):
+    """Judges Block 1 of form 1."""
+    curve, signing, root = judge_root(block, keys)
+    key = block[292:388]
     magic, key_curve, *grant = numbers(block, 276, 4)
     need(magic == 0x14711C2F and key_curve == curve and numbers(block, 408, 1) == (signing,), "key-entry")
     judge_grant(Grant(*grant), kind, keys)
@@ -182,8 +188,8 @@ class Entries:
         return self.take(count)
 
 
-def judge_long_entries(block, kind, keys):
-    """Judges Block 1 of form 2."""
+def judge_long_root(block, keys):
+    """Judges Block 1 of form 2 up to the root entry: gives the entries behind it, the scheme, and the key."""
     need(numbers(block, 128, 1) == (0xF27F28D8,), "block1-magic")
     entries = Entries(block, 144)
     entries.begin("root-entry")
@@ -191,6 +197,12 @@ def judge_long_entries(block, kind, keys):
     root = entries.counted(256)
     need(magic == 0xA757A047 and permissions == key_id == maker.ANY, "root-entry")
     need(maker.long_root_hash(scheme, root) == keys.root, "root-hash")
+    return entries, scheme, root
+
+
+def judge_long_entries(block, kind, keys):
+    """Judges Block 1 of form 2."""
+    entries, scheme, root = judge_long_root(block, keys)
     entries.begin("key-entry")
     signed_at = entries.at + 4
     magic, permissions, key_id, key_scheme = entries.numbers(4)
@@ -205,8 +217,8 @@ def judge_long_entries(block, kind, keys):
     need(accepts_long(keys, scheme, key, block[:128], signature), "block0-signature")
 
 
-def judge_block(data, kind, keys):
-    """Judges the signature block with which the data begin, and the content behind it: gives where this begins and ends."""
+def judge_content(data, kind, wanted=None):
+    """Judges Block 0, with which the data begin, and the content, which may have to be so long: gives where this begins and ends."""
     need(len(data) >= maker.BLOCK, "short-block")
     magic, length, found, block_length = numbers(data, 0, 4)
     need(magic in (FORM1_MAGIC, FORM2_MAGIC), "block0-magic")
@@ -216,13 +228,19 @@ def judge_block(data, kind, keys):
         begin = block_length
         may_be = begin % 128 == 0 and maker.BLOCK <= begin <= LONGEST_BLOCK
         need(may_be and begin <= len(data), "block-length")
-    need(0 < length <= len(data) - begin, "length")
+    need(0 < length <= len(data) - begin and wanted in (None, length), "length")
     content = data[begin : begin + length]
     need(maker.sha256(content) == data[16:48], "digest256")
     need(maker.sha384(content) == data[48:96], "digest384")
-    judge = judge_entries if magic == FORM1_MAGIC else judge_long_entries
-    judge(data[:begin], kind, keys)
     return begin, begin + length
+
+
+def judge_block(data, kind, keys):
+    """Judges the signature block with which the data begin, and the content behind it: gives where this begins and ends."""
+    begin, end = judge_content(data, kind)
+    judge = judge_entries if numbers(data, 0, 1) == (FORM1_MAGIC,) else judge_long_entries
+    judge(data[:begin], kind, keys)
+    return begin, end
 
 
 # ---- manifests

@@ -100,15 +100,18 @@ def description_of(name):
     return {"curve": 256, "form": 1, "root": root, "bmc": bank_of(bmc), "pch": bank_of(pch)}
 
 
+def spans_of(text):
+    """The numbers of a list as `2,4-6`."""
+    spans = [[int(word) for word in span.split("-")] for span in text.split(",") if span]
+    return [number for span in spans for number in range(span[0], span[-1] + 1)]
+
+
 def value_of(text):
     """What an option gives: bytes behind `hex:`, numbers of pages behind `pages:`, or a number."""
     kind, _, rest = text.rpartition(":")
     if kind == "hex":
         return bytes.fromhex(rest)
-    if kind == "pages":
-        spans = [[int(word) for word in span.split("-")] for span in rest.split(",") if span]
-        return [page for span in spans for page in range(span[0], span[-1] + 1)]
-    return int(text, 0)
+    return spans_of(rest) if kind == "pages" else int(text, 0)
 
 
 def set_option(description, parts, path, text):
@@ -178,3 +181,15 @@ def made_platform(name, options, staged):
         files.update({bank: image, bank + ".capsule": capsule})
     files.update(nv=maker.provision(description), engine=engine.text(), script=b"power\n")
     return files
+
+
+def made_certificate(bank, part, key_id, options):
+    """A certificate by the platforms' root, and its row. Options: `form`, `curve`, `body`, bytes of the body from its begin on, and fields of the block."""
+    given = dict(option.split("=", 1) for option in options)
+    form, curve = int(given.pop("form", "1")), int(given.pop("curve", "256"))
+    body = maker.certificate_body(key_id)
+    body = maker.place(body, 0, bytes.fromhex(given.pop("body"))) if "body" in given else body
+    engine, root = maker.Engine(), maker.key_of(description_of("tiny")["root"])
+    fields = {name: value_of(text) for name, text in given.items()}
+    kind = maker.CANCELS + maker.TYPES[bank, part]
+    return maker.signed(body, kind, root, None, form, curve, engine, **fields), engine.text()
