@@ -55,3 +55,4 @@ pub mod JobSafetyRecovery
 pub mod JobSafetyResumed
 pub mod JobSafetyCancelled
 pub mod JobSafetyLaws
+pub mod JobSafetyFuses
