@@ -56,3 +56,4 @@ pub mod JobSafetyResumed
 pub mod JobSafetyCancelled
 pub mod JobSafetyLaws
 pub mod JobSafetyFuses
+pub mod JobMakes
