@@ -32,7 +32,7 @@ use Rattle.pfr_manifest.specs.declared.manifest.Manifest.{Manifest}
 use Rattle.pfr_manifest.proofs.ApartLaw.{LeavesTrusted}
 use Rattle.pfr_capsule.specs.CapsuleState.{CapsuleState}
 use Rattle.pfr_capsule.specs.Good.{IsGood, StandForBank}
-use Rattle.pfr_capsule.proofs.ServesLaw.{StillServes, good_serves}
+use Rattle.pfr_capsule.proofs.ServesLaw.{StillServes, good_serves, serves_same}
 use Rattle.pfr_jobs.specs.declared.job.JobKind.{JobKind}
 use Rattle.pfr_strokes.specs.Strokes.{is_blank, programs, program_of, strokes, strokes_of}
 use Rattle.pfr_strokes.proofs.ReplacedLaws.{IsOneOf, pages_are}
@@ -152,19 +152,25 @@ trusted_leave m layout (op ∷ ops) all =
 
 -- ---- a store that says the same of the bank
 module _ (accepts : Acceptance) (b : Bank) (image nv later : List ℕ) where
-  good_still : (place len : ℕ) (g : IsGood image place len nv b accepts) → StandForBank later g.fuses b → IsGood image place len later b accepts
-  good_still place len g p =
-      let serves : StillServes g.fuses g.parts.manifest.svn g.capsule.capsule_key g.capsule.manifest_key b later = record {
-        all = p.all;
-        provisioned = p.provisioned;
-        provision = sym p.provision;
-        floor = omega (arith, p.floor, g.signed.svn);
-        capsule_row = subst (λ (row : List ℕ). is_cleared row g.capsule.capsule_key ≡ false) p.capsule_row
-            (chain_free image place len (capsule_type b) g.fuses.provision.root (row_of g.fuses (capsule_type b)) accepts g.parts.capsule g.capsule.capsule_key g.capsule_key g.signed.capsule);
-        manifest_row = subst (λ (row : List ℕ). is_cleared row g.capsule.manifest_key ≡ false) p.manifest_row
-            (chain_free image g.parts.capsule.content_at _ (manifest_type b) g.fuses.provision.root (row_of g.fuses (manifest_type b)) accepts g.parts.inner g.capsule.manifest_key g.manifest_key g.signed.inner);
-      } in
-      good_serves image nv later place len b accepts g serves
+  serves_from : (place len : ℕ) (g : IsGood image place len nv b accepts) → StandForBank later g.fuses b → StillServes g.fuses g.parts.manifest.svn g.capsule.capsule_key g.capsule.manifest_key b later
+  serves_from place len g p = record {
+    all = p.all;
+    provisioned = p.provisioned;
+    provision = sym p.provision;
+    floor = omega (arith, p.floor, g.signed.svn);
+    capsule_row = subst (λ (row : List ℕ). is_cleared row g.capsule.capsule_key ≡ false) p.capsule_row
+        (chain_free image place len (capsule_type b) g.fuses.provision.root (row_of g.fuses (capsule_type b)) accepts g.parts.capsule g.capsule.capsule_key g.capsule_key g.signed.capsule);
+    manifest_row = subst (λ (row : List ℕ). is_cleared row g.capsule.manifest_key ≡ false) p.manifest_row
+        (chain_free image g.parts.capsule.content_at _ (manifest_type b) g.fuses.provision.root (row_of g.fuses (manifest_type b)) accepts g.parts.inner g.capsule.manifest_key g.manifest_key g.signed.inner);
+  }
+
+  pub good_still : (place len : ℕ) (g : IsGood image place len nv b accepts) → StandForBank later g.fuses b → IsGood image place len later b accepts
+  good_still place len g p = good_serves image nv later place len b accepts g (serves_from place len g p)
+
+  -- it is the same capsule, with the provision that it had
+  pub still_same : (place len : ℕ) (g : IsGood image place len nv b accepts) (p : StandForBank later g.fuses b) → ((good_still place len g p).capsule ≡ g.capsule) × ((good_still place len g p).fuses.provision ≡ g.fuses.provision)
+  unfolding good_still
+  still_same place len g p = serves_same image nv later place len b accepts g (serves_from place len g p)
 
   pub recovery_still : (r : HasGoodRecovery b image nv accepts) → StandForBank later r.fuses b → HasGoodRecovery b image later accepts
   recovery_still r p =
@@ -195,7 +201,7 @@ same_rows : (fuses : FusesState) (p q : Profile) (b : Bank) → (row_of (record 
 same_rows fuses p q bank.Bmc = (refl, refl)
 same_rows fuses p q bank.Pch = (refl, refl)
 
-says_stand : (fuses : FusesState) (p : Profile) (b : Bank) (later : List ℕ) → SaysFuses fuses later → StandForBank later (record fuses { profile = p }) b
+pub says_stand : (fuses : FusesState) (p : Profile) (b : Bank) (later : List ℕ) → SaysFuses fuses later → StandForBank later (record fuses { profile = p }) b
 says_stand fuses p b later says = record {
   all = record fuses { profile = profile_of later };
   provisioned = says;
@@ -205,7 +211,7 @@ says_stand fuses p b later says = record {
   manifest_row = (same_rows fuses p (profile_of later) b).1;
 }
 
-recovery_says : (accepts : Acceptance) (b : Bank) (image nv later : List ℕ) (fuses : FusesState) → SaysFuses fuses nv → SaysFuses fuses later → HasGoodRecovery b image nv accepts → HasGoodRecovery b image later accepts
+pub recovery_says : (accepts : Acceptance) (b : Bank) (image nv later : List ℕ) (fuses : FusesState) → SaysFuses fuses nv → SaysFuses fuses later → HasGoodRecovery b image nv accepts → HasGoodRecovery b image later accepts
 recovery_says accepts b image nv later fuses before behind r =
     let same : r.fuses ≡ record fuses { profile = profile_of nv } = fuses_one nv r.fuses (record fuses { profile = profile_of nv }) r.provisioned before in
     recovery_still accepts b image nv later r (subst (λ (kept : FusesState). StandForBank later kept b) (sym same) (says_stand fuses (profile_of nv) b later behind))

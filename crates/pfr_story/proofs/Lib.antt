@@ -74,3 +74,5 @@ pub mod JobResumed
 pub mod JobTail
 pub mod JobPower
 pub mod JobRecoveryBegun
+pub mod JobSafetyFuses
+pub mod JobMakes
