@@ -32,6 +32,7 @@ pub mod RecoveryLaws
 pub mod FuseLaws
 pub mod JobGrowth
 pub mod JobLeaves
+pub mod JobTrust
 pub mod StoreLaws
 pub mod EventLaws
 pub mod JudgedLaws
