@@ -39,7 +39,9 @@ pub mod JudgedLaws
 pub mod ProvisionLaws
 pub mod FilterLaws
 pub mod JobQuiet
+pub mod JobFront
 pub mod GrowthLaws
+pub mod GrownSteps
 pub mod ContentsLaws
 pub mod GuardLaws
 pub mod Endings
