@@ -173,7 +173,7 @@ pub floor_in_sector : (b : Bank) → (0x7000 ≤ floor_at Two b) × (floor_at Tw
 floor_in_sector bank.Bmc = (omega arith, omega arith)
 floor_in_sector bank.Pch = (omega arith, omega arith)
 
-own_growing : (b : Bank) (op : Operation) (story : Story) → Growing (Does (device_of b) op) story
+pub own_growing : (b : Bank) (op : Operation) (story : Story) → Growing (Does (device_of b) op) story
 own_growing bank.Bmc op story = tt
 own_growing bank.Pch op story = tt
 

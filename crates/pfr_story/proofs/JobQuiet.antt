@@ -126,16 +126,15 @@ uncalled_same D S from (Does which op) story g p =
 uncalled_same D S from (Asks which) story g p = p
 
 -- ---- which moves a whole job makes
-module _ (b : Bank) (S : (Counts → What) → Type 0) (notes : JobNotes) (tells : TellsJobs (Making (IsOwn b) S) b notes) where
-  pub job_makes : (kind : JobKind) (fuses : FusesState) (capsule : CapsuleState) (that : What) → S (λ _. that) → (story : Story)
-      → (is_spent (store story) b ≡ false → AllInLog b (begin_plan (store story) b kind capsule.digest)) → AllMake (IsOwn b) S (with_job b kind fuses capsule that story)
-  job_makes kind fuses capsule that told story own =
-      safe_made (IsOwn b) S (with_job b kind fuses capsule that story) story
-      (job_allowed (Making (IsOwn b) S) b (own_jobs b S) notes tells kind fuses capsule that (λ there. told) story own)
+pub job_makes : (b : Bank) (S : (Counts → What) → Type 0) (kind : JobKind) (fuses : FusesState) (capsule : CapsuleState) (that : What) → S (λ _. that) → (story : Story)
+    → (is_spent (store story) b ≡ false → AllInLog b (begin_plan (store story) b kind capsule.digest)) → AllMake (IsOwn b) S (with_job b kind fuses capsule that story)
+job_makes b S kind fuses capsule that told story own =
+    safe_made (IsOwn b) S (with_job b kind fuses capsule that story) story
+    (job_allowed (Making (IsOwn b) S) b (own_jobs b S) kind fuses capsule that (λ there. told) story own)
 
-  pub resumed_makes : (accepts : Acceptance) (fuses : FusesState)
-      → ((story : Story) (standing : CapsuleState) → judged_recovery accepts b fuses story ≡ Ok standing → standing.manifest.svn ≤ 128) → (story : Story) → length (store story) ≡ 32768
-      → AllMake (IsOwn b) S (resumed notes accepts b fuses story)
-  resumed_makes accepts fuses small story size =
-      safe_made (IsOwn b) S (resumed notes accepts b fuses story) story
-      (resumed_allowed (Making (IsOwn b) S) b (own_jobs b S) notes tells accepts fuses small story size)
+pub resumed_makes : (b : Bank) (S : (Counts → What) → Type 0) (notes : JobNotes) → TellsJobs (Making (IsOwn b) S) b notes → (accepts : Acceptance) (fuses : FusesState)
+    → ((story : Story) (standing : CapsuleState) → judged_recovery accepts b fuses story ≡ Ok standing → standing.manifest.svn ≤ 128) → (story : Story) → length (store story) ≡ 32768
+    → AllMake (IsOwn b) S (resumed notes accepts b fuses story)
+resumed_makes b S notes tells accepts fuses small story size =
+    safe_made (IsOwn b) S (resumed notes accepts b fuses story) story
+    (resumed_allowed (Making (IsOwn b) S) b (own_jobs b S) notes tells accepts fuses small story size)

@@ -91,32 +91,33 @@ module _ (G : Rule) (b : Bank) (h : AllowsJobs G b) where
       let layout : Layout = layout_of fuses.provision b in
       deeds_allowed G b h (recovery_ignoring image capsule.length layout) story (ignoring_own b (recovery_page image layout.staging_at capsule.length layout) (group_pages (length image)) (recovery_pages layout capsule.length (length image)))
 
-  -- ---- with what is told of it
+  -- ---- with its note
+  told_safe : (that : What) → ((there : Story) → G (Says (λ _. that)) there) → (moves : List Move) (story : Story) → AllSafe G moves story → AllSafe G (moves ++ Says (λ _. that) ∷ []) story
+  told_safe that tell moves story safe = AllSafe-append G moves (Says (λ _. that) ∷ []) story safe (tell (after moves story), tt)
+
+  end_allowed : (that : What) → ((there : Story) → G (Says (λ _. that)) there) → (story : Story) → AllSafe G (then (finished_job b) (says (λ _. that)) story) story
+  end_allowed that tell story = told_safe that tell (finished_job b story) story (finish_allowed story)
+
+  pub done_allowed : (kind : JobKind) (fuses : FusesState) (capsule : CapsuleState) (that : What) → ((there : Story) → G (Says (λ _. that)) there) → (story : Story)
+      → AllSafe G (done_with b kind fuses capsule that story) story
+  done_allowed kind fuses capsule that tell story =
+      let moves : List Move = worked b kind fuses capsule story in
+      AllSafe-append G moves (then (finished_job b) (says (λ _. that)) (after moves story)) story (work_allowed kind fuses capsule story) (end_allowed that tell (after moves story))
+
+  pub job_allowed : (kind : JobKind) (fuses : FusesState) (capsule : CapsuleState) (that : What) → ((there : Story) → G (Says (λ _. that)) there) → (story : Story)
+      → (is_spent (store story) b ≡ false → AllInLog b (begin_plan (store story) b kind capsule.digest)) → AllSafe G (with_job b kind fuses capsule that story) story
+  job_allowed kind fuses capsule that tell story own = (h.asks device.Nv story (inr refl), by_spent (is_spent (store story) b) refl)
+    where
+      by_spent : (t : Bool) → is_spent (store story) b ≡ t → AllSafe G (by_log t b kind fuses capsule that story) story
+      by_spent true e = told_safe that tell (written_over b kind fuses capsule story) story (write_allowed kind fuses capsule story)
+      by_spent false e =
+          let moves : List Move = begun_job b kind capsule.digest story in
+          AllSafe-append G moves (done_with b kind fuses capsule that (after moves story)) story (begin_allowed kind capsule.digest story (own e)) (done_allowed kind fuses capsule that tell (after moves story))
+
+  -- ---- with all that is told of it
   module _ (notes : JobNotes) (tells : TellsJobs G b notes) where
-    told_safe : (that : What) → ((there : Story) → G (Says (λ _. that)) there) → (moves : List Move) (story : Story) → AllSafe G moves story → AllSafe G (moves ++ Says (λ _. that) ∷ []) story
-    told_safe that tell moves story safe = AllSafe-append G moves (Says (λ _. that) ∷ []) story safe (tell (after moves story), tt)
-
-    end_allowed : (that : What) → ((there : Story) → G (Says (λ _. that)) there) → (story : Story) → AllSafe G (then (finished_job b) (says (λ _. that)) story) story
-    end_allowed that tell story = told_safe that tell (finished_job b story) story (finish_allowed story)
-
     pub abandon_allowed : (story : Story) → AllSafe G (abandoned notes.given_up b story) story
     abandon_allowed story = end_allowed notes.given_up tells.given_up story
-
-    pub done_allowed : (kind : JobKind) (fuses : FusesState) (capsule : CapsuleState) (that : What) → ((there : Story) → G (Says (λ _. that)) there) → (story : Story)
-        → AllSafe G (done_with b kind fuses capsule that story) story
-    done_allowed kind fuses capsule that tell story =
-        let moves : List Move = worked b kind fuses capsule story in
-        AllSafe-append G moves (then (finished_job b) (says (λ _. that)) (after moves story)) story (work_allowed kind fuses capsule story) (end_allowed that tell (after moves story))
-
-    pub job_allowed : (kind : JobKind) (fuses : FusesState) (capsule : CapsuleState) (that : What) → ((there : Story) → G (Says (λ _. that)) there) → (story : Story)
-        → (is_spent (store story) b ≡ false → AllInLog b (begin_plan (store story) b kind capsule.digest)) → AllSafe G (with_job b kind fuses capsule that story) story
-    job_allowed kind fuses capsule that tell story own = (h.asks device.Nv story (inr refl), by_spent (is_spent (store story) b) refl)
-      where
-        by_spent : (t : Bool) → is_spent (store story) b ≡ t → AllSafe G (by_log t b kind fuses capsule that story) story
-        by_spent true e = told_safe that tell (written_over b kind fuses capsule story) story (write_allowed kind fuses capsule story)
-        by_spent false e =
-            let moves : List Move = begun_job b kind capsule.digest story in
-            AllSafe-append G moves (done_with b kind fuses capsule that (after moves story)) story (begin_allowed kind capsule.digest story (own e)) (done_allowed kind fuses capsule that tell (after moves story))
 
     module _ (accepts : Acceptance) (fuses : FusesState) (small : (story : Story) (standing : CapsuleState) → judged_recovery accepts b fuses story ≡ Ok standing → standing.manifest.svn ≤ 128) where
       conclude_allowed : (standing : CapsuleState) (story : Story) → standing.manifest.svn ≤ 128 → length (store story) ≡ 32768 → AllSafe G (concluded notes.recovery_updated b fuses standing story) story

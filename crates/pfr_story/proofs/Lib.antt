@@ -32,13 +32,16 @@ pub mod RecoveryLaws
 pub mod FuseLaws
 pub mod JobGrowth
 pub mod JobLeaves
+pub mod JobTrust
 pub mod StoreLaws
 pub mod EventLaws
 pub mod JudgedLaws
 pub mod ProvisionLaws
 pub mod FilterLaws
 pub mod JobQuiet
+pub mod JobFront
 pub mod GrowthLaws
+pub mod GrownSteps
 pub mod ContentsLaws
 pub mod GuardLaws
 pub mod Endings
