@@ -21,7 +21,7 @@ use Rattle.pfr_jobs.specs.declared.job.OpenJob.{OpenJob}
 use Rattle.pfr_jobs.specs.declared.job.OpenJob.TheVariants as job
 use Rattle.pfr_rebuilt.specs.Passing.{active_heeding, active_ignoring, recovery_heeding, recovery_ignoring}
 use Rattle.pfr_report.specs.declared.note.What.{What}
-use Rattle.pfr_report.specs.declared.note.What.TheVariants.{Restored, Updated}
+use Rattle.pfr_report.specs.declared.note.What.TheVariants.{Restored, Updated, Resumed, Abandoned, RecoveryUpdated}
 use Rattle.pfr_story.specs.Deeds.{deed_moves}
 use Rattle.pfr_story.specs.Plans.{mine, store, asks, asks_store, judged_recovery}
 use Rattle.pfr_story.specs.Story.{Story, Plan, then, says, called}
@@ -117,6 +117,10 @@ pub record JobNotes : Type 0 where
   pub resumed : JobKind → What
   pub given_up : What
   pub recovery_updated : ℕ → What
+
+-- of a job of this bank
+abbrev pub job_notes : Bank → JobNotes
+job_notes bank = record { resumed = λ kind. Resumed bank kind; given_up = Abandoned bank; recovery_updated = λ svn. RecoveryUpdated bank svn }
 
 abbrev pub work_of : JobNotes → Acceptance → Bank → FusesState → CapsuleState → JobKind → Plan
 work_of notes accepts bank fuses capsule (ActiveFromRecovery level) = done_with bank (ActiveFromRecovery level) fuses capsule (Restored bank level)

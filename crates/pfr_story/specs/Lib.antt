@@ -8,6 +8,7 @@ pub mod Course
 pub mod Standing
 pub mod Plans
 pub mod JobPlans
+pub mod JobUpdates
 pub mod Causes
 pub mod Turn
 pub mod Promises
@@ -20,5 +21,6 @@ pub mod Spans
 pub mod Keeping
 pub mod Run
 pub mod Recovery
+pub mod JobPromises
 pub mod Contents
 pub mod JobContents

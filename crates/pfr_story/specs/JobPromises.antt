@@ -1,0 +1,166 @@
+-- What each step is to promise of jobs, of updates of the recovery area and of cancelled keys.
+use Rattle.std.specs.Prelude.{◌≡◌, ◌≢◌, ◌⊎◌, ℕ, ◌+◌, ◌/◌, ◌≤◌, Bool, true, false, List, [], ◌∷◌, ◌++◌, length, All, Ok, Err}
+use Rattle.pfr_flash.specs.FlashState.{now, upto}
+use Rattle.pfr_flash.specs.Layout.{IsValidLayout}
+use Rattle.pfr_flash.specs.Operation.{Operation}
+use Rattle.pfr_flash.specs.Plan.{IsPart}
+use Rattle.pfr_flash.specs.declared.names.Bank.{Bank}
+use Rattle.pfr_flash.specs.declared.names.ContentType.{ContentType}
+use Rattle.pfr_flash.specs.declared.names.Counts.{Counts}
+use Rattle.pfr_engine.specs.Acceptance.{Acceptance}
+use Rattle.pfr_fuses.specs.FuseMap.{IsFloor, IsCancelled}
+use Rattle.pfr_fuses.specs.FusesState.{FusesState}
+use Rattle.pfr_fuses.specs.FusesOf.{fuses_of}
+use Rattle.pfr_fuses.specs.RootSlot.{layout_of}
+use Rattle.pfr_capsule.specs.Good.{IsGood}
+use Rattle.pfr_auth.specs.Areas.{place_of as area_at}
+use Rattle.pfr_auth.specs.Judge.{judge_active}
+use Rattle.pfr_cert.specs.Applying.{judge_apply}
+use Rattle.pfr_cert.specs.Judge.{judge_cert}
+use Rattle.pfr_cert.specs.declared.cert.Cert.{Cert}
+use Rattle.pfr_cert.specs.declared.fail.CertFail.{CertFail}
+use Rattle.pfr_jobs.specs.Log.{open_job}
+use Rattle.pfr_jobs.specs.LogState.{is_marked, is_spent}
+use Rattle.pfr_jobs.specs.declared.job.JobKind.{JobKind}
+use Rattle.pfr_jobs.specs.declared.job.JobKind.TheVariants.{ActiveFromRecovery, ActiveFromStaging, RecoveryFromStaging}
+use Rattle.pfr_jobs.specs.declared.job.OpenJob.TheVariants as job
+use Rattle.pfr_rebuilt.specs.ActiveCopying.{active_page, active_pages}
+use Rattle.pfr_rebuilt.specs.Copying.{recovery_page, recovery_pages}
+use Rattle.pfr_rebuilt.specs.Passing.{group_pages, left_pages}
+use Rattle.pfr_recoverable.specs.Recoverable.{HasGoodRecovery}
+use Rattle.pfr_strokes.specs.Strokes.{strokes_of}
+use Rattle.pfr_report.specs.Texts.{IsNoted}
+use Rattle.pfr_report.specs.declared.note.Note.{Note}
+use Rattle.pfr_report.specs.declared.note.Refusal.TheVariants as refusing
+use Rattle.pfr_report.specs.declared.note.What.{What}
+use Rattle.pfr_report.specs.declared.note.What.TheVariants.{Held, Resumed, Abandoned, Restored, Updated, RecoveryUpdated, Cancelled, Refused, Released}
+use Rattle.pfr_story.specs.Story.{device_of}
+use Rattle.pfr_story.specs.World.{World, state_at, counts_in, added}
+use Rattle.pfr_story.specs.Causes.{HasBadStaging, HasGoodStaging}
+use Rattle.pfr_story.specs.Bringing.{IsCalm, IsNotedBehind}
+use Rattle.pfr_story.specs.JobPlans.{source_of}
+use Rattle.pfr_story.specs.JobUpdates.{has_manifest, standing_capsule}
+use Rattle.pfr_story.specs.Promises.{AtCounts, Runs, count_at}
+use Rattle.pfr_story.specs.Recovery.{moments_of}
+
+-- ---- jobs that are open at a power-on
+
+-- the capsule that the open job works on stands good in the area that it is copied from
+pub record IsResumable (kind : JobKind) (which : Bank) (image nv : List ℕ) (accepts : Acceptance) : Type 0 where
+  pub fuses : FusesState
+  pub provisioned : fuses_of nv ≡ Ok fuses
+  pub layout : IsValidLayout (layout_of fuses.provision which) (length image)
+  pub good : IsGood image (area_at (layout_of fuses.provision which) (source_of kind)) (layout_of fuses.provision which).area_len nv which accepts
+  pub opened : open_job nv which ≡ job.Job kind good.capsule.digest
+
+-- a job is open that can't be resumed
+pub record IsGivenUp (which : Bank) (image nv : List ℕ) (accepts : Acceptance) : Type 0 where
+  pub fuses : FusesState
+  pub provisioned : fuses_of nv ≡ Ok fuses
+  pub layout : IsValidLayout (layout_of fuses.provision which) (length image)
+  pub opened : open_job nv which ≢ job.None
+  pub never : (kind : JobKind) → ¬ IsResumable kind which image nv accepts
+
+-- what is noted once a job is done
+abbrev pub done_note : Bank → JobKind → ℕ → What
+done_note which (ActiveFromRecovery level) svn = Restored which level
+done_note which (ActiveFromStaging dynamic) svn = Updated which dynamic svn
+done_note which RecoveryFromStaging svn = RecoveryUpdated which svn
+
+-- A bank that is held at these counts in a power-on takes its open job up where it can be resumed, and gives it up where it can't.
+pub record TakesUp (accepts : Acceptance) (which : Bank) (new : World) (notes : List Note) (at : Counts) : Type 0 where
+  pub resumed : (kind : JobKind) → IsNoted notes (Resumed which kind) → AtCounts (λ image nv. IsResumable kind which image nv accepts) which at new
+  pub resumes : (kind : JobKind) → IsCalm which notes → AtCounts (λ image nv. IsResumable kind which image nv accepts) which at new → IsNotedBehind (Held which at) (Resumed which kind) notes
+  pub abandoned : IsNoted notes (Abandoned which) → AtCounts (λ image nv. IsGivenUp which image nv accepts) which at new
+  pub abandons : IsCalm which notes → AtCounts (λ image nv. IsGivenUp which image nv accepts) which at new → IsNotedBehind (Held which at) (Abandoned which) notes
+  -- what was taken up is done
+  pub done : (kind : JobKind) → IsCalm which notes → (r : AtCounts (λ image nv. IsResumable kind which image nv accepts) which at new)
+      → IsNotedBehind (Resumed which kind) (done_note which kind r.good.capsule.manifest.svn) notes
+
+-- ---- a bank that runs
+
+-- No job of a bank that runs is open.
+abbrev pub RunningHasNoJob : World → Type 0
+RunningHasNoJob w = (which : Bank) → Runs which w → open_job (now w.nv) which ≡ job.None
+
+-- ---- marks are heeded
+
+-- the pages of a job, and what they are to hold, by a capsule that stands good where it is copied from
+abbrev pub pages_of : (kind : JobKind) (which : Bank) (image nv : List ℕ) (accepts : Acceptance) → IsResumable kind which image nv accepts → List ℕ
+pages_of RecoveryFromStaging which image nv accepts r = recovery_pages (layout_of r.fuses.provision which) r.good.capsule.length (length image)
+pages_of kind which image nv accepts r = active_pages kind image r.good.capsule (layout_of r.fuses.provision which)
+
+abbrev pub page_of_job : (kind : JobKind) (which : Bank) (image nv : List ℕ) (accepts : Acceptance) → IsResumable kind which image nv accepts → ℕ → List ℕ
+page_of_job RecoveryFromStaging which image nv accepts r page =
+    recovery_page image (layout_of r.fuses.provision which).staging_at r.good.capsule.length (layout_of r.fuses.provision which) page
+page_of_job kind which image nv accepts r page = active_page image r.good.capsule (layout_of r.fuses.provision which) page
+
+-- the strokes of the pages whose groups weren't marked
+abbrev pub left_strokes : (kind : JobKind) (which : Bank) (image nv : List ℕ) (accepts : Acceptance) → IsResumable kind which image nv accepts → List Operation
+left_strokes kind which image nv accepts r =
+    strokes_of (page_of_job kind which image nv accepts r) (left_pages (is_marked nv which) (group_pages (length image)) (pages_of kind which image nv accepts r))
+
+-- the operations of a bank since these counts
+pub record AddsSince (which : Bank) (at : Counts) (ops : List Operation) (w : World) : Type 0 where
+  pub before : List Operation
+  pub few : length before ≡ count_at which at
+  pub is : (state_at (device_of which) w).ops ≡ before ++ ops
+
+-- A job that is resumed begins with the strokes of the pages that were left, or did a front of them, the last perhaps torn.
+pub record HeedsMarks (accepts : Acceptance) (which : Bank) (kind : JobKind) (new : World) (at : Counts) : Type 0 where
+  pub from : AtCounts (λ image nv. IsResumable kind which image nv accepts) which at new
+  pub ops : List Operation
+  pub since : AddsSince which at ops new
+  pub heeds : ((more : List Operation) × (ops ≡ left_strokes kind which _ _ accepts from ++ more))
+      ⊎ IsPart (upto (state_at (device_of which) new) (count_at which at)) (left_strokes kind which _ _ accepts from) ops
+
+-- ---- floors and cancellations
+
+-- the floor is at least so high
+pub record HasFloor (nv : List ℕ) (which : Bank) (svn : ℕ) : Type 0 where
+  pub floor : ℕ
+  pub is : IsFloor nv which floor
+  pub high : svn ≤ floor
+
+-- something that is true of the store at the counts of each later note, and at the end
+pub record HoldsBehind (P : List ℕ → Type 0) (that : What) (new : World) (notes : List Note) : Type 0 where
+  pub later : (before : List Note) (item : ℕ) (behind : List Note) → notes ≡ before ++ record { item = item; what = that } ∷ behind
+      → All (λ at. P (upto new.nv at.nv)) (moments_of behind)
+  pub end : P (now new.nv)
+
+-- Behind an update of the recovery area the floor is that of the capsule at least, and a key that was cancelled stays so.
+pub record ChangesFuses (old new : World) : Type 0 where
+  pub raised : (which : Bank) (svn : ℕ) → IsNoted (added old new) (RecoveryUpdated which svn) → HoldsBehind (λ nv. HasFloor nv which svn) (RecoveryUpdated which svn) new (added old new)
+  pub cancelled : (type : ContentType) (id : ℕ) → IsNoted (added old new) (Cancelled type id) → HoldsBehind (λ nv. IsCancelled nv type id) (Cancelled type id) new (added old new)
+
+-- ---- updates of the recovery area
+
+-- a good capsule is staged, whose manifest the active image has or hasn't
+pub record HasStagedFor (same : Bool) (which : Bank) (image nv : List ℕ) (accepts : Acceptance) : Type 0 where
+  pub staged : HasGoodStaging which image nv accepts
+  pub manifest : has_manifest staged.good.capsule (judge_active image which staged.fuses accepts) ≡ same
+
+-- What an update of the recovery area comes to, of a bank that is held at these counts.
+pub record UpdatesRecovery (accepts : Acceptance) (which : Bank) (new : World) (notes : List Note) (at : Counts) : Type 0 where
+  pub held : IsNoted notes (Held which at)
+  -- It is refused exactly for the first of these: what is staged is no good capsule, it has another manifest, the log is spent.
+  pub bad : (cause : _) → IsNoted notes (Refused which (refusing.Capsule cause)) → AtCounts (λ image nv. HasBadStaging cause which image nv accepts) which at new
+  pub refuses_bad : (cause : _) → IsCalm which notes → AtCounts (λ image nv. HasBadStaging cause which image nv accepts) which at new → IsNoted notes (Refused which (refusing.Capsule cause))
+  pub differs : IsNoted notes (Refused which refusing.ManifestDiffers) → AtCounts (λ image nv. HasStagedFor false which image nv accepts) which at new
+  pub refuses_other : IsCalm which notes → AtCounts (λ image nv. HasStagedFor false which image nv accepts) which at new → IsNoted notes (Refused which refusing.ManifestDiffers)
+  pub spent : IsNoted notes (Refused which refusing.JobsSpent) → AtCounts (λ image nv. HasStagedFor true which image nv accepts × (is_spent nv which ≡ true)) which at new
+  pub refuses_spent : IsCalm which notes → AtCounts (λ image nv. HasStagedFor true which image nv accepts × (is_spent nv which ≡ true)) which at new → IsNoted notes (Refused which refusing.JobsSpent)
+  -- Else the staged capsule is copied: it stands good in the recovery area then.
+  pub updated : (svn : ℕ) → IsNoted notes (RecoveryUpdated which svn) → (s : AtCounts (λ image nv. HasStagedFor true which image nv accepts) which at new)
+      × (svn ≡ s.staged.good.capsule.manifest.svn)
+      × (r : HasGoodRecovery which (now (state_at (device_of which) new)) (now new.nv) accepts) × (r.good.capsule.digest ≡ s.staged.good.capsule.digest)
+  pub updates : IsCalm which notes → (s : AtCounts (λ image nv. HasStagedFor true which image nv accepts × (is_spent nv which ≡ false)) which at new)
+      → IsNoted notes (RecoveryUpdated which s.0.staged.good.capsule.manifest.svn)
+
+-- ---- keys are cancelled
+
+-- what stands in the staging area is this certificate, and this becomes of it
+pub record HasCert (cert : Cert) (which : Bank) (image nv : List ℕ) (accepts : Acceptance) : Type 0 where
+  pub fuses : FusesState
+  pub provisioned : fuses_of nv ≡ Ok fuses
+  pub judged : judge_cert which image fuses accepts ≡ Ok cert
