@@ -1,18 +1,18 @@
 -- A mark and the end of a job, byte for byte, and what is left where they were cut.
-use Rattle.std.proofs.Common.{◌≡◌, ◌≢◌, ◌∙◌, ℕ, zero, suc, ◌+◌, ◌-◌, ◌*◌, ◌/◌, ◌%◌, ◌^◌, ◌≤◌, ◌<◌, ◌==◌, min, Bool, true, false, if◌then◌else◌, List, [], ◌∷◌, ◌++◌, length, get_or, set, bit_and, Option, Some, None, refl, sym, ap, subst, arith, ◌⊎◌, inl, inr}
+use Rattle.std.proofs.Common.{◌≡◌, ◌≢◌, ◌∙◌, ℕ, ◌+◌, ◌-◌, ◌*◌, ◌/◌, ◌%◌, ◌≤◌, ◌<◌, ◌==◌, min, Bool, true, false, if◌then◌else◌, List, [], ◌∷◌, ◌++◌, length, get_or, set, bit_and, Option, Some, refl, sym, ap, arith, ◌⊎◌, inl, inr}
 use Rattle.std.specs.Int.{bit_at}
 use Rattle.std.proofs.lemmas.Bool.{cases_lt, cases_eq, eqb-true}
 use Rattle.std.proofs.lemmas.List.{ext_get_or, set-get_or}
 use Rattle.std.proofs.lemmas.Nat.Bits.{bit_at-lt, bit_at_and, bit_at_above, same_from_bits}
 use Rattle.pfr_flash.specs.Bytes.{AreBytes, bytes_at, written}
-use Rattle.pfr_flash.specs.FuseRow.{IsCleared, is_cleared, fuse_byte, with_cleared, clearing}
+use Rattle.pfr_flash.specs.FuseRow.{IsCleared, is_cleared, fuse_byte, with_cleared}
 use Rattle.pfr_flash.specs.Operation.{Operation, Program, applied, play}
 use Rattle.pfr_flash.specs.Plan.{IsPart}
 use Rattle.pfr_flash.specs.Range.{AllWithin, place_of, len_of}
 use Rattle.pfr_flash.specs.declared.names.Bank.{Bank}
 use Rattle.pfr_flash.proofs.AreBytesLemmas.{AreBytes-bytes_at}
 use Rattle.pfr_flash.proofs.BytesLemmas.{length-bytes_at, length-written, get_or-bytes_at, get_or-written_below, get_or-written_inside, get_or-written_above}
-use Rattle.pfr_flash.proofs.FuseLemmas.{MayClear, MayClear-program, MayClear-torn, IsCleared-program, fuse_byte-same, fuse_byte-other}
+use Rattle.pfr_flash.proofs.FuseLemmas.{MayClear, MayClear-program, MayClear-torn, IsCleared-program, fuse_byte-other}
 use Rattle.pfr_flash.proofs.PartsLemmas.{part_of}
 use Rattle.pfr_flash.proofs.PlayLemmas.{length-applied}
 use Rattle.pfr_flash.proofs.RangeLemmas.{SameOutside-applied, IsTorn-within}
@@ -21,12 +21,12 @@ use Rattle.pfr_jobs.specs.declared.job.OpenJob.TheVariants as job
 use Rattle.pfr_jobs.specs.LogPlans.{mark_by, mark_plan, finish_by, finish_plan}
 use Rattle.pfr_jobs.specs.LogState.{marks_in, marks_of, is_marked}
 use Rattle.pfr_jobs.specs.Logged.{all_cleared, marked_by, marked, finished_by, finished}
-use Rattle.pfr_jobs.proofs.LogLaws.{LastOf, nothing, found, last_of, page_inside, log_inside, current_inside}
+use Rattle.pfr_jobs.proofs.LogLaws.{LastOf, nothing, found, last_of, page_inside, current_inside}
 use Rattle.pfr_jobs.proofs.SlotLaw.{zero_put}
 use Rattle.pfr_jobs.proofs.EndLaw.{one_part}
 use Rattle.pfr_flash.proofs.CutLemmas.{part_end}
 use Rattle.pfr_jobs.proofs.RowLaw.{clearing-row}
-use Rattle.pfr_jobs.proofs.StateLaws.{last_facts, changed_marks}
+use Rattle.pfr_jobs.proofs.StateLaws.{changed_marks}
 
 -- ---- a fuse that is cleared already
 same_byte : (x bit : ℕ) → x < 256 → bit_at x (bit % 8) ≡ 0 → bit_and x (fuse_byte bit) ≡ x

@@ -1,9 +1,9 @@
 -- Groups that are marked one after another are marked at once.
-use Rattle.std.proofs.Common.{◌≡◌, ◌∙◌, ℕ, zero, suc, ◌+◌, ◌-◌, ◌*◌, ◌/◌, ◌%◌, ◌^◌, ◌≤◌, ◌<◌, ◌==◌, Bool, true, false, if◌then◌else◌, List, [], ◌∷◌, ◌++◌, length, length-set, get_or, set, bit_and, Option, Some, None, refl, sym, ap, subst, arith}
+use Rattle.std.proofs.Common.{◌≡◌, ◌∙◌, ℕ, zero, suc, ◌+◌, ◌*◌, ◌/◌, ◌≤◌, ◌<◌, Bool, true, false, List, [], ◌∷◌, ◌++◌, length, length-set, get_or, bit_and, Option, Some, None, refl, sym, ap, subst, arith}
 use Rattle.std.specs.List.{AllByRecursion}
 use Rattle.pfr_flash.specs.Bytes.{AreBytes, bytes_at, written}
 use Rattle.pfr_flash.specs.FuseRow.{fuse_byte, with_cleared}
-use Rattle.pfr_flash.specs.Operation.{Operation, Program, applied, play}
+use Rattle.pfr_flash.specs.Operation.{Operation, Program, play}
 use Rattle.pfr_flash.specs.declared.names.Bank.{Bank}
 use Rattle.pfr_flash.proofs.AreBytesLemmas.{AreBytes-nil, AreBytes-cons, AreBytes-applied}
 use Rattle.pfr_flash.proofs.BytesLemmas.{length-bytes_at, bytes_at-written}

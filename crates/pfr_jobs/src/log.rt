@@ -16,7 +16,8 @@ ghost use Rattle.pfr_jobs.specs.declared.job.OpenJob.TheVariants as job;
 
 use crate::job::{JobKind, OpenJob};
 use crate::page::{
-    SECTOR, SLOT, SLOTS, Sector, first_unspent, last_gated, marks_in, open_by, spent_in, used_in,
+    END, MARKS, SECTOR, SLOT, SLOTS, Sector, first_unspent, last_gated, marks_in, open_by,
+    spent_in, used_in,
 };
 use pfr_flash::{Bank, Flash, FlashFail, FuseRow, clear_fuse};
 use std::marker::Model;
@@ -177,7 +178,7 @@ impl JobLog {
     pub fn is_spent(&self) -> bool
         ensures { result ≡ is_spent_in self.now }
     {
-        self.used == 64 && self.unspent.is_none()
+        self.used == SLOTS && self.unspent.is_none()
     }
 
     /// Whether a group of pages was marked in the last job.
@@ -230,7 +231,8 @@ impl JobLog {
         // The store is this one, byte for byte, and the job is open with no mark.
         ensures exact { OnOk result (now (F.device nv.new) ≡ begun (now (F.device nv.old)) self.old.bank kind digest.now) }
         ensures opened { OnOk result (IsOpened (now (F.device nv.new)) self.old.bank kind digest.now) }
-        ensures left { OnErr result ((open_job (now (F.device nv.new)) self.old.bank ≡ job.None) ⊎ IsOpened (now (F.device nv.new)) self.old.bank kind digest.now) }
+        ensures left { OnErr result
+            ((open_job (now (F.device nv.new)) self.old.bank ≡ job.None) ⊎ IsOpened (now (F.device nv.new)) self.old.bank kind digest.now) }
         // At each answer, no byte outside of the bank's three sectors was touched.
         ensures within { StaysInLog self.old.bank (F.device nv.old) (F.device nv.new) }
         ensures count { AddsAtMost 4 (F.device nv.old) (F.device nv.new) }
@@ -250,7 +252,7 @@ impl JobLog {
             return Ok(());
         }
         if let Some(k) = self.last {
-            clear_fuse(nv, self.page + SLOT * k + 36, group)?;
+            clear_fuse(nv, self.page + SLOT * k + MARKS, group)?;
             self.marks = self.marks.cleared(group);
         }
         Ok(())
@@ -288,7 +290,7 @@ impl JobLog {
         ensures stands { OnOk result (self.new ≡ log_of (now (F.device nv.new)) self.old.bank) }
     {
         if let Some(k) = self.last {
-            nv.program(self.page + SLOT * k + 63, &[0x00])?;
+            nv.program(self.page + SLOT * k + END, &[0x00])?;
             self.job = OpenJob::None;
         }
         Ok(())
@@ -307,7 +309,8 @@ impl JobLog {
         ensures exact { OnOk result (now (F.device nv.new) ≡ finished (now (F.device nv.old)) self.old.bank) }
         ensures ended { OnOk result (open_job (now (F.device nv.new)) self.old.bank ≡ job.None) }
         // At each answer, what was open is open still, or nothing is.
-        ensures left { (open_job (now (F.device nv.new)) self.old.bank ≡ open_job (now (F.device nv.old)) self.old.bank) ⊎ (open_job (now (F.device nv.new)) self.old.bank ≡ job.None) }
+        ensures left { (open_job (now (F.device nv.new)) self.old.bank ≡ open_job (now (F.device nv.old)) self.old.bank)
+            ⊎ (open_job (now (F.device nv.new)) self.old.bank ≡ job.None) }
         ensures within { StaysInLog self.old.bank (F.device nv.old) (F.device nv.new) }
         ensures count { AddsAtMost 1 (F.device nv.old) (F.device nv.new) }
     {

@@ -15,6 +15,11 @@ pub const SLOT: u32 = 64;
 /// How many slots a page has.
 pub const SLOTS: u32 = 64;
 
+/// Where the marks of a slot are, and its end.
+pub const MARKS: u32 = 36;
+
+pub const END: u32 = 63;
+
 /// The bytes of a sector.
 pub type Sector = [u8; SECTOR as usize];
 
@@ -120,7 +125,7 @@ pub fn open_by(page: &Sector, last: Option<u32>) -> OpenJob
     ensures { result ≡ open_by page.now last }
 {
     match last {
-        Some(k) if page[(SLOT * k + 63) as usize] == 0xFF => job_in(page, k),
+        Some(k) if page[(SLOT * k + END) as usize] == 0xFF => job_in(page, k),
         _ => OpenJob::None,
     }
 }
@@ -131,7 +136,7 @@ pub fn marks_in(page: &Sector, last: Option<u32>) -> FuseRow<16>
     ensures { result ≡ marks_in page.now last }
 {
     FuseRow::new(match last {
-        Some(k) => array_at(page, (SLOT * k + 36) as usize),
+        Some(k) => array_at(page, (SLOT * k + MARKS) as usize),
         None => [0xFF; 16],
     })
 }

@@ -1,4 +1,4 @@
-use Rattle.std.proofs.Common.{◌∙◌, sym, ap}
+use Rattle.std.proofs.Common.{◌∙◌, ap}
 use Rattle.pfr_jobs.specs.LogState.{LogState}
 use Rattle.pfr_jobs.proofs.ClauseLaws.{ends_exact, ends_none, ends_left, ends_within, ends_count}
 use Rattle.pfr_jobs.proofs.log.JobLog.finish.Goals as goal

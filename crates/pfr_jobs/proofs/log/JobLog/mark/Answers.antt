@@ -1,4 +1,4 @@
-use Rattle.std.proofs.Common.{◌∙◌, sym, ap}
+use Rattle.std.proofs.Common.{◌∙◌, ap}
 use Rattle.pfr_jobs.specs.LogState.{LogState}
 use Rattle.pfr_jobs.proofs.ClauseLaws.{marks_exact, marks_done, marks_left, marks_others, marks_within, marks_count}
 use Rattle.pfr_jobs.proofs.log.JobLog.mark.Goals as goal
