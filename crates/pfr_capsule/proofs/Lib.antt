@@ -11,3 +11,4 @@ pub mod GoodLaw
 pub mod GoodFacts
 pub mod MovedLaw
 pub mod ServesLaw
+pub mod DigestLaw

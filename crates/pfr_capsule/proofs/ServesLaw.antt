@@ -1,5 +1,5 @@
 -- A good capsule stays good with another store that still serves it.
-use Rattle.std.proofs.Common.{◌≡◌, sym, subst, ℕ, ◌≤◌, min, false, List, length, Ok}
+use Rattle.std.proofs.Common.{refl, ◌≡◌, sym, subst, ℕ, ◌≤◌, min, false, List, length, Ok}
 use Rattle.pfr_flash.specs.Bytes.{bytes_at}
 use Rattle.pfr_flash.specs.FuseRow.{is_cleared}
 use Rattle.pfr_flash.specs.Layout.{IsValidLayout}
@@ -61,3 +61,8 @@ module _ (image nv later : List ℕ) (place len : ℕ) (bank : Bank) (accepts : 
     manifest_key = g.manifest_key;
     found = g.found;
   }
+
+  -- that is, with the provision that it had
+  pub serves_same : (good_serves.capsule ≡ g.capsule) × (good_serves.fuses.provision ≡ g.fuses.provision)
+  unfolding good_serves
+  serves_same = (refl, s.provision)

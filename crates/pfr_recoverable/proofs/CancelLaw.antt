@@ -33,7 +33,7 @@ use Rattle.pfr_fuses.proofs.FloorLemmas.{IsCleared-continued}
 use Rattle.pfr_fuses.proofs.GrowthLemmas.{profile-outside, slots-outside}
 use Rattle.pfr_fuses.proofs.StaysLemmas.{row_in_sector}
 use Rattle.pfr_capsule.specs.Good.{IsGood}
-use Rattle.pfr_capsule.proofs.ServesLaw.{StillServes, good_serves}
+use Rattle.pfr_capsule.proofs.ServesLaw.{StillServes, good_serves, serves_same}
 use Rattle.pfr_recoverable.proofs.RaiseLaw.{chain_free}
 
 block1_small : (form : Form) (block : List ℕ) (type : ContentType) (root row : List ℕ) (accepts : Acceptance) (id : ℕ) → IsBlock1 form block type root row accepts (Some id) → id ≤ 255
@@ -186,6 +186,25 @@ cancel_keeps_good image nv place len b accepts g type id added size two few sign
     let capsule_row = row_of g.fuses (capsule_type b) in
     let manifest_row = row_of g.fuses (manifest_type b) in
     good_serves image nv (play nv added) place len b accepts g
+    (cancel_serves nv type g.fuses id added size g.provisioned two few signing part b g.parts.manifest.svn g.capsule.capsule_key g.capsule.manifest_key g.signed.svn
+    (let h : g.capsule.capsule_key ≤ 255 = chain_small image place len (capsule_type b) root capsule_row accepts g.parts.capsule g.capsule.capsule_key g.capsule_key g.signed.capsule in omega (arith, h))
+    (let h : g.capsule.manifest_key ≤ 255 = chain_small image g.parts.capsule.content_at _ (manifest_type b) root manifest_row accepts g.parts.inner g.capsule.manifest_key g.manifest_key g.signed.inner in omega (arith, h))
+    apart_c apart_m
+    (chain_free image place len (capsule_type b) root capsule_row accepts g.parts.capsule g.capsule.capsule_key g.capsule_key g.signed.capsule)
+    (chain_free image g.parts.capsule.content_at _ (manifest_type b) root manifest_row accepts g.parts.inner g.capsule.manifest_key g.manifest_key g.signed.inner))
+
+-- and the same capsule, with the provision that it had
+pub cancel_same : (image nv : List ℕ) (place len : ℕ) (b : Bank) (accepts : Acceptance) (g : IsGood image place len nv b accepts) (type : ContentType) (id : ℕ) (added : List Operation) (size : length nv ≡ 32768)
+    (two : profile_of nv ≡ profile.Two) (few : id < 256) (signing : IsSigning type) (apart_c : (capsule_type b ≢ type) ⊎ (g.capsule.capsule_key ≢ id)) (apart_m : (manifest_type b ≢ type) ⊎ (g.capsule.manifest_key ≢ id))
+    (part : IsPart nv (cancellation type id) added)
+    → ((cancel_keeps_good image nv place len b accepts g type id added size two few signing apart_c apart_m part).capsule ≡ g.capsule)
+    × ((cancel_keeps_good image nv place len b accepts g type id added size two few signing apart_c apart_m part).fuses.provision ≡ g.fuses.provision)
+unfolding cancel_keeps_good
+cancel_same image nv place len b accepts g type id added size two few signing apart_c apart_m part =
+    let root = g.fuses.provision.root in
+    let capsule_row = row_of g.fuses (capsule_type b) in
+    let manifest_row = row_of g.fuses (manifest_type b) in
+    serves_same image nv (play nv added) place len b accepts g
     (cancel_serves nv type g.fuses id added size g.provisioned two few signing part b g.parts.manifest.svn g.capsule.capsule_key g.capsule.manifest_key g.signed.svn
     (let h : g.capsule.capsule_key ≤ 255 = chain_small image place len (capsule_type b) root capsule_row accepts g.parts.capsule g.capsule.capsule_key g.capsule_key g.signed.capsule in omega (arith, h))
     (let h : g.capsule.manifest_key ≤ 255 = chain_small image g.parts.capsule.content_at _ (manifest_type b) root manifest_row accepts g.parts.inner g.capsule.manifest_key g.manifest_key g.signed.inner in omega (arith, h))

@@ -6,3 +6,4 @@ pub mod PassedLaw
 pub mod BoundLaw
 pub mod RaiseLaw
 pub mod CancelLaw
+pub mod OtherLaw

@@ -36,7 +36,7 @@ use Rattle.pfr_fuses.specs.RootSlot.{layout_of}
 use Rattle.pfr_fuses.specs.declared.root_slot.RootSlot.{RootSlot}
 use Rattle.pfr_recoverable.specs.Recoverable.{HasGoodRecovery}
 use Rattle.pfr_recoverable.proofs.StaysLaw.{fuses_one}
-use Rattle.pfr_capsule.proofs.ServesLaw.{StillServes, good_serves}
+use Rattle.pfr_capsule.proofs.ServesLaw.{StillServes, good_serves, serves_same}
 
 -- ---- a chain's key isn't cancelled
 pub block1_free : (form : Form) (block : List ℕ) (type : ContentType) (root row : List ℕ) (accepts : Acceptance) (id : ℕ) → IsBlock1 form block type root row accepts (Some id) → is_cleared row id ≡ false
@@ -177,6 +177,17 @@ pub raise_keeps_other : (image nv : List ℕ) (place len : ℕ) (b c : Bank) (ac
     → profile_of nv ≡ profile.Two → bit < 128 → IsPart nv (clearing (floor_at profile.Two b) bit) added → IsGood image place len (play nv added) c accepts
 raise_keeps_other image nv place len b c accepts other g bit added size two few part =
     good_serves image nv (play nv added) place len c accepts g
+    (raise_serves_other nv b g.fuses bit added size g.provisioned two few part c other g.parts.manifest.svn g.capsule.capsule_key g.capsule.manifest_key g.signed.svn
+    (chain_free image place len (capsule_type c) g.fuses.provision.root (row_of g.fuses (capsule_type c)) accepts g.parts.capsule g.capsule.capsule_key g.capsule_key g.signed.capsule)
+    (chain_free image g.parts.capsule.content_at _ (manifest_type c) g.fuses.provision.root (row_of g.fuses (manifest_type c)) accepts g.parts.inner g.capsule.manifest_key g.manifest_key g.signed.inner))
+
+-- and the same capsule, with the provision that it had
+pub raise_other_same : (image nv : List ℕ) (place len : ℕ) (b c : Bank) (accepts : Acceptance) (other : c ≢ b) (g : IsGood image place len nv c accepts) (bit : ℕ) (added : List Operation) (size : length nv ≡ 32768)
+    (two : profile_of nv ≡ profile.Two) (few : bit < 128) (part : IsPart nv (clearing (floor_at profile.Two b) bit) added)
+    → ((raise_keeps_other image nv place len b c accepts other g bit added size two few part).capsule ≡ g.capsule) × ((raise_keeps_other image nv place len b c accepts other g bit added size two few part).fuses.provision ≡ g.fuses.provision)
+unfolding raise_keeps_other
+raise_other_same image nv place len b c accepts other g bit added size two few part =
+    serves_same image nv (play nv added) place len c accepts g
     (raise_serves_other nv b g.fuses bit added size g.provisioned two few part c other g.parts.manifest.svn g.capsule.capsule_key g.capsule.manifest_key g.signed.svn
     (chain_free image place len (capsule_type c) g.fuses.provision.root (row_of g.fuses (capsule_type c)) accepts g.parts.capsule g.capsule.capsule_key g.capsule_key g.signed.capsule)
     (chain_free image g.parts.capsule.content_at _ (manifest_type c) g.fuses.provision.root (row_of g.fuses (manifest_type c)) accepts g.parts.inner g.capsule.manifest_key g.manifest_key g.signed.inner))

@@ -82,14 +82,14 @@ programs_in at bytes (suc k) few =
     by_test true = tt
     by_test false = (record { low = omega arith; high = omega (arith, length-take 256 (drop (256 * k) bytes), few) }, tt)
 
-strokes_in : (page : ℕ) (bytes : List ℕ) → AllWithin (4096 * page) 4096 (strokes page bytes)
+pub strokes_in : (page : ℕ) (bytes : List ℕ) → AllWithin (4096 * page) 4096 (strokes page bytes)
 unfolding strokes
 strokes_in page bytes = (record { low = omega arith; high = omega arith }, programs_in (4096 * page) bytes 16 (omega arith))
 
 -- ---- a job on the active image leaves the recovery area
 module _ (kind : JobKind) (image : List ℕ) (capsule : CapsuleState) (layout : Layout) (valid : IsValidLayout layout (length image))
     (regions : All (IsRegion layout (length image)) capsule.manifest.regions) where
-  page_beside : (n : ℕ) → is_active_page kind image capsule layout n ≡ true → (4096 * n + 4096 ≤ layout.recovery_at) ⊎ (layout.recovery_at + layout.area_len ≤ 4096 * n)
+  pub page_beside : (n : ℕ) → is_active_page kind image capsule layout n ≡ true → (4096 * n + 4096 ≤ layout.recovery_at) ⊎ (layout.recovery_at + layout.area_len ≤ 4096 * n)
   page_beside n one = by_place (cases_lt (4096 * n) layout.recovery_at) (cases_lt (4096 * n) (layout.recovery_at + layout.area_len))
     where
       by_place : (4096 * n < layout.recovery_at) ⊎ (layout.recovery_at ≤ 4096 * n) → (4096 * n < layout.recovery_at + layout.area_len) ⊎ (layout.recovery_at + layout.area_len ≤ 4096 * n)

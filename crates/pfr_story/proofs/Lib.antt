@@ -59,3 +59,12 @@ pub mod JobResumed
 pub mod JobTail
 pub mod JobPower
 pub mod JobRecoveryBegun
+pub mod JobSafety
+pub mod JobSafetyPasses
+pub mod JobSafetyOther
+pub mod JobSafetyActive
+pub mod JobSafetyRaise
+pub mod JobSafetyRecovery
+pub mod JobSafetyResumed
+pub mod JobSafetyCancelled
+pub mod JobSafetyLaws
