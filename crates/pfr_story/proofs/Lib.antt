@@ -68,3 +68,5 @@ pub mod JobSafetyRecovery
 pub mod JobSafetyResumed
 pub mod JobSafetyCancelled
 pub mod JobSafetyLaws
+pub mod JobContentsLaws
+pub mod JobReleases
