@@ -1,7 +1,9 @@
 -- What work on a job leaves, by whole images.
-use Rattle.std.proofs.Common.{◌≡◌, ◌∙◌, refl, sym, ap, subst, ℕ, List, length, Result, Ok}
+use Rattle.std.proofs.Common.{◌≡◌, ◌∙◌, refl, sym, ap, subst, ℕ, List, [], ◌∷◌, Result, Ok}
 use Rattle.pfr_flash.specs.declared.layout.Layout.{Layout}
+use Rattle.pfr_flash.specs.Operation.{play}
 use Rattle.pfr_flash.specs.declared.names.Bank.{Bank}
+use Rattle.pfr_flash.specs.declared.names.Device.TheVariants as device
 use Rattle.pfr_engine.specs.Acceptance.{Acceptance}
 use Rattle.pfr_fuses.specs.Changes.{raised}
 use Rattle.pfr_fuses.specs.FusesState.{FusesState}
@@ -14,15 +16,20 @@ use Rattle.pfr_auth.specs.Areas.{judge_area}
 use Rattle.pfr_auth.specs.declared.areas.Area.TheVariants.{Recovery}
 use Rattle.pfr_jobs.specs.declared.job.JobKind.{JobKind}
 use Rattle.pfr_jobs.specs.declared.job.JobKind.TheVariants.{ActiveFromRecovery, ActiveFromStaging, RecoveryFromStaging}
+use Rattle.pfr_jobs.specs.LogPlans.{finish_plan}
 use Rattle.pfr_jobs.proofs.SlotLaw.{IsDigest}
-use Rattle.pfr_story.specs.Story.{Story, after}
-use Rattle.pfr_story.specs.Plans.{mine, store, judged_staging}
-use Rattle.pfr_story.specs.JobPlans.{judged_source, recovery_job}
+use Rattle.pfr_report.specs.declared.note.What.{What}
+use Rattle.pfr_story.specs.Story.{Story, Says, after, device_of}
+use Rattle.pfr_story.specs.Plans.{mine, store}
+use Rattle.pfr_story.specs.JobPlans.{finished_job, abandoned, judged_source, recovery_job}
 use Rattle.pfr_story.specs.JobContents.{CanWork, ResumesWhole, RebuildsWhole, CopiesWhole}
+use Rattle.pfr_story.proofs.Sequence.{after-append}
+use Rattle.pfr_story.proofs.SafetyLaws.{image_noted, image_called}
 use Rattle.pfr_story.proofs.AnewLaws.{MadeFrom}
 use Rattle.pfr_story.proofs.RestoreLaws.{found_good, found_staged}
 use Rattle.pfr_story.proofs.JobPages.{IsSameCapsule}
-use Rattle.pfr_story.proofs.JobDone.{IsDone, with_job_done}
+use Rattle.pfr_story.proofs.JobSteps.{bank_called}
+use Rattle.pfr_story.proofs.JobDone.{with_job_done}
 use Rattle.pfr_story.proofs.JobRecovery.{IsStaged, second_good, second_stands}
 use Rattle.pfr_story.proofs.JobRecoveryBegun.{IsRecoveryDone, recovery_job_ends}
 use Rattle.pfr_story.proofs.JobResumed.{resumed_ends}
@@ -86,3 +93,13 @@ copies given_up told accepts which fuses capsule story h none free j =
 
     same_found : (c d : CapsuleState) → found_is c ≡ found_is d → c ≡ d
     same_found c d e = cc
+
+-- ---- a job that is given up: its end is written, and nothing else
+pub given_up_store : (that : What) (b : Bank) (story : Story) → store (after (abandoned that b story) story) ≡ play (store story) (finish_plan (store story) b)
+given_up_store that b story =
+    ap (λ (s : Story). store s) (after-append (finished_job b story) (Says (λ _. that) ∷ []) story) ∙ image_called device.Nv (finish_plan (store story) b) story
+
+pub given_up_bank : (that : What) (b c : Bank) (story : Story) → mine c (after (abandoned that b story) story) ≡ mine c story
+given_up_bank that b c story =
+    ap (λ (s : Story). mine c s) (after-append (finished_job b story) (Says (λ _. that) ∷ []) story)
+    ∙ image_noted (device_of c) (λ _. that) (after (finished_job b story) story) ∙ bank_called c (finish_plan (store story) b) story

@@ -12,7 +12,6 @@ use Rattle.pfr_fuses.specs.Changes.{raised, with_floor}
 use Rattle.pfr_fuses.specs.FusesState.{FusesState, floor_row}
 use Rattle.pfr_fuses.specs.FusesOf.{fuses_of}
 use Rattle.pfr_fuses.specs.RootSlot.{layout_of}
-use Rattle.pfr_fuses.specs.declared.profile.Profile.TheVariants as profile
 use Rattle.pfr_fuses.proofs.ClearingLemmas.{raised_cases}
 use Rattle.pfr_capsule.specs.CapsuleState.{CapsuleState}
 use Rattle.pfr_capsule.specs.declared.fail.CapsuleFail.{CapsuleFail}
