@@ -63,7 +63,7 @@ pub rebuilds : RebuildsWhole
 rebuilds accepts which kind fuses capsule that story h none valid active j =
     let from = source_made accepts which kind fuses capsule story h j in
     let e = with_job_done accepts which kind active fuses capsule that story from h.store_size none (made_digest accepts which fuses capsule story from) valid in
-    record { holds = e.stands.bank; opened = e.stands.logged.opened; says = e.stands.logged.fuses ∙ h.provisioned; other = e.stands.other }
+    (record { holds = e.stands.bank; opened = e.stands.logged.opened; says = e.stands.logged.fuses ∙ h.provisioned; other = e.stands.other }, e.trusted)
 
 pub copies : CopiesWhole
 copies given_up told accepts which fuses capsule story h none free j =

@@ -10,10 +10,12 @@ use Rattle.pfr_fuses.specs.FusesState.{FusesState}
 use Rattle.pfr_fuses.specs.FusesOf.{fuses_of}
 use Rattle.pfr_fuses.specs.RootSlot.{layout_of}
 use Rattle.pfr_fuses.specs.declared.profile.Profile.TheVariants.{Two}
+use Rattle.pfr_manifest.specs.declared.manifest.Manifest.{Manifest}
 use Rattle.pfr_capsule.specs.CapsuleState.{CapsuleState}
 use Rattle.pfr_capsule.specs.declared.fail.CapsuleFail.{CapsuleFail}
 use Rattle.pfr_auth.specs.Areas.{judge_area}
 use Rattle.pfr_auth.specs.declared.areas.Area.TheVariants.{Recovery}
+use Rattle.pfr_auth.specs.Trusted.{IsTrusted}
 use Rattle.pfr_jobs.specs.Log.{open_job}
 use Rattle.pfr_jobs.specs.LogPlans.{IsKind}
 use Rattle.pfr_jobs.specs.LogState.{is_marked, is_spent}
@@ -117,17 +119,23 @@ pub record IsWorked (which : Bank) (image : List ℕ) (fuses : FusesState) (old 
   pub says : fuses_of (store new) ≡ Ok fuses
   pub other : mine (other_bank which) new ≡ mine (other_bank which) old
 
+-- the bank is trusted, by this manifest
+abbrev pub IsTrustedBy : Acceptance → Bank → Manifest → Story → Type 0
+IsTrustedBy accepts which manifest story = (t : IsTrusted (mine which story) (store story) which accepts) × (t.manifest ≡ manifest)
+
 -- So a bank is left where the job that is open is resumed or given up.
 abbrev pub ResumesWhole : Type 0
 ResumesWhole = (notes : JobNotes) (accepts : Acceptance) (which : Bank) (fuses : FusesState) (story : Story) → CanWork which fuses story
     → IsWorked which (image_resumed accepts which (mine which story) (store story) fuses) (fuses_resumed accepts which (mine which story) (store story) fuses) story
     (after (resumed notes accepts which fuses story) story)
 
--- So where an active job is begun and done at once, from a good capsule in its source area; whether the log takes it or is spent.
+-- So where an active job is begun and done at once, from a good capsule in its source area, whether the log takes it or is spent;
+-- and the bank is trusted then.
 abbrev pub RebuildsWhole : Type 0
 RebuildsWhole = (accepts : Acceptance) (which : Bank) (kind : JobKind) (fuses : FusesState) (capsule : CapsuleState) (that : What) (story : Story) → CanWork which fuses story
     → open_job (store story) which ≡ job.None → IsKind kind → ¬ (kind ≡ RecoveryFromStaging) → judged_source accepts which fuses kind story ≡ Ok capsule
     → IsWorked which (active_rebuilt kind (mine which story) capsule (layout_of fuses.provision which)) fuses story (after (with_job which kind fuses capsule that story) story)
+    × IsTrustedBy accepts which capsule.manifest (after (with_job which kind fuses capsule that story) story)
 
 -- And so where a recovery job is, in a log that isn't spent.
 abbrev pub CopiesWhole : Type 0
