@@ -12,7 +12,7 @@ use Rattle.pfr_engine.specs.Acceptance.{Acceptance}
 use Rattle.pfr_capsule.specs.CapsuleState.{CapsuleState}
 use Rattle.pfr_capsule.specs.Good.{IsGood}
 use Rattle.pfr_capsule.proofs.GoodFacts.{good_within}
-use Rattle.pfr_capsule.proofs.MovedLaw.{good_moved, capsule_moved, digest_moved}
+use Rattle.pfr_capsule.proofs.MovedLaw.{good_moved, capsule_moved, digest_moved, manifest_moved}
 use Rattle.pfr_flash.specs.Operation.{play}
 use Rattle.pfr_strokes.specs.Strokes.{strokes_of}
 use Rattle.pfr_strokes.specs.Replaced.{IsPage}
@@ -129,3 +129,8 @@ module _ (image nv : List ℕ) (bank : Bank) (accepts : Acceptance) (layout : La
   unfolding copied_good
   copied_digest = ap (λ (c : CapsuleState). c.digest) (capsule_moved image (recovery_rebuilt image layout.staging_at g.capsule.length layout) nv layout.staging_at layout.recovery_at layout.area_len layout.area_len bank accepts g size blocks copied_bytes fits)
       ∙ digest_moved image (recovery_rebuilt image layout.staging_at g.capsule.length layout) nv layout.staging_at layout.recovery_at layout.area_len layout.area_len bank accepts g size blocks copied_bytes fits
+
+  pub copied_manifest : copied_good.capsule.manifest ≡ g.capsule.manifest
+  unfolding copied_good
+  copied_manifest = ap (λ (c : CapsuleState). c.manifest) (capsule_moved image (recovery_rebuilt image layout.staging_at g.capsule.length layout) nv layout.staging_at layout.recovery_at layout.area_len layout.area_len bank accepts g size blocks copied_bytes fits)
+      ∙ manifest_moved image (recovery_rebuilt image layout.staging_at g.capsule.length layout) nv layout.staging_at layout.recovery_at layout.area_len layout.area_len bank accepts g size blocks copied_bytes fits

@@ -1,5 +1,6 @@
 -- How many operations the steps of a job's work do.
-use Rattle.std.proofs.Common.{◌≡◌, ◌∙◌, ℕ, ◌+◌, ◌*◌, ◌≤◌, ◌==◌, refl, ap, arith, Bool, true, false, if◌then◌else◌, List, [], ◌∷◌, length, length-append, ◌⊎◌, inl, inr, Option, Some, None}
+use Rattle.std.proofs.Common.{◌≡◌, ◌∙◌, ℕ, ◌++◌, suc, ◌/◌, ◌+◌, ◌*◌, ◌≤◌, ◌==◌, refl, ap, arith, Bool, true, false, if◌then◌else◌, List, [], ◌∷◌, length, length-append, ◌⊎◌, inl, inr, Option, Some, None}
+use Rattle.std.proofs.lemmas.List.{append-nil}
 use Rattle.pfr_flash.specs.Operation.{Operation}
 use Rattle.pfr_flash.specs.declared.layout.Layout.{Layout}
 use Rattle.pfr_flash.specs.declared.names.Bank.{Bank}
@@ -13,12 +14,14 @@ use Rattle.pfr_jobs.specs.Log.{spent_in, selector, current_at, current_page, las
 use Rattle.pfr_jobs.specs.LogPlans.{slot_plan, switch_plan, begin_by, begin_plan, mark_by, mark_plan, finish_by, finish_plan}
 use Rattle.pfr_jobs.specs.LogState.{is_marked}
 use Rattle.pfr_jobs.specs.declared.job.JobKind.{JobKind}
-use Rattle.pfr_strokes.specs.Deeds.{Deed, side_ops}
+use Rattle.pfr_strokes.specs.Deeds.{Deed, Asks as AsksSide, called as called_side, ends_group, page_deeds, marked_by, side_ops}
+use Rattle.pfr_strokes.specs.Strokes.{strokes}
 use Rattle.pfr_strokes.specs.declared.side.Side.TheVariants as side
+use Rattle.pfr_strokes.proofs.DeedsLaws.{side_ops-append, ops_called, none_called}
 use Rattle.pfr_strokes.proofs.ReplacedLaws.{strokes_of_few}
 use Rattle.pfr_rebuilt.specs.ActiveCopying.{active_page, active_pages}
 use Rattle.pfr_rebuilt.specs.Copying.{recovery_page, recovery_pages}
-use Rattle.pfr_rebuilt.specs.Passing.{group_pages, left_pages, active_heeding, active_ignoring, recovery_heeding, recovery_ignoring}
+use Rattle.pfr_rebuilt.specs.Passing.{group_pages, left_pages, heeding, active_heeding, active_ignoring, recovery_heeding, recovery_ignoring}
 use Rattle.pfr_report.specs.declared.note.What.{What}
 use Rattle.pfr_story.specs.Story.{Story, after, noted, operated, counts_of, called}
 use Rattle.pfr_story.specs.Deeds.{deed_moves}
@@ -126,3 +129,30 @@ finish_few nv b = by_last (last_gated (current_page nv b) 64)
     by_last : (last : Option ℕ) → length (finish_by (current_at nv b) last) ≤ 1
     by_last None = omega arith
     by_last (Some k) = omega arith
+
+-- ---- the marks of a pass: at most one for each page that is left
+module _ (content : ℕ → List ℕ) (group : ℕ) (plan : ℕ → List Operation) (one : (number : ℕ) → length (plan number) ≤ 1) where
+  mark_ops : (number : ℕ) → length (side_ops side.Store (marked_by plan number)) ≤ 1
+  mark_ops number =
+      let same = side_ops-append side.Store (called_side side.Store (plan number)) (AsksSide side.Bank ∷ []) ∙ append-nil (side_ops side.Store (called_side side.Store (plan number))) ∙ ops_called side.Store (plan number) in
+      omega (arith, ap (λ (ops : List Operation). length ops) same, one number)
+
+  pub marks_few : (pages : List ℕ) → length (side_ops side.Store (page_deeds content group (marked_by plan) pages)) ≤ length pages
+  unfolding page_deeds
+  marks_few [] = omega arith
+  marks_few (page ∷ pages) =
+      let rest : List Deed = (if ends_group group page pages then marked_by plan (page / group) else []) ++ page_deeds content group (marked_by plan) pages in
+      let none = side_ops-append side.Store (called_side side.Bank (strokes page (content page))) rest
+      ∙ ap (λ (ops : List Operation). ops ++ side_ops side.Store rest) (none_called side.Bank (strokes page (content page))) in
+      omega (arith, ap (λ (ops : List Operation). length ops) none, by_end (ends_group group page pages) (marks_few pages))
+    where
+      by_end : (ends : Bool) → length (side_ops side.Store (page_deeds content group (marked_by plan) pages)) ≤ length pages
+          → length (side_ops side.Store ((if ends then marked_by plan (page / group) else []) ++ page_deeds content group (marked_by plan) pages)) ≤ suc (length pages)
+      by_end true few =
+          let same = ap (λ (ops : List Operation). length ops) (side_ops-append side.Store (marked_by plan (page / group)) (page_deeds content group (marked_by plan) pages)) in
+          omega (arith, same, few, mark_ops (page / group), length-append (side_ops side.Store (marked_by plan (page / group))) (side_ops side.Store (page_deeds content group (marked_by plan) pages)))
+      by_end false few = omega (arith, few)
+
+-- of a pass that heeds marks
+pub heeding_few : (b : Bank) (nv : List ℕ) (content : ℕ → List ℕ) (group : ℕ) (pages : List ℕ) → length (side_ops side.Store (heeding b nv content group pages)) ≤ length (left_pages (is_marked nv b) group pages)
+heeding_few b nv content group pages = marks_few content group (mark_plan nv b) (λ number. mark_few nv b number) (left_pages (is_marked nv b) group pages)

@@ -32,7 +32,7 @@ use Rattle.pfr_story.specs.Safety.{AllSafe}
 use Rattle.pfr_story.specs.Recovery.{KeepsRecoverable}
 use Rattle.pfr_story.specs.Plans.{mine, store, job_ops, copied, restored}
 use Rattle.pfr_story.specs.JobPlans.{begun_job, finished_job, worked, written_over, done_with, by_log, with_job, JobNotes, resumed}
-use Rattle.pfr_story.specs.JobContents.{image_resumed, fuses_resumed}
+use Rattle.pfr_story.specs.JobContents.{CanWork, image_resumed, fuses_resumed}
 use Rattle.pfr_story.proofs.Sequence.{after-append}
 use Rattle.pfr_story.proofs.SafetyLaws.{past_called, safe_whole, kept_by}
 use Rattle.pfr_story.proofs.RecoverableLaws.{true_kept}
@@ -41,7 +41,7 @@ use Rattle.pfr_story.proofs.RestoreLaws.{RestoresFrom, found_good, restored_judg
 use Rattle.pfr_story.proofs.JobSteps.{bank_called}
 use Rattle.pfr_story.proofs.JobDone.{done_is, with_job_done}
 use Rattle.pfr_story.proofs.JobCounts.{done_on, noted_count, store_count, worked_few, written_few}
-use Rattle.pfr_story.proofs.JobResumed.{IsHeldReady, IsFew, IsResumedTo, resumed_ends}
+use Rattle.pfr_story.proofs.JobResumed.{IsFew, IsResumedTo, resumed_ends}
 use Rattle.pfr_story.proofs.JobTail.{recovery_few, Restoring, tail_with, EndsReleased, ends_behind, RestoresWell, tail_ends}
 
 -- ---- a restore as it stands, without a job
@@ -121,7 +121,7 @@ pub record PowerEnds (b : Bank) (moves : List Move) (story : Story) : Type 0 whe
   pub released : EndsReleased b moves story
   pub few : done_on b (after moves story) ≤ done_on b story + 34 * (length (mine b story) / 4096)
 
-module _ (notes : JobNotes) (accepts : Acceptance) (b : Bank) (fuses : FusesState) (story : Story) (h : IsHeldReady b fuses story)
+module _ (notes : JobNotes) (accepts : Acceptance) (b : Bank) (fuses : FusesState) (story : Story) (h : CanWork b fuses story)
     (recoverable : IsRecoverable b (mine b story) (store story) accepts) (safe : AllSafe (KeepsRecoverable accepts b) (resumed notes accepts b fuses story) story) where
   abbrev there : Story
   there = after (resumed notes accepts b fuses story) story
@@ -169,7 +169,7 @@ module _ (notes : JobNotes) (accepts : Acceptance) (b : Bank) (fuses : FusesStat
         })
 
 -- ---- both ways to restore
-module _ (notes : JobNotes) (accepts : Acceptance) (b : Bank) (fuses : FusesState) (story : Story) (h : IsHeldReady b fuses story)
+module _ (notes : JobNotes) (accepts : Acceptance) (b : Bank) (fuses : FusesState) (story : Story) (h : CanWork b fuses story)
     (recoverable : IsRecoverable b (mine b story) (store story) accepts) (safe : AllSafe (KeepsRecoverable accepts b) (resumed notes accepts b fuses story) story) where
   -- as it stands, without a job
   pub power_releases : PowerEnds b (power_with (restored b 1) notes accepts b fuses story) story

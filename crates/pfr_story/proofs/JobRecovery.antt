@@ -11,6 +11,7 @@ use Rattle.pfr_engine.specs.Acceptance.{Acceptance}
 use Rattle.pfr_fuses.specs.FusesState.{FusesState}
 use Rattle.pfr_fuses.specs.FusesOf.{fuses_of}
 use Rattle.pfr_fuses.specs.RootSlot.{layout_of}
+use Rattle.pfr_manifest.specs.declared.manifest.Manifest.{Manifest}
 use Rattle.pfr_capsule.specs.CapsuleState.{CapsuleState}
 use Rattle.pfr_capsule.specs.Good.{IsGood}
 use Rattle.pfr_capsule.proofs.GoodLaw.{good_found}
@@ -24,7 +25,7 @@ use Rattle.pfr_strokes.specs.Strokes.{strokes_of}
 use Rattle.pfr_strokes.proofs.ReplacedLaws.{IsOneOf}
 use Rattle.pfr_rebuilt.specs.Copying.{recovery_page, recovery_pages, recovery_rebuilt}
 use Rattle.pfr_rebuilt.specs.Passing.{group_pages, left_pages}
-use Rattle.pfr_rebuilt.proofs.CopiedLaw.{copied_good, copied_digest}
+use Rattle.pfr_rebuilt.proofs.CopiedLaw.{copied_good, copied_digest, copied_manifest}
 use Rattle.pfr_recoverable.specs.Recoverable.{HasGoodRecovery}
 use Rattle.pfr_story.specs.Story.{Story, after}
 use Rattle.pfr_story.specs.Plans.{mine, store, judged_recovery}
@@ -145,14 +146,15 @@ judged_found accepts b fuses capsule found story staged j =
     let good = found_good accepts b fuses found story staged.provisioned staged.layout staged.bytes j in
     record { area = record { fuses = fuses; provisioned = staged.provisioned; good = good.0 }; capsule_is = good.1 }
 
--- Behind the second pass the recovery area is good, with the digest of the staged capsule.
-pub record IsCopied (accepts : Acceptance) (b : Bank) (fuses : FusesState) (digest : List ℕ) (story : Story) : Type 0 where
+-- Behind the second pass the recovery area is good, with the digest and the manifest of the staged capsule.
+pub record IsCopied (accepts : Acceptance) (b : Bank) (fuses : FusesState) (digest : List ℕ) (signed : Manifest) (story : Story) : Type 0 where
   pub found : CapsuleState
   pub judged : judged_recovery accepts b fuses story ≡ Ok found
   pub same : found.digest ≡ digest
+  pub manifest : found.manifest ≡ signed
 
 module _ (accepts : Acceptance) (b : Bank) (fuses : FusesState) (capsule : CapsuleState) (story : Story) (staged : IsStaged accepts b fuses capsule story) where
-  pub second_good : IsCopied accepts b fuses capsule.digest (after (copied_again b fuses capsule story) story)
+  pub second_good : IsCopied accepts b fuses capsule.digest capsule.manifest (after (copied_again b fuses capsule story) story)
   second_good =
       let image : List ℕ = mine b story in
       let layout : Layout = layout_of fuses.provision b in
@@ -160,6 +162,7 @@ module _ (accepts : Acceptance) (b : Bank) (fuses : FusesState) (capsule : Capsu
       let stands = second_stands accepts b fuses capsule story staged in
       let good = copied_good image (store story) b accepts layout staged.good staged.layout staged.size.blocks staged.bytes in
       let digest = copied_digest image (store story) b accepts layout staged.good staged.layout staged.size.blocks staged.bytes in
+      let manifest = copied_manifest image (store story) b accepts layout staged.good staged.layout staged.size.blocks staged.bytes in
       let same_image : recovery_rebuilt image layout.staging_at staged.good.capsule.length layout ≡ mine b new = ap (λ (len : ℕ). recovery_rebuilt image layout.staging_at len layout) staged.same.len ∙ sym stands.bank in
       let judged : judge_area Recovery b (recovery_rebuilt image layout.staging_at staged.good.capsule.length layout) fuses accepts ≡ Ok good.capsule =
       good_found (recovery_rebuilt image layout.staging_at staged.good.capsule.length layout) (store story) layout.recovery_at layout.area_len b accepts fuses (stand_for (store story) fuses b staged.provisioned) good in
@@ -167,4 +170,5 @@ module _ (accepts : Acceptance) (b : Bank) (fuses : FusesState) (capsule : Capsu
         found = good.capsule;
         judged = subst (λ (bytes : List ℕ). judge_area Recovery b bytes fuses accepts ≡ Ok good.capsule) same_image judged;
         same = digest ∙ staged.same.digest;
+        manifest = manifest ∙ staged.same.manifest;
       }

@@ -75,7 +75,7 @@ unmarked_copied accepts b fuses capsule story staged none =
     ap (λ (list : List ℕ). replaced image (recovery_page image layout.staging_at capsule.length layout) list)
     (left_all (is_marked (store story) b) (group_pages (length image)) (recovery_pages layout capsule.length (length image))
     (λ n one. none (n / group_pages (length image)) (group_small (length image) n (recovery_below b image (store story) capsule.length layout n one)))) in
-    let copied : IsCopied accepts b fuses capsule.digest (after (copied_again b fuses capsule story) story) = second_good accepts b fuses capsule story staged in
+    let copied : IsCopied accepts b fuses capsule.digest capsule.manifest (after (copied_again b fuses capsule story) story) = second_good accepts b fuses capsule story staged in
     let judged : judge_area Recovery b whole fuses accepts ≡ Ok copied.found =
     ap (λ (bytes : List ℕ). judge_area Recovery b bytes fuses accepts) (sym (second_stands accepts b fuses capsule story staged).bank) ∙ copied.judged in
     let spelled : same_digest copied.found.digest capsule.digest ≡ true = ap (λ (digest : List ℕ). same_digest digest capsule.digest) copied.same ∙ same_spelled capsule.digest in

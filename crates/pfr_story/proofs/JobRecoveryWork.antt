@@ -136,7 +136,7 @@ module _ (given_up : What) (told : ℕ → What) (accepts : Acceptance) (b : Ban
   -- behind both passes
   second_ends : is_found (judge_area Recovery b once_image fuses accepts) capsule.digest ≡ false → Ends (after (second_pass given_up told accepts b fuses capsule once) once)
   second_ends missing =
-      let copied : IsCopied accepts b fuses capsule.digest twice = second_good accepts b fuses capsule once one_staged in
+      let copied : IsCopied accepts b fuses capsule.digest capsule.manifest twice = second_good accepts b fuses capsule once one_staged in
       let image : mine b twice ≡ recovery_done accepts b (mine b story) (store story) fuses capsule =
       two_stands.bank ∙ ap (λ (bytes : List ℕ). recovery_rebuilt bytes layout.staging_at capsule.length layout) one.bank
       ∙ sym (ap (λ (t : Bool). if t then once_image else recovery_rebuilt once_image layout.staging_at capsule.length layout) missing) in

@@ -12,7 +12,6 @@ use Rattle.pfr_fuses.specs.Changes.{raised, with_floor}
 use Rattle.pfr_fuses.specs.FusesState.{FusesState, floor_row}
 use Rattle.pfr_fuses.specs.FusesOf.{fuses_of}
 use Rattle.pfr_fuses.specs.RootSlot.{layout_of}
-use Rattle.pfr_fuses.specs.declared.profile.Profile.TheVariants as profile
 use Rattle.pfr_fuses.proofs.ClearingLemmas.{raised_cases}
 use Rattle.pfr_capsule.specs.CapsuleState.{CapsuleState}
 use Rattle.pfr_capsule.specs.declared.fail.CapsuleFail.{CapsuleFail}
@@ -34,7 +33,7 @@ use Rattle.pfr_report.specs.declared.note.What.TheVariants.{Restored, Updated}
 use Rattle.pfr_story.specs.Story.{Story, Says, after, noted, other_bank, device_of}
 use Rattle.pfr_story.specs.Plans.{mine, store}
 use Rattle.pfr_story.specs.JobPlans.{finished_job, abandoned, worked, done_with, same_digest, source_of, judged_source, JobNotes, work_of, resumed_if, by_source, by_open, resumed}
-use Rattle.pfr_story.specs.JobContents.{active_resumed, recovery_done, image_worked, image_from, image_by, image_resumed, fuses_by, fuses_worked, fuses_from, fuses_at, fuses_resumed}
+use Rattle.pfr_story.specs.JobContents.{CanWork, active_resumed, recovery_done, image_worked, image_from, image_by, image_resumed, fuses_by, fuses_worked, fuses_from, fuses_at, fuses_resumed}
 use Rattle.pfr_story.proofs.Sequence.{after-append}
 use Rattle.pfr_story.proofs.SafetyLaws.{image_noted}
 use Rattle.pfr_story.proofs.AnewLaws.{MadeFrom}
@@ -47,16 +46,7 @@ use Rattle.pfr_story.proofs.JobRecoveryWork.{recovery_work_ends}
 use Rattle.pfr_story.proofs.JobCounts.{done_on, noted_count, store_count, worked_few}
 
 -- ---- a bank that is ready for work
--- the store says these fuses, of profile 2, with a valid layout of the bank, and both have their sizes
-pub record IsHeldReady (b : Bank) (fuses : FusesState) (story : Story) : Type 0 where
-  pub provisioned : fuses_of (store story) ≡ Ok fuses
-  pub two : fuses.profile ≡ profile.Two
-  pub layout : IsValidLayout (layout_of fuses.provision b) (length (mine b story))
-  pub size : IsBankSize (length (mine b story))
-  pub bytes : AreBytes (mine b story)
-  pub store_size : length (store story) ≡ 32768
-
-pub held_noted : (b : Bank) (fuses : FusesState) (w : Counts → What) (story : Story) → IsHeldReady b fuses story → IsHeldReady b fuses (noted w story)
+pub held_noted : (b : Bank) (fuses : FusesState) (w : Counts → What) (story : Story) → CanWork b fuses story → CanWork b fuses (noted w story)
 held_noted b fuses w story h =
     let same : mine b story ≡ mine b (noted w story) = sym (image_noted (device_of b) w story) in
     record {
@@ -119,7 +109,7 @@ module _ (notes : JobNotes) (accepts : Acceptance) (b : Bank) (fuses : FusesStat
   layout = layout_of fuses.provision b
 
   -- ---- it is given up
-  given_up_ends : (story : Story) → IsHeldReady b fuses story → (open_job (store story) b ≡ job.None → ⊥) → IsResumedTo b fuses (mine b story) fuses story (after (abandoned notes.given_up b story) story)
+  given_up_ends : (story : Story) → CanWork b fuses story → (open_job (store story) b ≡ job.None → ⊥) → IsResumedTo b fuses (mine b story) fuses story (after (abandoned notes.given_up b story) story)
   given_up_ends story h is_open =
       let ended : Story = after (finished_job b story) story in
       let new : Story = noted (λ _. notes.given_up) ended in
@@ -139,7 +129,7 @@ module _ (notes : JobNotes) (accepts : Acceptance) (b : Bank) (fuses : FusesStat
       })
 
   -- ---- it is done
-  active_ends : (kind : JobKind) (capsule : CapsuleState) (that : What) (story : Story) → IsHeldReady b fuses story → (open_job (store story) b ≡ job.None → ⊥) → MadeFrom accepts b fuses capsule story
+  active_ends : (kind : JobKind) (capsule : CapsuleState) (that : What) (story : Story) → CanWork b fuses story → (open_job (store story) b ≡ job.None → ⊥) → MadeFrom accepts b fuses capsule story
       → IsResumedTo b fuses (active_resumed kind b (mine b story) (store story) capsule (layout_of fuses.provision b)) fuses story (after (done_with b kind fuses capsule that story) story)
   active_ends kind capsule that story h is_open from =
       let new : Story = after (done_with b kind fuses capsule that story) story in
@@ -159,7 +149,7 @@ module _ (notes : JobNotes) (accepts : Acceptance) (b : Bank) (fuses : FusesStat
         few = inl (omega (arith, count, worked_few b fuses capsule story kind, active_few kind (mine b story) capsule layout));
       }
 
-  recovery_ends : (capsule : CapsuleState) (story : Story) → IsHeldReady b fuses story → (open_job (store story) b ≡ job.None → ⊥) → IsStaged accepts b fuses capsule story
+  recovery_ends : (capsule : CapsuleState) (story : Story) → CanWork b fuses story → (open_job (store story) b ≡ job.None → ⊥) → IsStaged accepts b fuses capsule story
       → IsResumedTo b fuses (recovery_done accepts b (mine b story) (store story) fuses capsule) (fuses_worked accepts b (mine b story) (store story) fuses capsule RecoveryFromStaging) story (after (work_of notes accepts b fuses capsule RecoveryFromStaging story) story)
   recovery_ends capsule story h is_open staged =
       let u = recovery_work_ends notes.given_up notes.recovery_updated accepts b fuses h.two capsule story staged is_open in
@@ -178,25 +168,25 @@ module _ (notes : JobNotes) (accepts : Acceptance) (b : Bank) (fuses : FusesStat
       }
 
   -- by its kind, behind what is noted first
-  module _ (capsule : CapsuleState) (story : Story) (h : IsHeldReady b fuses story) (is_open : open_job (store story) b ≡ job.None → ⊥) where
+  module _ (capsule : CapsuleState) (story : Story) (h : CanWork b fuses story) (is_open : open_job (store story) b ≡ job.None → ⊥) where
     from_recovery : (w : Counts → What) → judge_area (source_of (ActiveFromRecovery 1)) b (mine b story) fuses accepts ≡ Ok capsule → MadeFrom accepts b fuses capsule (noted w story)
     from_recovery w j =
         let there : Story = noted w story in
-        let k : IsHeldReady b fuses there = held_noted b fuses w story h in
+        let k : CanWork b fuses there = held_noted b fuses w story h in
         let found = found_good accepts b fuses capsule there k.provisioned k.layout k.bytes (ap (λ (image : List ℕ). judge_area (source_of (ActiveFromRecovery 1)) b image fuses accepts) (image_noted (device_of b) w story) ∙ j) in
         record { place = layout.recovery_at; len = layout.area_len; good = found.0; capsule_is = found.1; provisioned = k.provisioned; inside = k.layout.inside.recovery; size = k.size; bytes = k.bytes }
 
     from_staging : (w : Counts → What) → judge_area (source_of RecoveryFromStaging) b (mine b story) fuses accepts ≡ Ok capsule → MadeFrom accepts b fuses capsule (noted w story)
     from_staging w j =
         let there : Story = noted w story in
-        let k : IsHeldReady b fuses there = held_noted b fuses w story h in
+        let k : CanWork b fuses there = held_noted b fuses w story h in
         let found = found_staged accepts b fuses capsule there k.provisioned k.layout k.bytes (ap (λ (image : List ℕ). judge_area (source_of RecoveryFromStaging) b image fuses accepts) (image_noted (device_of b) w story) ∙ j) in
         record { place = layout.staging_at; len = layout.area_len; good = found.0; capsule_is = found.1; provisioned = k.provisioned; inside = k.layout.inside.staging; size = k.size; bytes = k.bytes }
 
     is_staged : (w : Counts → What) → judge_area (source_of RecoveryFromStaging) b (mine b story) fuses accepts ≡ Ok capsule → IsStaged accepts b fuses capsule (noted w story)
     is_staged w j =
         let there : Story = noted w story in
-        let k : IsHeldReady b fuses there = held_noted b fuses w story h in
+        let k : CanWork b fuses there = held_noted b fuses w story h in
         let found = found_staged accepts b fuses capsule there k.provisioned k.layout k.bytes (ap (λ (image : List ℕ). judge_area (source_of RecoveryFromStaging) b image fuses accepts) (image_noted (device_of b) w story) ∙ j) in
         record {
           good = found.0;
@@ -239,7 +229,7 @@ module _ (notes : JobNotes) (accepts : Acceptance) (b : Bank) (fuses : FusesStat
         (recovery_ends capsule there (held_noted b fuses w story h) is_open (is_staged w j))
 
   -- ---- whatever is open
-  module _ (story : Story) (h : IsHeldReady b fuses story) where
+  module _ (story : Story) (h : CanWork b fuses story) where
     source_ends : (kind : JobKind) (digest : List ℕ) → (open_job (store story) b ≡ job.None → ⊥) → (r : Result CapsuleState CapsuleFail) → judged_source accepts b fuses kind story ≡ r
         → IsResumedTo b fuses (image_from accepts b (mine b story) (store story) fuses kind digest r) (fuses_from accepts b (mine b story) (store story) fuses kind digest r) story (after (by_source notes accepts b fuses kind digest r story) story)
     source_ends kind digest is_open (Err cause) j = given_up_ends story h is_open
