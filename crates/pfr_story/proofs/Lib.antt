@@ -23,8 +23,9 @@ pub mod BringLaws
 pub mod RecoverableLaws
 pub mod Bytes
 pub mod SpanLaws
-pub mod SpanSteps
+pub mod SpanRules
 pub mod Carried
+pub mod SpanSteps
 pub mod MomentLaws
 pub mod RiseLaws
 pub mod KeepLaws
