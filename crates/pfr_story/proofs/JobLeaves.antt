@@ -168,7 +168,7 @@ module _ (accepts : Acceptance) (which : Bank) where
           (λ other fuses. subst (λ (w : Bank). LeavesStore fuses w op) (other_one which b other) (raise_leaves b fuses (store story) op raise));
     }
 
-    aside_told : (that : What) → IsAside which that → (story : Story) → Carrying (AtWork accepts which b) (InWork accepts which) (Says (λ _. that)) story
+    pub aside_told : (that : What) → IsAside which that → (story : Story) → Carrying (AtWork accepts which b) (InWork accepts which) (Says (λ _. that)) story
     aside_told that aside story p = (
       ((aside.stamped (counts_of story), aside.settled (store story)), tt),
       still_work accepts which b (λ _. that) story aside.still p,

@@ -34,6 +34,7 @@ pub mod FuseLaws
 pub mod JobGrowth
 pub mod JobLeaves
 pub mod JobTrust
+pub mod JobSpans
 pub mod StoreLaws
 pub mod EventLaws
 pub mod JudgedLaws
