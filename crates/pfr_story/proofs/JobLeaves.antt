@@ -37,7 +37,7 @@ use Rattle.pfr_story.specs.Story.{Story, Says, Does, Asks, noted, operated, coun
 use Rattle.pfr_story.proofs.Carried.{Carrying}
 use Rattle.pfr_story.proofs.JobGrowth.{within_outside, floor_apart, row_apart, row_low, floor_in_sector}
 use Rattle.pfr_story.proofs.JobRules.{IsInLog, IsRaise, AllowsJobs}
-use Rattle.pfr_story.proofs.JobWalks.{TellsJobs}
+use Rattle.pfr_story.proofs.JobWalks.{TellsJobs, AllNotes}
 use Rattle.pfr_story.proofs.SafetyLaws.{image_operated, store_operated}
 use Rattle.pfr_story.proofs.SpanLaws.{Spares, SparesOpen, KeepsSpans, IsSettledWhere, open_none, open_any}
 use Rattle.pfr_story.proofs.SpanRules.{NotOne, InWork, AtWork, op_safe, op_work, still_work}
@@ -174,13 +174,12 @@ module _ (accepts : Acceptance) (which : Bank) where
       still_work accepts which b (λ _. that) story aside.still p,
     )
 
-    -- and so is what is told of it, where the notes that are still open are so
-    pub jobs_tell : (notes : JobNotes) → ((kind : JobKind) → IsAside which (notes.resumed kind)) → IsAside which notes.given_up → ((svn : ℕ) → IsAside which (notes.recovery_updated svn))
-        → TellsJobs (Carrying (AtWork accepts which b) (InWork accepts which)) b notes
-    jobs_tell notes resumed given_up recovery_updated = record {
-      resumed = λ kind story. aside_told (notes.resumed kind) (resumed kind) story;
-      given_up = λ story. aside_told notes.given_up given_up story;
+    -- and so is what is told of it, where the job's own notes say nothing of the spans
+    pub jobs_tell : (notes : JobNotes) → AllNotes (IsAside which) notes → TellsJobs (Carrying (AtWork accepts which b) (InWork accepts which)) b notes
+    jobs_tell notes aside = record {
+      resumed = λ kind story. aside_told (notes.resumed kind) (aside.resumed kind) story;
+      given_up = λ story. aside_told notes.given_up aside.given_up story;
       restored = λ level story. aside_told (what.Restored b level) (record { stamped = λ counts. tt; settled = λ nv. tt; still = λ opens. refl }) story;
       updated = λ dynamic svn story. aside_told (what.Updated b dynamic svn) (record { stamped = λ counts. tt; settled = λ nv. tt; still = λ opens. refl }) story;
-      recovery_updated = λ svn story. aside_told (notes.recovery_updated svn) (recovery_updated svn) story;
+      recovery_updated = λ svn story. aside_told (notes.recovery_updated svn) (aside.recovery_updated svn) story;
     }

@@ -17,19 +17,13 @@ use Rattle.pfr_story.proofs.BringRules.{Any}
 use Rattle.pfr_story.proofs.Carried.{Carrying, carried_leads}
 use Rattle.pfr_story.proofs.JobLeaves.{IsAside, jobs_leave, aside_told, jobs_tell}
 use Rattle.pfr_story.proofs.JobRules.{AllInLog}
-use Rattle.pfr_story.proofs.JobWalks.{TellsJobs, store_sized, begin_allowed, job_allowed, recovery_allowed, resumed_allowed}
+use Rattle.pfr_story.proofs.JobWalks.{TellsJobs, AllNotes, store_sized, begin_allowed, job_allowed, recovery_allowed, resumed_allowed}
 use Rattle.pfr_story.proofs.SafetyLaws.{AllSafe-append}
 use Rattle.pfr_story.proofs.SpanRules.{InWork, AtWork}
 
 -- a begin of this job is in the bank's log, where that isn't spent
 abbrev pub BeginsOwn : Bank → JobKind → List ℕ → Type 0
 BeginsOwn b kind digest = (nv : List ℕ) → length nv ≡ 32768 → is_spent nv b ≡ false → AllInLog b (begin_plan nv b kind digest)
-
--- no note that is still open says anything of the spans of this bank
-pub record AreAside (which : Bank) (notes : JobNotes) : Type 0 where
-  pub resumed : (kind : JobKind) → IsAside which (notes.resumed kind)
-  pub given_up : IsAside which notes.given_up
-  pub recovery_updated : (svn : ℕ) → IsAside which (notes.recovery_updated svn)
 
 module _ (accepts : Acceptance) (which b : Bank) where
   abbrev Here : Story → Type 0
@@ -45,10 +39,10 @@ module _ (accepts : Acceptance) (which b : Bank) where
       carried_leads Here (InWork accepts which) Any (with_job b kind fuses capsule that)
       (λ story at any. job_allowed Carried b (jobs_leave accepts which b) kind fuses capsule that (aside_told accepts which b that aside) story (own (store story) at.size))
 
-  module _ (notes : JobNotes) (aside : AreAside which notes) (fuses : FusesState)
+  module _ (notes : JobNotes) (aside : AllNotes (IsAside which) notes) (fuses : FusesState)
       (small : (story : Story) (standing : CapsuleState) → judged_recovery accepts b fuses story ≡ Ok standing → standing.manifest.svn ≤ 128) where
     tells : TellsJobs Carried b notes
-    tells = jobs_tell accepts which b notes aside.resumed aside.given_up aside.recovery_updated
+    tells = jobs_tell accepts which b notes aside
 
     -- ---- on its recovery area, where the log isn't spent
     pub recovery_job_spans : (capsule : CapsuleState) → BeginsOwn b RecoveryFromStaging capsule.digest

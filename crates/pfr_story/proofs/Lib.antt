@@ -42,8 +42,8 @@ pub mod ProvisionLaws
 pub mod FilterLaws
 pub mod JobQuiet
 pub mod JobFront
-pub mod GrowthLaws
 pub mod GrownSteps
+pub mod GrowthLaws
 pub mod ContentsLaws
 pub mod GuardLaws
 pub mod Endings
