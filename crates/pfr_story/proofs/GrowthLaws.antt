@@ -38,6 +38,7 @@ use Rattle.pfr_story.proofs.Courses.{Turn-cases}
 use Rattle.pfr_story.proofs.Traces.{precedes_moved}
 use Rattle.pfr_story.proofs.Bytes.{have_bytes, images_then}
 use Rattle.pfr_story.proofs.Turns.{Turn-moved}
+use Rattle.pfr_story.proofs.GrownSteps.{Turn-grown}
 use Rattle.pfr_story.proofs.FuseLaws.{rows_kept, part_holds}
 use Rattle.pfr_story.proofs.StoreLaws.{Stored, operations_in, judged_here, Turn-stored}
 
@@ -92,60 +93,6 @@ Turn-keeps accepts e old new size slot t = elim (Turn-cases accepts e old new t)
 ]
 
 -- ---- fuses are never taken back
-migrated_grows : (old new : FlashState) (fuses : FusesState) → size_of old ≡ 32768 → new.start ≡ old.start → fuses_of (now old) ≡ Ok fuses → fuses.profile ≡ One → AreBytes (now old)
-    → DoesPart (migration fuses) old new → NeverGoesBack old new
-migrated_grows old new fuses size start f one bytes did =
-    let each : (added : List Operation) → IsPart (now old) (migration fuses) added → Holds (now old) fuses (play (now old) added) =
-    λ added part. part_holds (now old) fuses added (length-play old.start old.ops ∙ size) bytes f one part in
-    let at : (n : ℕ) → op_count_of old ≤ n → Holds (now old) fuses (upto new n) = λ n le. at_each (Holds (now old) fuses) (migration fuses) old new start did each n le in
-    record { grows = λ m n low order high. Grows-holds (now old) fuses (upto new m) (upto new n) (at m low) (at n (omega arith)) }
-
-nothing_grows : (old new : FlashState) → size_of old ≡ 32768 → new.start ≡ old.start → DoesPart [] old new → NeverGoesBack old new
-nothing_grows old new size start did = NeverGoesBack-programs 0 0 [] old new size start did tt tt (inr (omega arith))
-
-by_grows : (old new : FlashState) (fuses : FusesState) (p : Profile) → size_of old ≡ 32768 → new.start ≡ old.start → fuses_of (now old) ≡ Ok fuses → fuses.profile ≡ p → AreBytes (now old)
-    → DoesPart (migration_by p fuses) old new → NeverGoesBack old new
-by_grows old new fuses One size start f e bytes did = migrated_grows old new fuses size start f e bytes did
-by_grows old new fuses Two size start f e bytes did = nothing_grows old new size start did
-
-in_grows : (old new : FlashState) (read : Result FusesState FuseFail) → size_of old ≡ 32768 → new.start ≡ old.start → fuses_of (now old) ≡ read → AreBytes (now old)
-    → DoesPart (migration_in read) old new → NeverGoesBack old new
-in_grows old new (Ok fuses) size start f bytes did = by_grows old new fuses fuses.profile size start f refl bytes did
-in_grows old new (Err cause) size start f bytes did = nothing_grows old new size start did
-
-provision_grows : (root : RootSlot) (old new : FlashState) (m n : ℕ) (r : Result ℕ FuseFail) → judge_provision (now old) root m n ≡ r → size_of old ≡ 32768 → new.start ≡ old.start → IsSlot root
-    → DoesPart (operations_in root r) old new → NeverGoesBack old new
-provision_grows root old new m n (Ok number) j size start slot did =
-    let can = judged-ok (now old) root m n number j in
-    let below = can.slot.within in
-    let long = length-slot root slot in
-    NeverGoesBack-programs 0 2048 (provision_plan number root) old new size start did
-    (omega (arith, long, below), (omega (arith, below), tt))
-    (record { low = omega arith; high = omega (arith, long, below) }, (record { low = omega arith; high = omega (arith, below) }, tt))
-    (inr (omega arith))
-provision_grows root old new m n (Err cause) j size start slot did = nothing_grows old new size start did
-
-taken_grows : (accepts : Acceptance) (e : Event) (old new : World) → size_of old.nv ≡ 32768 → AreDevices new → (¬ AreOff old → IsKnownSlot e) → is_idle e (story_of old) ≡ false → Turn accepts e old new
-    → NeverGoesBack old.nv new.nv
-taken_grows accepts event.Power old new size held slot on t =
-    let did = Turn-stored accepts event.Power old new t in
-    let plan : List Operation = migration_in (fuses_of (now old.nv)) in
-    in_grows old.nv new.nv (fuses_of (now old.nv)) size did.start refl (images_then (story_of (begun event.Power old)) new (precedes_moved (begun event.Power old) new (Turn-moved accepts event.Power old new t)) (have_bytes new held) device.Nv) (did_part plan old new did)
-taken_grows accepts (event.Provision root) old new size held slot on t =
-    let did = Turn-stored accepts (event.Provision root) old new t in
-    provision_grows root old.nv new.nv (length old.bmc.start) (length old.pch.start) (judged_here root (story_of old)) refl size did.start
-    (slot (λ (off : AreOff old). false≢true (sym on ∙ off)))
-    (did_part (operations_in root (judged_here root (story_of old))) old new did)
-taken_grows accepts event.Off old new size held slot on t = let did = Turn-stored accepts event.Off old new t in nothing_grows old.nv new.nv size did.start (did_part [] old new did)
-taken_grows accepts (event.Spi b frame) old new size held slot on t = let did = Turn-stored accepts (event.Spi b frame) old new t in nothing_grows old.nv new.nv size did.start (did_part [] old new did)
-taken_grows accepts (event.Smbus b frame) old new size held slot on t = let did = Turn-stored accepts (event.Smbus b frame) old new t in nothing_grows old.nv new.nv size did.start (did_part [] old new did)
-taken_grows accepts (event.Tick n) old new size held slot on t = let did = Turn-stored accepts (event.Tick n) old new t in nothing_grows old.nv new.nv size did.start (did_part [] old new did)
-taken_grows accepts (event.Boot b pass) old new size held slot on t = let did = Turn-stored accepts (event.Boot b pass) old new t in nothing_grows old.nv new.nv size did.start (did_part [] old new did)
-taken_grows accepts (event.Update b intent) old new size held slot on t = let did = Turn-stored accepts (event.Update b intent) old new t in nothing_grows old.nv new.nv size did.start (did_part [] old new did)
-
 -- Fuses are never taken back in a step of devices that hold bytes.
 pub Turn-grows : (accepts : Acceptance) (e : Event) (old new : World) → size_of old.nv ≡ 32768 → AreDevices new → (¬ AreOff old → IsKnownSlot e) → Turn accepts e old new → NeverGoesBack old.nv new.nv
-Turn-grows accepts e old new size held slot t = elim (Turn-cases accepts e old new t) [
-  | inl idle ↦ nothing_grows old.nv new.nv size (Turn-stored accepts e old new t).start (record { added = []; is = ignored_store e old new idle.1 ∙ sym (append-nil old.nv.ops); part = tt })
-  | inr on ↦ taken_grows accepts e old new size held slot on.0 t
-]
+Turn-grows accepts e old new size held slot t = (Turn-grown accepts old new e size held slot t).0

@@ -35,12 +35,14 @@ use Rattle.pfr_fuses.proofs.StaysLemmas.{AreOutside, floor_bits-outside, row_bit
 use Rattle.pfr_jobs.specs.Log.{log_at}
 use Rattle.pfr_jobs.proofs.BeginLaw.{log_low, log_high}
 use Rattle.pfr_report.specs.declared.note.What.TheVariants as what
+use Rattle.pfr_story.specs.JobPlans.{JobNotes}
 use Rattle.pfr_story.specs.Plans.{store, migration_by, migration_in, migrated, provisioned_in, provisioned}
 use Rattle.pfr_story.specs.Safety.{Rule, IsSafe, AllSafe, Keeps}
 use Rattle.pfr_story.specs.Story.{Past, Story, Says, Does, Asks, with_op, operated, image_of, image_at, device_of, called}
 use Rattle.pfr_story.specs.World.{World, story_of}
 use Rattle.pfr_story.proofs.FuseLaws.{part_holds}
 use Rattle.pfr_story.proofs.JobRules.{IsInLog, IsRaise, AllowsJobs}
+use Rattle.pfr_story.proofs.JobWalks.{TellsJobs}
 use Rattle.pfr_story.proofs.SafetyLaws.{AllSafe-append, image_operated, image_did, called_safe}
 use Rattle.pfr_story.proofs.Traces.{Traced, Traced-keeps}
 
@@ -185,6 +187,15 @@ jobs_grow b = record {
   raises = λ op story raise size.
       let at = floor_in_sector b in
       cleared_grown (store story) op (record { low = omega (arith, at.0, raise.within.low); high = omega (arith, at.1, raise.within.high) }) raise.clears size;
+}
+
+pub jobs_grow_told : (b : Bank) (notes : JobNotes) → TellsJobs Growing b notes
+jobs_grow_told b notes = record {
+  resumed = λ kind story. tt;
+  given_up = λ story. tt;
+  restored = λ level story. tt;
+  updated = λ dynamic svn story. tt;
+  recovery_updated = λ svn story. tt;
 }
 
 -- ---- a key is cancelled

@@ -37,10 +37,10 @@ use Rattle.pfr_story.specs.Story.{Story, Says, Does, Asks, noted, operated, coun
 use Rattle.pfr_story.proofs.Carried.{Carrying}
 use Rattle.pfr_story.proofs.JobGrowth.{within_outside, floor_apart, row_apart, row_low, floor_in_sector}
 use Rattle.pfr_story.proofs.JobRules.{IsInLog, IsRaise, AllowsJobs}
-use Rattle.pfr_story.proofs.JobWalks.{TellsJobs}
+use Rattle.pfr_story.proofs.JobWalks.{TellsJobs, AllNotes}
 use Rattle.pfr_story.proofs.SafetyLaws.{image_operated, store_operated}
 use Rattle.pfr_story.proofs.SpanLaws.{Spares, SparesOpen, KeepsSpans, IsSettledWhere, open_none, open_any}
-use Rattle.pfr_story.proofs.SpanSteps.{NotOne, IsIdle, AtWork, spared_at, op_work, still_work}
+use Rattle.pfr_story.proofs.SpanRules.{NotOne, InWork, AtWork, op_safe, op_work, still_work}
 use Rattle.pfr_story.proofs.Traces.{IsStamped}
 
 -- ---- what the trust in an image reads of the store
@@ -127,18 +127,6 @@ store_spared : (which : Bank) (fuses : FusesState) (m : Manifest) (op : Operatio
 store_spared bank.Bmc fuses m op l = l
 store_spared bank.Pch fuses m op l = l
 
--- a store that can be read stays of profile 2
-abbrev pub KeepsTwo : Rule
-KeepsTwo (Says w) story = Unit {0}
-KeepsTwo (Does device.Bmc op) story = Unit {0}
-KeepsTwo (Does device.Pch op) story = Unit {0}
-KeepsTwo (Does device.Nv op) story = NotOne (store story) → NotOne (store (operated device.Nv op story))
-KeepsTwo (Asks at) story = Unit {0}
-
-own_two : (b : Bank) (op : Operation) (story : Story) → KeepsTwo (Does (device_of b) op) story
-own_two bank.Bmc op story = tt
-own_two bank.Pch op story = tt
-
 -- a note that says nothing of this bank's spans
 pub record IsAside (which : Bank) (that : What) : Type 0 where
   pub stamped : (counts : Counts) → IsStamped that counts
@@ -146,26 +134,17 @@ pub record IsAside (which : Bank) (that : What) : Type 0 where
   pub still : (opens : List Counts) → opens_after which that opens ≡ opens
 
 module _ (accepts : Acceptance) (which : Bank) where
-  -- the spans of this bank are kept, and a store that can be read stays of profile 2
-  abbrev pub InJob : Rule
-  InJob = Both (KeepsSpans accepts which) KeepsTwo
-
-  -- bank b is in work, and the store has its size
-  pub record AtJob (b : Bank) (story : Story) : Type 0 where
-    pub work : AtWork accepts which b story
-    pub size : length (store story) ≡ 32768
-
   module _ (b : Bank) where
     -- an operation of the store that leaves the slots and the profile, and what this bank's trust reads where b is another one
     store_kept : (op : Operation) (story : Story) → (length (store story) ≡ 32768 → SameProvision (store story) (applied (store story) op))
-        → (same_bank which b ≡ false → (fuses : FusesState) → LeavesStore fuses which op) → Carrying (AtJob b) InJob (Does device.Nv op) story
+        → (same_bank which b ≡ false → (fuses : FusesState) → LeavesStore fuses which op) → Carrying (AtWork accepts which b) (InWork accepts which) (Does device.Nv op) story
     store_kept op story same leaves at =
         let is : store (operated device.Nv op story) ≡ applied (store story) op = image_operated device.Nv op story in
         let there : SameProvision (store story) (store (operated device.Nv op story)) = subst (λ (image : List ℕ). SameProvision (store story) image) (sym is) (same at.size) in
         let settles : IsSettled (store story) → IsSettled (store (operated device.Nv op story)) = settled_same (store story) (store (operated device.Nv op story)) there in
         (
           (
-            elim at.work.idle [
+            elim at.idle [
               | inl none ↦ open_none (SparesOpen accepts which device.Nv op story) (opens_from which [] story.notes) none
               | inr other ↦ open_any (SparesOpen accepts which device.Nv op story)
                   (λ begin. record { spares = λ t. store_spared which t.fuses t.manifest op (leaves other.0 t.fuses); settled = settles other.1 }) (opens_from which [] story.notes)
@@ -173,40 +152,34 @@ module _ (accepts : Acceptance) (which : Bank) where
             two_same (store story) (store (operated device.Nv op story)) there,
           ),
           record {
-            work = record {
-              idle = elim at.work.idle [ inl none ↦ inl none | inr other ↦ inr (other.0, settles other.1) ];
-              settled = λ own. settles (at.work.settled own);
-            };
+            idle = elim at.idle [ inl none ↦ inl none | inr other ↦ inr (other.0, settles other.1) ];
+            settled = λ own. settles (at.settled own);
             size = ap (λ (image : List ℕ). length image) is ∙ length-applied (store story) op ∙ at.size;
           },
         )
 
     -- All that a job on bank b does is good for the spans of this bank, be it b or the other one.
-    pub jobs_leave : AllowsJobs (Carrying (AtJob b) InJob) b
+    pub jobs_leave : AllowsJobs (Carrying (AtWork accepts which b) (InWork accepts which)) b
     jobs_leave = record {
       asks = λ at story own p. ((tt, tt), p);
-      works = λ op story p. (
-          (spared_at accepts which which b op story p.work.idle, own_two b op story),
-          record { work = op_work accepts which b op story p.work; size = ap (λ (image : List ℕ). length image) (store_operated b op story) ∙ p.size },
-      );
+      works = λ op story p. (op_safe accepts which b op story p, op_work accepts which b op story p);
       logs = λ op story own. store_kept op story (λ size. log_same b (store story) op own size) (λ other fuses. log_leaves b which fuses op own);
       raises = λ op story raise. store_kept op story (λ size. raise_same b (store story) op raise size)
           (λ other fuses. subst (λ (w : Bank). LeavesStore fuses w op) (other_one which b other) (raise_leaves b fuses (store story) op raise));
     }
 
-    aside_told : (that : What) → IsAside which that → (story : Story) → Carrying (AtJob b) InJob (Says (λ _. that)) story
+    pub aside_told : (that : What) → IsAside which that → (story : Story) → Carrying (AtWork accepts which b) (InWork accepts which) (Says (λ _. that)) story
     aside_told that aside story p = (
       ((aside.stamped (counts_of story), aside.settled (store story)), tt),
-      record { work = still_work accepts which b (λ _. that) story aside.still p.work; size = p.size },
+      still_work accepts which b (λ _. that) story aside.still p,
     )
 
-    -- and so is what is told of it, where the notes that are still open are so
-    pub jobs_tell : (notes : JobNotes) → ((kind : JobKind) → IsAside which (notes.resumed kind)) → IsAside which notes.given_up → ((svn : ℕ) → IsAside which (notes.recovery_updated svn))
-        → TellsJobs (Carrying (AtJob b) InJob) b notes
-    jobs_tell notes resumed given_up recovery_updated = record {
-      resumed = λ kind story. aside_told (notes.resumed kind) (resumed kind) story;
-      given_up = λ story. aside_told notes.given_up given_up story;
+    -- and so is what is told of it, where the job's own notes say nothing of the spans
+    pub jobs_tell : (notes : JobNotes) → AllNotes (IsAside which) notes → TellsJobs (Carrying (AtWork accepts which b) (InWork accepts which)) b notes
+    jobs_tell notes aside = record {
+      resumed = λ kind story. aside_told (notes.resumed kind) (aside.resumed kind) story;
+      given_up = λ story. aside_told notes.given_up aside.given_up story;
       restored = λ level story. aside_told (what.Restored b level) (record { stamped = λ counts. tt; settled = λ nv. tt; still = λ opens. refl }) story;
       updated = λ dynamic svn story. aside_told (what.Updated b dynamic svn) (record { stamped = λ counts. tt; settled = λ nv. tt; still = λ opens. refl }) story;
-      recovery_updated = λ svn story. aside_told (notes.recovery_updated svn) (recovery_updated svn) story;
+      recovery_updated = λ svn story. aside_told (notes.recovery_updated svn) (aside.recovery_updated svn) story;
     }

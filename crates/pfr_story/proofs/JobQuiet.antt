@@ -22,7 +22,7 @@ use Rattle.pfr_story.proofs.BringRules.{IsOwn, Making, safe_made}
 use Rattle.pfr_story.proofs.Facts.{IsLoss, IsNoLoss}
 use Rattle.pfr_story.proofs.FilterLaws.{past_noted, past_other}
 use Rattle.pfr_story.proofs.JobRules.{AllInLog, AllowsJobs}
-use Rattle.pfr_story.proofs.JobWalks.{TellsJobs, job_allowed, resumed_allowed}
+use Rattle.pfr_story.proofs.JobWalks.{TellsJobs, AllNotes, job_allowed, resumed_allowed}
 use Rattle.pfr_story.proofs.Made.{Whichever}
 use Rattle.pfr_story.proofs.StepTraces.{LeavesOther}
 use Rattle.pfr_story.proofs.TailLaws.{Apart}
@@ -65,13 +65,7 @@ pub saying_told : (P : What → Type 0) (b : Bank) (notes : JobNotes) → AllTol
 saying_told P b notes all = all_told (Saying (λ that story. P that)) P b notes (λ that story p. p) all
 
 -- ---- no loss is told
--- none of the notes that are still open is a loss
-pub record AreNoLoss (notes : JobNotes) : Type 0 where
-  pub resumed : (kind : JobKind) → ¬ IsLoss (notes.resumed kind)
-  pub given_up : ¬ IsLoss notes.given_up
-  pub recovery_updated : (svn : ℕ) → ¬ IsLoss (notes.recovery_updated svn)
-
-pub quiet_told : (D : Device → Type 0) (b : Bank) (notes : JobNotes) → AreNoLoss notes → TellsJobs (Making D IsNoLoss) b notes
+pub quiet_told : (D : Device → Type 0) (b : Bank) (notes : JobNotes) → AllNotes (λ that. ¬ IsLoss that) notes → TellsJobs (Making D IsNoLoss) b notes
 quiet_told D b notes none = making_told D IsNoLoss b notes (record {
   resumed = λ kind at. none.resumed kind;
   given_up = λ at. none.given_up;
@@ -81,11 +75,6 @@ quiet_told D b notes none = making_told D IsNoLoss b notes (record {
 })
 
 -- ---- nothing that guards the other bank is told
-pub record AreGuardless (b : Bank) (notes : JobNotes) : Type 0 where
-  pub resumed : (kind : JobKind) → LeavesOther b (λ _. notes.resumed kind)
-  pub given_up : LeavesOther b (λ _. notes.given_up)
-  pub recovery_updated : (svn : ℕ) → LeavesOther b (λ _. notes.recovery_updated svn)
-
 restored_leaves : (b : Bank) (level : ℕ) → LeavesOther b (λ _. what.Restored b level)
 restored_leaves bank.Bmc level at guard = refl
 restored_leaves bank.Pch level at guard = refl
@@ -94,7 +83,7 @@ updated_leaves : (b : Bank) (dynamic : Bool) (svn : ℕ) → LeavesOther b (λ _
 updated_leaves bank.Bmc dynamic svn at guard = refl
 updated_leaves bank.Pch dynamic svn at guard = refl
 
-pub guardless_told : (D : Device → Type 0) (b : Bank) (notes : JobNotes) → AreGuardless b notes → TellsJobs (Making D (LeavesOther b)) b notes
+pub guardless_told : (D : Device → Type 0) (b : Bank) (notes : JobNotes) → AllNotes (λ that. LeavesOther b (λ _. that)) notes → TellsJobs (Making D (LeavesOther b)) b notes
 guardless_told D b notes leave = making_told D (LeavesOther b) b notes (record {
   resumed = leave.resumed;
   given_up = leave.given_up;
@@ -104,12 +93,7 @@ guardless_told D b notes leave = making_told D (LeavesOther b) b notes (record {
 })
 
 -- ---- nothing is told of another bank
-pub record AreApart (which : Bank) (notes : JobNotes) : Type 0 where
-  pub resumed : (kind : JobKind) → Apart which (notes.resumed kind)
-  pub given_up : Apart which notes.given_up
-  pub recovery_updated : (svn : ℕ) → Apart which (notes.recovery_updated svn)
-
-pub others_told : (D : Device → Type 0) (which b : Bank) (notes : JobNotes) → ¬ (b ≡ which) → AreApart which notes → TellsJobs (Making D (λ w. (at : Counts) → Apart which (w at))) b notes
+pub others_told : (D : Device → Type 0) (which b : Bank) (notes : JobNotes) → ¬ (b ≡ which) → AllNotes (Apart which) notes → TellsJobs (Making D (λ w. (at : Counts) → Apart which (w at))) b notes
 others_told D which b notes other apart = making_told D (λ w. (at : Counts) → Apart which (w at)) b notes (record {
   resumed = λ kind at. apart.resumed kind;
   given_up = λ at. apart.given_up;

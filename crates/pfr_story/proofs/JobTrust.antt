@@ -5,6 +5,7 @@ use Rattle.pfr_flash.specs.Operation.{Operation, applied}
 use Rattle.pfr_flash.specs.declared.layout.Layout.{Layout}
 use Rattle.pfr_flash.specs.declared.names.Bank.{Bank}
 use Rattle.pfr_flash.specs.declared.names.Bank.TheVariants as bank
+use Rattle.pfr_flash.specs.declared.names.Counts.{Counts}
 use Rattle.pfr_flash.specs.declared.names.Device.TheVariants as device
 use Rattle.pfr_engine.specs.Acceptance.{Acceptance}
 use Rattle.pfr_fuses.specs.FusesState.{FusesState}
@@ -16,12 +17,16 @@ use Rattle.pfr_auth.specs.Leaving.{LeavesStore}
 use Rattle.pfr_auth.specs.Throughout.{IsTrustedBy}
 use Rattle.pfr_auth.proofs.LastingLaw.{trust_lasts}
 use Rattle.pfr_auth.proofs.LeavingLaw.{left_store}
+use Rattle.pfr_report.specs.declared.note.What.{What}
+use Rattle.pfr_report.specs.declared.note.What.TheVariants as what
+use Rattle.pfr_story.specs.JobPlans.{JobNotes}
 use Rattle.pfr_story.specs.Plans.{mine, store}
 use Rattle.pfr_story.specs.Safety.{Rule, Keeps}
 use Rattle.pfr_story.specs.Story.{Story, Says, Does, moved_by, operated, device_of, other_bank}
 use Rattle.pfr_story.proofs.JobLeaves.{log_leaves, raise_leaves}
 use Rattle.pfr_story.proofs.JobRules.{AllowsJobs}
-use Rattle.pfr_story.proofs.SafetyLaws.{image_operated, mine_operated}
+use Rattle.pfr_story.proofs.JobWalks.{TellsJobs}
+use Rattle.pfr_story.proofs.SafetyLaws.{image_noted, image_operated, mine_operated}
 
 abbrev pub IsTrustedNow : Acceptance → Bank → Manifest → Story → Type 0
 IsTrustedNow accepts which m story = IsTrustedBy m (mine which story) (store story) which accepts
@@ -62,4 +67,17 @@ module _ (accepts : Acceptance) (m : Manifest) where
     works = λ op story. own_trust b op story;
     logs = λ op story own. store_trust (other_bank b) op story (λ fuses. log_leaves b (other_bank b) fuses op own);
     raises = λ op story raise. store_trust (other_bank b) op story (λ fuses. raise_leaves b fuses (store story) op raise);
+  }
+
+  -- nor does a note
+  noted_trust : (which : Bank) (w : Counts → What) (story : Story) → KeepsTrust accepts which m (Says w) story
+  noted_trust which w story t = subst (λ (image : List ℕ). IsTrustedBy m image (store story) which accepts) (sym (image_noted (device_of which) w story)) t
+
+  pub jobs_trust_told : (b : Bank) (notes : JobNotes) → TellsJobs (KeepsTrust accepts (other_bank b) m) b notes
+  jobs_trust_told b notes = record {
+    resumed = λ kind story. noted_trust (other_bank b) (λ _. notes.resumed kind) story;
+    given_up = λ story. noted_trust (other_bank b) (λ _. notes.given_up) story;
+    restored = λ level story. noted_trust (other_bank b) (λ _. what.Restored b level) story;
+    updated = λ dynamic svn story. noted_trust (other_bank b) (λ _. what.Updated b dynamic svn) story;
+    recovery_updated = λ svn story. noted_trust (other_bank b) (λ _. notes.recovery_updated svn) story;
   }

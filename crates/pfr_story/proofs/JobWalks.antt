@@ -51,6 +51,12 @@ pub record TellsJobs (G : Rule) (b : Bank) (notes : JobNotes) : Type 0 where
   pub updated : (dynamic : Bool) (svn : ℕ) (story : Story) → G (Says (λ _. Updated b dynamic svn)) story
   pub recovery_updated : (svn : ℕ) (story : Story) → G (Says (λ _. notes.recovery_updated svn)) story
 
+-- each of a job's own notes is so
+pub record AllNotes (P : What → Type 0) (notes : JobNotes) : Type 0 where
+  pub resumed : (kind : JobKind) → P (notes.resumed kind)
+  pub given_up : P notes.given_up
+  pub recovery_updated : (svn : ℕ) → P (notes.recovery_updated svn)
+
 module _ (G : Rule) (b : Bank) (h : AllowsJobs G b) where
   -- ---- each plan of a job, whatever it leads to
   pub begin_allowed : (kind : JobKind) (digest : List ℕ) (story : Story) → AllInLog b (begin_plan (store story) b kind digest) → AllSafe G (begun_job b kind digest story) story

@@ -23,8 +23,9 @@ pub mod BringLaws
 pub mod RecoverableLaws
 pub mod Bytes
 pub mod SpanLaws
-pub mod SpanSteps
+pub mod SpanRules
 pub mod Carried
+pub mod SpanSteps
 pub mod MomentLaws
 pub mod RiseLaws
 pub mod KeepLaws
@@ -33,6 +34,7 @@ pub mod FuseLaws
 pub mod JobGrowth
 pub mod JobLeaves
 pub mod JobTrust
+pub mod JobSpans
 pub mod StoreLaws
 pub mod EventLaws
 pub mod JudgedLaws
@@ -40,8 +42,8 @@ pub mod ProvisionLaws
 pub mod FilterLaws
 pub mod JobQuiet
 pub mod JobFront
-pub mod GrowthLaws
 pub mod GrownSteps
+pub mod GrowthLaws
 pub mod ContentsLaws
 pub mod GuardLaws
 pub mod Endings

@@ -61,11 +61,9 @@ use Rattle.pfr_story.proofs.Rulings.{ruled_leaves}
 use Rattle.pfr_story.proofs.BringRules.{Any, ready_found, Walks, WalksBack, WalksAnew, walk_safe, level_at, expired_safe, updating_safe}
 use Rattle.pfr_story.proofs.FuseLaws.{profile_migrated, profile_kept, provisioned_refused}
 use Rattle.pfr_story.specs.Keeping.{IsSettled}
+use Rattle.pfr_story.proofs.JobWalks.{store_sized}
+use Rattle.pfr_story.proofs.SpanRules.{NotOne, KeepsTwo, InWork, IsIdle, AtWork, opens_told, held_idle, ops_safe, ops_work, still_work}
 use Rattle.pfr_story.proofs.SpanLaws.{past_upto, LeavesBank, IsTrustedAt, AllOpen, open_none, open_any, open_map, opens_push, same_one, longer_upto, IsOpen, Kept, SparesOpen, KeepsSpans, Kept-moves, none_or_settled, settled_running, IsSettledWhere, IsTrustedStill, still_trusted}
-
--- a store that can be read is of profile 2
-abbrev pub NotOne : List ℕ → Type 0
-NotOne nv = (fuses : FusesState) → fuses_of nv ≡ Ok fuses → fuses.profile ≡ Two
 
 settled_two : (nv : List ℕ) → IsSettled nv → NotOne nv
 settled_two nv q fuses f =
@@ -90,14 +88,6 @@ not_one_then : (story : Story) → length story.nv.start ≡ 32768 → NotOne (s
 not_one_then story size =
     subst NotOne (sym (image_called device.Nv (migration_in (fuses_of (store story))) story))
     (not_one_in (store story) (fuses_of (store story)) (length-play story.nv.start story.nv.ops ∙ size) refl)
-
--- no operation of the store
-abbrev pub LeavesNv : Rule
-LeavesNv (Says w) story = Unit {0}
-LeavesNv (Does device.Bmc op) story = Unit {0}
-LeavesNv (Does device.Pch op) story = Unit {0}
-LeavesNv (Does device.Nv op) story = ⊥
-LeavesNv (Asks at) story = Unit {0}
 
 -- what is safe for two rules is for the first
 safe_first : (G H : Rule) (moves : List Move) (story : Story) → AllSafe (Both G H) moves story → AllSafe G moves story
@@ -179,120 +169,58 @@ module _ (accepts : Acceptance) (which : Bank) where
   )
 
   -- ---- a bank is brought up
-  abbrev InWork : Rule
-  InWork = Both (KeepsSpans accepts which) LeavesNv
-
-  -- no span of this bank is open, or another bank is in work and the store is settled
-  abbrev pub IsIdle : Bank → Bank → Story → Type 0
-  IsIdle w b story = (opens_from w [] story.notes ≡ []) ⊎ ((same_bank w b ≡ false) × IsSettled (store story))
-
-  -- Bank b is in work; where it is this bank, the store is settled.
-  pub record AtWork (b : Bank) (story : Story) : Type 0 where
-    pub idle : IsIdle which b story
-    pub settled : same_bank which b ≡ true → IsSettled (store story)
-
-  opens_told : (w : Bank) (that : Counts → What) (story : Story) → opens_from w [] (noted that story).notes ≡ opens_after w (that (counts_of story)) (opens_from w [] story.notes)
-  opens_told w that story = opens_push w [] story.notes (record { item = story.item; what = that (counts_of story) })
-
-  held_aside : (w b : Bank) (story : Story) → same_bank w b ≡ false → (opens_from w [] story.notes ≡ []) ⊎ IsSettled (store story) → IsIdle w b (noted (what.Held b) story)
-  held_aside bank.Bmc bank.Bmc story other p = absurd cc
-  held_aside bank.Bmc bank.Pch story other p = elim p [ inl none ↦ inl (opens_told bank.Bmc (what.Held bank.Pch) story ∙ none) | inr q ↦ inr (refl, q) ]
-  held_aside bank.Pch bank.Bmc story other p = elim p [ inl none ↦ inl (opens_told bank.Pch (what.Held bank.Bmc) story ∙ none) | inr q ↦ inr (refl, q) ]
-  held_aside bank.Pch bank.Pch story other p = absurd cc
-
-  held_idle : (w b : Bank) (story : Story) → (opens_from w [] story.notes ≡ []) ⊎ IsSettled (store story) → IsIdle w b (noted (what.Held b) story)
-  held_idle bank.Bmc bank.Bmc story p = inl (opens_told bank.Bmc (what.Held bank.Bmc) story)
-  held_idle bank.Bmc bank.Pch story p = held_aside bank.Bmc bank.Pch story refl p
-  held_idle bank.Pch bank.Bmc story p = held_aside bank.Pch bank.Bmc story refl p
-  held_idle bank.Pch bank.Pch story p = inl (opens_told bank.Pch (what.Held bank.Pch) story)
-
-  -- an operation of the bank in work
-  pub spared_at : (w b : Bank) (op : Operation) (story : Story) → IsIdle w b story → KeepsSpans accepts w (Does (device_of b) op) story
-  spared_at w b op story (inl e) = open_none (SparesOpen accepts w (device_of b) op story) (opens_from w [] story.notes) e
-  spared_at bank.Bmc bank.Bmc op story (inr other) = absurd (let e = other.0 in cc)
-  spared_at bank.Bmc bank.Pch op story (inr other) = open_any (SparesOpen accepts bank.Bmc device.Pch op story) (λ begin. record { spares = λ t. tt; settled = other.1 }) (opens_from bank.Bmc [] story.notes)
-  spared_at bank.Pch bank.Bmc op story (inr other) = open_any (SparesOpen accepts bank.Pch device.Bmc op story) (λ begin. record { spares = λ t. tt; settled = other.1 }) (opens_from bank.Pch [] story.notes)
-  spared_at bank.Pch bank.Pch op story (inr other) = absurd (let e = other.0 in cc)
-
-  leaves_nv : (b : Bank) (op : Operation) (story : Story) → LeavesNv (Does (device_of b) op) story
-  leaves_nv bank.Bmc op story = tt
-  leaves_nv bank.Pch op story = tt
-
-  op_safe : (b : Bank) (op : Operation) (story : Story) → AtWork b story → InWork (Does (device_of b) op) story
-  op_safe b op story w = (spared_at which b op story w.idle, leaves_nv b op story)
-
-  pub op_work : (b : Bank) (op : Operation) (story : Story) → AtWork b story → AtWork b (operated (device_of b) op story)
-  op_work bank.Bmc op story w = record { idle = w.idle; settled = w.settled }
-  op_work bank.Pch op story w = record { idle = w.idle; settled = w.settled }
-
-  ops_safe : (b : Bank) (ops : List Operation) (story : Story) → AtWork b story → AllSafe InWork (called (device_of b) ops) story
-  ops_safe b [] story w = ((tt, tt), tt)
-  ops_safe b (op ∷ ops) story w = ((op_safe b op story w, λ done t. op_safe b done story w), ops_safe b ops (operated (device_of b) op story) (op_work b op story w))
-
-  ops_work : (b : Bank) (ops : List Operation) (story : Story) → AtWork b story → AtWork b (after (called (device_of b) ops) story)
-  ops_work b [] story w = w
-  ops_work b (op ∷ ops) story w = ops_work b ops (operated (device_of b) op story) (op_work b op story w)
-
-  -- a note that neither opens nor ends a span
-  pub still_work : (b : Bank) (w : Counts → What) (story : Story) → ((opens : List Counts) → opens_after which (w (counts_of story)) opens ≡ opens) → AtWork b story → AtWork b (noted w story)
-  still_work b w story still p =
-      record {
-        idle = elim p.idle [ inl e ↦ inl (opens_told which w story ∙ still (opens_from which [] story.notes) ∙ e) | inr other ↦ inr other ];
-        settled = p.settled;
-      }
-
   module _ (b : Bank) where
     -- a job, and what is noted of it
     job_told : (kind : JobKind) (fuses : FusesState) (capsule : CapsuleState) (that : What) → ((counts : Counts) → IsStamped that counts) → ((nv : List ℕ) → IsSettledWhere which that nv)
-        → ((opens : List Counts) → opens_after which that opens ≡ opens) → Leads InWork (AtWork b) (then (copied b kind fuses capsule) (says (λ _. that))) (AtWork b)
+        → ((opens : List Counts) → opens_after which that opens ≡ opens) → Leads (InWork accepts which) (AtWork accepts which b) (then (copied b kind fuses capsule) (says (λ _. that))) (AtWork accepts which b)
     job_told kind fuses capsule that stamped settled still =
-        Leads-then InWork (AtWork b) (AtWork b) (AtWork b) (copied b kind fuses capsule) (says (λ _. that))
+        Leads-then (InWork accepts which) (AtWork accepts which b) (AtWork accepts which b) (AtWork accepts which b) (copied b kind fuses capsule) (says (λ _. that))
         (record {
-          safe = λ story w. ops_safe b (job_ops kind (mine b story) capsule (layout_of fuses.provision b)) story w;
-          ends = λ story w. ops_work b (job_ops kind (mine b story) capsule (layout_of fuses.provision b)) story w;
+          safe = λ story w. ops_safe accepts which b (job_ops kind (mine b story) capsule (layout_of fuses.provision b)) story w;
+          ends = λ story w. ops_work accepts which b (job_ops kind (mine b story) capsule (layout_of fuses.provision b)) story w;
         })
-        (record { safe = λ story w. (((stamped (counts_of story), settled (store story)), tt), tt); ends = λ story w. still_work b (λ _. that) story still w })
+        (record { safe = λ story w. (((stamped (counts_of story), settled (store story)), tt), tt); ends = λ story w. still_work accepts which b (λ _. that) story still w })
 
-    restored_leads : (level : ℕ) (fuses : FusesState) (capsule : CapsuleState) → Leads InWork (AtWork b) (restored b level fuses capsule) (AtWork b)
+    restored_leads : (level : ℕ) (fuses : FusesState) (capsule : CapsuleState) → Leads (InWork accepts which) (AtWork accepts which b) (restored b level fuses capsule) (AtWork accepts which b)
     restored_leads level fuses capsule = job_told (ActiveFromRecovery level) fuses capsule (what.Restored b level) (λ counts. tt) (λ nv. tt) (λ opens. refl)
 
-    updated_leads : (dynamic : Bool) (fuses : FusesState) (capsule : CapsuleState) → Leads InWork (AtWork b) (updated b dynamic fuses capsule) (AtWork b)
+    updated_leads : (dynamic : Bool) (fuses : FusesState) (capsule : CapsuleState) → Leads (InWork accepts which) (AtWork accepts which b) (updated b dynamic fuses capsule) (AtWork accepts which b)
     updated_leads dynamic fuses capsule = job_told (ActiveFromStaging dynamic) fuses capsule (what.Updated b dynamic capsule.manifest.svn) (λ counts. tt) (λ nv. tt) (λ opens. refl)
 
     -- behind Held
     abbrev IsHeld : Story → Type 0
-    IsHeld story = IsIdle which b story × (same_bank which b ≡ true → NotOne (store story))
+    IsHeld story = IsIdle accepts which which b story × (same_bank which b ≡ true → NotOne (store story)) × (length (store story) ≡ 32768)
 
     abbrev Ready : FusesState → Story → Type 0
-    Ready fuses story = AtWork b story
+    Ready fuses story = AtWork accepts which b story
 
     abbrev Told : FusesState → ActiveFail → Story → Type 0
-    Told fuses cause story = AtWork b story
+    Told fuses cause story = AtWork accepts which b story
 
-    span_walks : Walks InWork accepts b IsHeld Ready Told Ready
+    span_walks : Walks (InWork accepts which) accepts b IsHeld Ready Told Ready
     span_walks = record {
       asks = λ at story own. (tt, tt);
       ready = λ fuses story q e.
-          let f = (ready_found b fuses story e).provisioned in record { idle = q.0; settled = λ same. record { fuses = fuses; provisioned = f; two = q.1 same fuses f } };
+          let f = (ready_found b fuses story e).provisioned in record { idle = q.0; settled = λ same. record { fuses = fuses; provisioned = f; two = q.1 same fuses f }; size = q.2 };
       unready = λ cause story q e. ((refl, tt), tt);
       released = λ fuses m story w j. ((refl, w.settled), tt);
-      untrusted = λ fuses cause story w j. (((tt, tt), tt), still_work b (λ _. what.Untrusted b cause) story (λ opens. refl) w);
+      untrusted = λ fuses cause story w j. (((tt, tt), tt), still_work accepts which b (λ _. what.Untrusted b cause) story (λ opens. refl) w);
       no_image = λ fuses cause other story w j. ((refl, tt), tt);
       restores = λ fuses cause capsule story w j. ((restored_leads 1 fuses capsule).safe story w, (restored_leads 1 fuses capsule).ends story w);
       again = λ fuses m story w j. ((refl, w.settled), tt);
     }
 
-    span_back : (level : ℕ) → WalksBack InWork accepts b level IsHeld Ready Ready
+    span_back : (level : ℕ) → WalksBack (InWork accepts which) accepts b level IsHeld Ready Ready
     span_back level = record {
       spent = λ story few q. ((refl, tt), tt);
       no_recovery = λ fuses cause story few w j. ((refl, tt), tt);
       restores = λ fuses capsule story few w j. ((restored_leads level fuses capsule).safe story w, (restored_leads level fuses capsule).ends story w);
     }
 
-    span_anew : (dynamic : Bool) → WalksAnew InWork accepts b dynamic Ready Ready
+    span_anew : (dynamic : Bool) → WalksAnew (InWork accepts which) accepts b dynamic Ready Ready
     span_anew dynamic = record {
       staged = λ fuses capsule story w j. ((updated_leads dynamic fuses capsule).safe story w, (updated_leads dynamic fuses capsule).ends story w);
-      refused = λ fuses cause story w j. (((tt, tt), tt), still_work b (λ _. what.Refused b (refusing.Capsule cause)) story (λ opens. refl) w);
+      refused = λ fuses cause story w j. (((tt, tt), tt), still_work accepts which b (λ _. what.Refused b (refusing.Capsule cause)) story (λ opens. refl) w);
     }
 
     -- No span of this bank is open, or the store is settled, before bank b is held; where b is this bank, a store that can be read is
@@ -300,28 +228,30 @@ module _ (accepts : Acceptance) (which : Bank) where
     record CanBegin (story : Story) : Type 0 where
       pub none : (opens_from which [] story.notes ≡ []) ⊎ IsSettled (store story)
       pub two : same_bank which b ≡ true → NotOne (store story)
+      pub size : length (store story) ≡ 32768
 
     begin_held : (story : Story) → CanBegin story → IsHeld (noted (what.Held b) story)
-    begin_held story c = (held_idle which b story c.none, c.two)
+    begin_held story c = (held_idle accepts which which b story c.none, c.two, c.size)
 
-    brought_safe : (story : Story) → CanBegin story → AllSafe InWork (brought_up accepts b story) story
-    brought_safe story c = walk_safe InWork accepts b IsHeld Ready Told Ready span_walks story ((refl, tt), tt) (begin_held story c)
+    brought_safe : (story : Story) → CanBegin story → AllSafe (InWork accepts which) (brought_up accepts b story) story
+    brought_safe story c = walk_safe (InWork accepts which) accepts b IsHeld Ready Told Ready span_walks story ((refl, tt), tt) (begin_held story c)
 
     begin_told : (that : What) (story : Story) → ((opens : List Counts) → opens_after which that opens ≡ opens) → CanBegin story → CanBegin (noted (λ _. that) story)
     begin_told that story still c = record {
-      none = elim c.none [ inl e ↦ inl (opens_told which (λ _. that) story ∙ still (opens_from which [] story.notes) ∙ e) | inr q ↦ inr q ];
+      none = elim c.none [ inl e ↦ inl (opens_told accepts which which (λ _. that) story ∙ still (opens_from which [] story.notes) ∙ e) | inr q ↦ inr q ];
       two = c.two;
+      size = c.size;
     }
 
-    expired_kept : (story : Story) → CanBegin story → AllSafe InWork (expired accepts b story) story
+    expired_kept : (story : Story) → CanBegin story → AllSafe (InWork accepts which) (expired accepts b story) story
     expired_kept story c =
         let told : Story = noted (λ _. what.Expired b (level_at b story)) story in
-        expired_safe InWork accepts b IsHeld Ready Told Ready span_walks story (span_back (level_at b story)) ((tt, tt), tt) ((refl, tt), tt)
+        expired_safe (InWork accepts which) accepts b IsHeld Ready Told Ready span_walks story (span_back (level_at b story)) ((tt, tt), tt) ((refl, tt), tt)
         (begin_held told (begin_told (what.Expired b (level_at b story)) story (λ opens. refl) c))
 
-    updating_kept : (intent : Intent) (story : Story) → CanBegin story → AllSafe InWork (updating accepts b intent story) story
+    updating_kept : (intent : Intent) (story : Story) → CanBegin story → AllSafe (InWork accepts which) (updating accepts b intent story) story
     updating_kept intent story c =
-        updating_safe InWork accepts b IsHeld Ready Told Ready span_walks intent story (span_anew (is_dynamic intent)) ((refl, tt), tt) (begin_held story c)
+        updating_safe (InWork accepts which) accepts b IsHeld Ready Told Ready span_walks intent story (span_anew (is_dynamic intent)) ((refl, tt), tt) (begin_held story c)
 
   -- ---- a frame on the SPI bus of a bank
   -- what passes on the bank's own bus is judged by what each open span that began with trust is trusted by
@@ -341,22 +271,22 @@ module _ (accepts : Acceptance) (which : Bank) where
             (subst (λ (layout : Layout). All (LeavesTrusted now.trusted.manifest layout) (bus_ops op)) now.layout (ruled_leaves accepts which story frame r op found passed now.trusted));
       }
 
-  frame_safe : (b : Bank) (frame : List ℕ) (r : Ruling) (op : BusOp) (story : Story) → Kept accepts which story → ruling accepts b story ≡ Some r → ruled b frame r story ≡ Pass op
+  frame_safe : (b : Bank) (frame : List ℕ) (r : Ruling) (op : BusOp) (story : Story) → Kept accepts which story → length (store story) ≡ 32768 → ruling accepts b story ≡ Some r → ruled b frame r story ≡ Pass op
       → (same : Bool) → same_bank which b ≡ same → AllSafe (KeepsSpans accepts which) (called (device_of b) (bus_ops op)) story
-  frame_safe b frame r op story k found passed true e =
+  frame_safe b frame r op story k size found passed true e =
       let is : b ≡ which = same_one which b e in
       let leaves = open_map _ _ (ruled_open frame r op story (subst (λ (x : Bank). ruling accepts x story ≡ Some r) is found) (subst (λ (x : Bank). ruled x frame r story ≡ Pass op) is passed))
       (opens_from which [] story.notes) k.opened in
       subst (λ (x : Bank). AllSafe (KeepsSpans accepts which) (called (device_of x) (bus_ops op)) story) (sym is) (own_safe accepts which (bus_ops op) story leaves)
-  frame_safe b frame r op story k found passed false e = elim (none_or_settled accepts which story k) [
+  frame_safe b frame r op story k size found passed false e = elim (none_or_settled accepts which story k) [
     | inl none ↦ idle_safe (device_of b) (bus_ops op) story none
-    | inr q ↦ safe_first (KeepsSpans accepts which) LeavesNv (called (device_of b) (bus_ops op)) story (ops_safe b (bus_ops op) story (record { idle = inr (e, q); settled = λ same. q }))
+    | inr q ↦ safe_first (KeepsSpans accepts which) KeepsTwo (called (device_of b) (bus_ops op)) story (ops_safe accepts which b (bus_ops op) story (record { idle = inr (e, q); settled = λ same. q; size = size }))
   ]
 
-  passing_safe : (b : Bank) (frame : List ℕ) (story : Story) → Kept accepts which story → AllSafe (KeepsSpans accepts which) (filtered accepts b frame story) story
-  passing_safe b frame story k = filtered_safe (KeepsSpans accepts which) accepts b frame story (record {
+  passing_safe : (b : Bank) (frame : List ℕ) (story : Story) → Kept accepts which story → length (store story) ≡ 32768 → AllSafe (KeepsSpans accepts which) (filtered accepts b frame story) story
+  passing_safe b frame story k size = filtered_safe (KeepsSpans accepts which) accepts b frame story (record {
     blocked = λ cause. (tt, tt);
-    calls = λ r op found passed. calls_safe (KeepsSpans accepts which) b op story (frame_safe b frame r op story k found passed (same_bank which b) refl);
+    calls = λ r op found passed. calls_safe (KeepsSpans accepts which) b op story (frame_safe b frame r op story k size found passed (same_bank which b) refl);
     passed = λ r op found passed. (tt, tt);
   })
 
@@ -370,15 +300,20 @@ module _ (accepts : Acceptance) (which : Bank) where
   record Late (R : Type 0) (story : Story) : Type 0 where
     pub kept : Kept accepts which story
     pub two : R → NotOne (store story)
+    pub size : length (store story) ≡ 32768
 
   can_begin : (R : Type 0) (b : Bank) (story : Story) → (same_bank which b ≡ true → R) → Late R story → CanBegin b story
-  can_begin R b story f p = record { none = none_or_settled accepts which story p.kept; two = λ same. p.two (f same) }
+  can_begin R b story f p = record { none = none_or_settled accepts which story p.kept; two = λ same. p.two (f same); size = p.size }
 
-  late_moves : (R : Type 0) → Keeps InWork (Late R)
-  late_moves R (Says w) story g p = record { kept = Kept-moves accepts which (Says w) story g.0 p.kept; two = p.two }
-  late_moves R (Does device.Bmc op) story g p = record { kept = Kept-moves accepts which (Does device.Bmc op) story g.0 p.kept; two = p.two }
-  late_moves R (Does device.Pch op) story g p = record { kept = Kept-moves accepts which (Does device.Pch op) story g.0 p.kept; two = p.two }
-  late_moves R (Does device.Nv op) story g p = absurd g.1
+  late_moves : (R : Type 0) → Keeps (InWork accepts which) (Late R)
+  late_moves R (Says w) story g p = record { kept = Kept-moves accepts which (Says w) story g.0 p.kept; two = p.two; size = p.size }
+  late_moves R (Does device.Bmc op) story g p = record { kept = Kept-moves accepts which (Does device.Bmc op) story g.0 p.kept; two = p.two; size = p.size }
+  late_moves R (Does device.Pch op) story g p = record { kept = Kept-moves accepts which (Does device.Pch op) story g.0 p.kept; two = p.two; size = p.size }
+  late_moves R (Does device.Nv op) story g p = record {
+    kept = Kept-moves accepts which (Does device.Nv op) story g.0 p.kept;
+    two = λ r. g.1 (p.two r);
+    size = store_sized (Does device.Nv op ∷ []) story ∙ p.size;
+  }
   late_moves R (Asks at) story g p = p
 
   module _ (first last : World) where
@@ -386,16 +321,16 @@ module _ (accepts : Acceptance) (which : Bank) where
     abbrev locking : Bank → Plan → Bool → Stretch
     locking b plan on = record { plan = plan; on_fault = λ device. Says (what.Locked b (fault_of device)) ∷ []; goes_on = on }
 
-    work_kept : (R : Type 0) (b : Bank) (plan : Plan) (on : Bool) → ((story : Story) → Late R story → AllSafe InWork (plan story) story)
+    work_kept : (R : Type 0) (b : Bank) (plan : Plan) (on : Bool) → ((story : Story) → Late R story → AllSafe (InWork accepts which) (plan story) story)
         → IsGoodStretch (KeepsSpans accepts which) first last Any (Late R) (locking b plan on) (Late R)
     work_kept R b plan on work = record {
       plan = record {
-        safe = λ story p. safe_first (KeepsSpans accepts which) LeavesNv (plan story) story (work story p.1);
-        ends = λ story p. kept_by InWork (Late R) (late_moves R) (plan story) story (safe_whole InWork (plan story) story (work story p.1)) p.1;
+        safe = λ story p. safe_first (KeepsSpans accepts which) KeepsTwo (plan story) story (work story p.1);
+        ends = λ story p. kept_by (InWork accepts which) (Late R) (late_moves R) (plan story) story (safe_whole (InWork accepts which) (plan story) story (work story p.1)) p.1;
       };
       noted = λ at story trace p cut rose. ((refl, tt), tt);
       on = λ at story trace p cut e.
-          let there = kept_by InWork (Late R) (late_moves R) trace story (safe_cut InWork at (plan story) trace story (work story p.1) cut) p.1 in
+          let there = kept_by (InWork accepts which) (Late R) (late_moves R) trace story (safe_cut (InWork accepts which) at (plan story) trace story (work story p.1) cut) p.1 in
           late_moves R (Says (what.Locked b (fault_of at))) (after trace story) ((refl, tt), tt) there;
     }
 
@@ -427,6 +362,7 @@ module _ (accepts : Acceptance) (which : Bank) where
           kept = kept_by (KeepsSpans accepts which) (Kept accepts which) (Kept-moves accepts which) (migrated story) story
               (safe_whole (KeepsSpans accepts which) (migrated story) story (migrated_safe story p.1.kept)) p.1.kept;
           two = λ any. not_one_then story p.1.size;
+          size = store_sized (migrated story) story ∙ length-play story.nv.start story.nv.ops ∙ p.1.size;
         };
       };
       noted = λ at story trace p cut rose. ((refl, tt), ((refl, tt), ((refl, tt), ((refl, tt), tt))));
@@ -459,7 +395,7 @@ module _ (accepts : Acceptance) (which : Bank) where
 
     spi_kept : (b : Bank) (frame : List ℕ) → IsGoodStretch (KeepsSpans accepts which) first last Any Early (spi_stretch accepts b frame) Any
     spi_kept b frame = record {
-      plan = record { safe = λ story p. passing_safe b frame story p.1.kept; ends = λ story p. tt };
+      plan = record { safe = λ story p. passing_safe b frame story p.1.kept (length-play story.nv.start story.nv.ops ∙ p.1.size); ends = λ story p. tt };
       noted = λ at story trace p cut rose. ((refl, tt), ((refl, tt), tt));
       on = λ at story trace p cut e. tt;
     }
@@ -494,7 +430,7 @@ module _ (accepts : Acceptance) (which : Bank) where
     RunsAtFirst = standing_of which old.notes.list ≡ Running
 
     late_first : Early (story_of first) → Late RunsAtFirst (story_of first)
-    late_first p = record { kept = p.kept; two = λ runs. settled_two (store (story_of first)) (settled_running accepts which (story_of first) p.kept runs) }
+    late_first p = record { kept = p.kept; two = λ runs. settled_two (store (story_of first)) (settled_running accepts which (story_of first) p.kept runs); size = length-play (story_of first).nv.start (story_of first).nv.ops ∙ p.size }
 
     runs_same : (b : Bank) → standing_of b old.notes.list ≡ Running → same_bank which b ≡ true → RunsAtFirst
     runs_same b runs same = subst (λ (x : Bank). standing_of x old.notes.list ≡ Running) (same_one which b same) runs
