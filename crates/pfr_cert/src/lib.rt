@@ -9,4 +9,4 @@ mod reading;
 pub use applying::apply_cert;
 pub use cert::Cert;
 pub use fail::CertFail;
-pub use reading::read_cert;
+pub use reading::{cancelling, read_cert};

@@ -44,7 +44,7 @@ fn wanted(bank: Bank, named: Option<ContentType>) -> ContentType
     }
 }
 
-/// The type of the certificates that cancel a key of a signing type.
+/// The type of the certificates that cancel a key of a signing type; another type as it is.
 pub fn cancelling(ty: ContentType) -> ContentType
     ensures { result ≡ cancelling ty }
 {

@@ -1,12 +1,12 @@
 // Certificates, which cancel keys.
 ghost use Rattle.std.specs.Prelude.{◌≡◌, vec_len, IfOk};
 ghost use Rattle.pfr_fuses.specs.FuseMap.{IsSigning};
-ghost use Rattle.pfr_cert.specs.Certificate.{cancelling};
 ghost use Rattle.pfr_made.specs.Certificates.{certificate_body, certificate_bytes, certificate_row};
 ghost use Rattle.pfr_made.specs.Trust.{IsWorthyCert};
 
 use crate::block::sign_by_root;
 use crate::writing::{pad, push_number};
+use pfr_cert::cancelling;
 use pfr_description::Description;
 use pfr_flash::{Bytes, ContentType, NoMemory};
 use std::alloc::Global;
@@ -18,20 +18,6 @@ const BODY: usize = 128;
 pub struct MadeCert {
     pub cert: Bytes,
     pub rows: Bytes,
-}
-
-// the type of the certificates that cancel a key of the type
-fn cancelling(ty: ContentType) -> ContentType
-    requires { IsSigning ty }
-    ensures { result ≡ cancelling ty }
-{
-    match ty {
-        ContentType::PchManifest => ContentType::PchManifestCancel,
-        ContentType::PchCapsule => ContentType::PchCapsuleCancel,
-        ContentType::BmcManifest => ContentType::BmcManifestCancel,
-        ContentType::BmcCapsule => ContentType::BmcCapsuleCancel,
-        _ => unreachable!(),
-    }
 }
 
 #[tactic(auto, unfolding(pfr_made::specs::Certificates::certificate_body))]
