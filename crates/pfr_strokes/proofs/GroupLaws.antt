@@ -1,0 +1,132 @@
+-- The pages of groups: lists of pages that pass tests.
+use Rattle.std.proofs.Common.{◌≡◌, ◌∙◌, ℕ, zero, suc, ◌+◌, ◌-◌, ◌*◌, ◌/◌, ◌≤◌, ◌<◌, ◌&&◌, Bool, true, false, not, min, if◌then◌else◌, refl, sym, ap, subst, arith, List, [], ◌∷◌, ◌++◌, append_assoc, filter, ◌⊎◌, inl, inr}
+use Rattle.std.proofs.lemmas.List.{append-nil}
+use Rattle.std.proofs.lemmas.Bool.{cases_lt}
+use Rattle.std.proofs.Math.Nat.{div-lt_iff_lt-mul}
+use Rattle.pfr_strokes.specs.Replaced.{pages_below, pages_between}
+use Rattle.pfr_strokes.specs.Deeds.{Deed}
+use Rattle.pfr_strokes.proofs.PassLaws.{AllOf, AllBefore, AllFrom}
+
+-- ---- pages below a number, and behind it
+pub below_between : (test : ℕ → Bool) (from k : ℕ) → pages_below test (from + k) ≡ pages_below test from ++ pages_between test from k
+unfolding pages_below pages_between
+below_between test from zero = let e : from + zero ≡ from = omega arith in ap (λ (n : ℕ). pages_below test n) e ∙ sym (append-nil (pages_below test from))
+below_between test from (suc k) =
+    let e : from + suc k ≡ suc (from + k) = omega arith in
+    ap (λ (n : ℕ). pages_below test n) e
+    ∙ ap (λ (pages : List ℕ). pages ++ (if test (from + k) then (from + k) ∷ [] else [])) (below_between test from k)
+    ∙ append_assoc (pages_below test from) (pages_between test from k) (if test (from + k) then (from + k) ∷ [] else [])
+
+pub none_below : (test : ℕ → Bool) → pages_below test 0 ≡ []
+unfolding pages_below
+none_below test = refl
+
+-- all pages are those from 0 on
+pub between_all : (test : ℕ → Bool) (n : ℕ) → pages_between test 0 n ≡ pages_below test n
+between_all test n = ap (λ (pages : List ℕ). pages ++ pages_between test 0 n) (sym (none_below test)) ∙ sym (below_between test 0 n) ∙ (let e : 0 + n ≡ n = omega arith in ap (λ (k : ℕ). pages_below test k) e)
+
+pub same_between : (p q : ℕ → Bool) (from k : ℕ) → ((j : ℕ) → j < k → p (from + j) ≡ q (from + j)) → pages_between p from k ≡ pages_between q from k
+unfolding pages_between
+same_between p q from zero same = refl
+same_between p q from (suc k) same =
+    ap (λ (pages : List ℕ). pages ++ (if p (from + k) then (from + k) ∷ [] else [])) (same_between p q from k (λ j h. same j (omega (arith, h))))
+    ∙ ap (λ (b : Bool). pages_between q from k ++ (if b then (from + k) ∷ [] else [])) (same k (omega arith))
+
+pub none_between : (p : ℕ → Bool) (from k : ℕ) → ((j : ℕ) → j < k → p (from + j) ≡ false) → pages_between p from k ≡ []
+unfolding pages_between
+none_between p from zero none = refl
+none_between p from (suc k) none =
+    ap (λ (pages : List ℕ). pages ++ (if p (from + k) then (from + k) ∷ [] else [])) (none_between p from k (λ j h. none j (omega (arith, h))))
+    ∙ ap (λ (b : Bool). if b then (from + k) ∷ [] else []) (none k (omega arith))
+
+-- ---- those that pass another test too
+filter_two : (q : ℕ → Bool) (xs ys : List ℕ) → filter q (xs ++ ys) ≡ filter q xs ++ filter q ys
+filter_two q [] ys = refl
+filter_two q (x ∷ xs) ys = by_test (q x) (filter_two q xs ys)
+  where
+    by_test : (b : Bool) → filter q (xs ++ ys) ≡ filter q xs ++ filter q ys → (if b then x ∷ filter q (xs ++ ys) else filter q (xs ++ ys)) ≡ (if b then x ∷ filter q xs else filter q xs) ++ filter q ys
+    by_test true rest = ap (λ (zs : List ℕ). x ∷ zs) rest
+    by_test false rest = rest
+
+pub filter_below : (test q : ℕ → Bool) (n : ℕ) → filter q (pages_below test n) ≡ pages_below (λ (page : ℕ). test page && q page) n
+unfolding pages_below
+filter_below test q zero = refl
+filter_below test q (suc n) =
+    filter_two q (pages_below test n) (if test n then n ∷ [] else [])
+    ∙ ap (λ (pages : List ℕ). pages ++ filter q (if test n then n ∷ [] else [])) (filter_below test q n)
+    ∙ ap (λ (pages : List ℕ). pages_below (λ (page : ℕ). test page && q page) n ++ pages) (by_test (test n) (q n))
+  where
+    one : (c : Bool) → q n ≡ c → filter q (n ∷ []) ≡ (if c then n ∷ [] else [])
+    one c e = ap (λ (b : Bool). if b then n ∷ [] else []) e
+
+    by_test : (b c : Bool) → filter q (if b then n ∷ [] else []) ≡ (if b && q n then n ∷ [] else [])
+    by_test true c = one (q n) refl
+    by_test false c = refl
+
+-- ---- pages of groups
+module _ (content : ℕ → List ℕ) (group : ℕ) (mark : ℕ → List Deed) where
+  before_two : (number : ℕ) (xs ys : List ℕ) → AllBefore group number xs → AllBefore group number ys → AllBefore group number (xs ++ ys)
+  before_two number [] ys h k = k
+  before_two number (x ∷ xs) ys h k = (h.0, before_two number xs ys h.1 k)
+
+  of_two : (number : ℕ) (xs ys : List ℕ) → AllOf content group mark number xs → AllOf content group mark number ys → AllOf content group mark number (xs ++ ys)
+  of_two number [] ys h k = k
+  of_two number (x ∷ xs) ys h k = (h.0, of_two number xs ys h.1 k)
+
+  pub before_below : (test : ℕ → Bool) (number n : ℕ) → ((j : ℕ) → j < n → j / group < number) → AllBefore group number (pages_below test n)
+  unfolding pages_below
+  before_below test number zero each = tt
+  before_below test number (suc n) each =
+      before_two number (pages_below test n) (if test n then n ∷ [] else []) (before_below test number n (λ j h. each j (omega (arith, h)))) (by_test (test n))
+    where
+      by_test : (b : Bool) → AllBefore group number (if b then n ∷ [] else [])
+      by_test true = (each n (omega arith), tt)
+      by_test false = tt
+
+  pub of_between : (test : ℕ → Bool) (number from k : ℕ) → ((j : ℕ) → j < k → (from + j) / group ≡ number) → AllOf content group mark number (pages_between test from k)
+  unfolding pages_between
+  of_between test number from zero each = tt
+  of_between test number from (suc k) each =
+      of_two number (pages_between test from k) (if test (from + k) then (from + k) ∷ [] else []) (of_between test number from k (λ j h. each j (omega (arith, h)))) (by_test (test (from + k)))
+    where
+      by_test : (b : Bool) → AllOf content group mark number (if b then (from + k) ∷ [] else [])
+      by_test true = (each k (omega arith), tt)
+      by_test false = tt
+
+  pub from_of : (number : ℕ) (pages : List ℕ) → AllOf content group mark number pages → AllFrom group number pages
+  from_of number [] all = tt
+  from_of number (page ∷ pages) all = (omega (arith, all.0), from_of number pages all.1)
+
+-- ---- where the groups of so many pages begin
+-- the group of this number begins here, where there are so many pages
+abbrev pub group_at : ℕ → ℕ → ℕ → ℕ
+group_at group all number = min (number * group) all
+
+module _ (group all number : ℕ) (some : 0 < group) where
+  times_more : suc number * group ≡ number * group + group
+  times_more = omega arith
+
+  pub group_next : group_at group all (suc number) ≡ group_at group all number + (min (group_at group all number + group) all - group_at group all number)
+  group_next = by_product (number * group) (suc number * group) times_more
+    where
+      by_product : (m n : ℕ) → n ≡ m + group → min n all ≡ min m all + (min (min m all + group) all - min m all)
+      by_product m n e = omega (arith, e)
+
+  -- the pages before it are of groups below
+  pub below_group : (j : ℕ) → j < group_at group all number → j / group < number
+  below_group j h = (div-lt_iff_lt-mul some).1 (by_product (number * group) h)
+    where
+      by_product : (m : ℕ) → j < min m all → j < m
+      by_product m h = omega (arith, h)
+
+  -- those behind are of this one
+  pub in_group : (j : ℕ) → j < min (group_at group all number + group) all - group_at group all number → (group_at group all number + j) / group ≡ number
+  in_group j h = by_product (number * group) refl (cases_lt ((group_at group all number + j) / group) number)
+    where
+      by_product : (m : ℕ) → m ≡ number * group → (((group_at group all number + j) / group < number) ⊎ (number ≤ (group_at group all number + j) / group)) → (group_at group all number + j) / group ≡ number
+      by_product m is (inl less) =
+          let low : group_at group all number + j < number * group = (div-lt_iff_lt-mul some).0 less in
+          absurd (omega (arith, low, h))
+      by_product m is (inr more) =
+          let high : (group_at group all number + j) / group < suc number = (div-lt_iff_lt-mul some).1 (omega (arith, h, times_more)) in
+          omega (arith, high, more)
