@@ -3,3 +3,4 @@ pub mod ContentsLemmas
 pub mod PlanLemmas
 pub mod SourcesLaw
 pub mod JudgedLaw
+pub mod JobLaw

@@ -1,57 +1,33 @@
 // A capsule is applied to a bank's active image.
-ghost use Rattle.std.specs.Prelude.{◌≡◌, ◌*◌, ◌<◌, OnOk};
+ghost use Rattle.std.specs.Prelude.{◌≡◌, OnOk};
 ghost use Rattle.pfr_flash.specs.FlashState.{now, size_of};
 ghost use Rattle.pfr_flash.specs.Layout.{IsBankSize};
 ghost use Rattle.pfr_flash.specs.Plan.{Follows};
-ghost use Rattle.pfr_copy.specs.Applying.{CanApply, IsActive, page_plan};
-ghost use Rattle.pfr_rebuilt.specs.ActiveCopying.{active_page, active_pages, active_rebuilt, is_active_page};
+ghost use Rattle.pfr_copy.specs.Applying.{CanApply, IsActive};
+ghost use Rattle.pfr_copy.specs.Working.{CanDo, job_page, job_pages};
+ghost use Rattle.pfr_rebuilt.specs.ActiveCopying.{active_page, active_pages, active_rebuilt};
 ghost use Rattle.pfr_strokes.specs.Strokes.{strokes_of};
 
-use crate::contents::new_page;
+use crate::pages::replace_pages;
 use crate::taking::PAGE;
 use pfr_bank::Held;
 use pfr_capsule::Capsule;
 use pfr_flash::{Flash, FlashFail, Layout};
 use pfr_jobs::JobKind;
-use pfr_strokes::write_page;
 
-// Writes page `n`, where the job writes it.
-fn replace_page<F: Flash>(
-    flash: &mut F,
-    capsule: &Capsule,
-    layout: &Layout,
-    kind: JobKind,
-    n: u32,
-) -> Result<(), FlashFail>
-    requires size { IsBankSize (size_of (F.device flash.old)) }
-    requires can { CanApply (now (F.device flash.old)) layout.now capsule.now }
-    requires kind { IsActive kind }
-    requires page { 4096 * n < size_of (F.device flash.old) }
-    ensures { let image = now (F.device flash.old) in
-        Follows (page_plan (active_page image capsule.now layout.now) (is_active_page kind image capsule.now layout.now) n) (F.device flash.old) (F.device flash.new) result }
-{
-    match new_page(flash, capsule, layout, kind, n)? {
-        Some(bytes) => write_page(flash, n, &bytes),
-        None => Ok(()),
-    }
-}
-
-// Writes the job's pages, from the first on.
-fn replace_pages<F: Flash>(
+// Writes all pages of the job, in rising order.
+fn replace_all<F: Flash>(
     flash: &mut F,
     capsule: &Capsule,
     layout: &Layout,
     kind: JobKind,
 ) -> Result<(), FlashFail>
     requires size { IsBankSize (size_of (F.device flash.old)) }
-    requires can { CanApply (now (F.device flash.old)) layout.now capsule.now }
-    requires kind { IsActive kind }
+    requires can { CanDo kind (now (F.device flash.old)) layout.now capsule.now }
     ensures { let image = now (F.device flash.old) in
-        Follows (strokes_of (active_page image capsule.now layout.now) (active_pages kind image capsule.now layout.now)) (F.device flash.old) (F.device flash.new) result }
+        Follows (strokes_of (job_page kind image capsule.now layout.now) (job_pages kind image capsule.now layout.now)) (F.device flash.old) (F.device flash.new) result }
 {
-    for n in 0..flash.size() / PAGE {
-        replace_page(flash, capsule, layout, kind, n)?;
-    }
+    replace_pages(flash, capsule, layout, kind, 0, flash.size() / PAGE)?;
     Ok(())
 }
 
@@ -66,7 +42,7 @@ fn replace_pages<F: Flash>(
 ///
 /// At the first call of the flash that fails it ends, with that call's cause: then the pages before were written, and the last
 /// one may be torn.
-pub fn apply<F: Flash>(
+pub fn apply_unlogged<F: Flash>(
     held: &mut Held<F>,
     capsule: &Capsule,
     layout: &Layout,
@@ -82,5 +58,5 @@ pub fn apply<F: Flash>(
     ensures rebuilt { OnOk result (now (F.device held.new.flash) ≡ active_rebuilt kind (now (F.device held.old.flash)) capsule.now layout.now) }
     ensures bank { held.new.bank ≡ held.old.bank }
 {
-    replace_pages(held.flash(), capsule, layout, kind)
+    replace_all(held.flash(), capsule, layout, kind)
 }

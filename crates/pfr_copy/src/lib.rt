@@ -1,8 +1,9 @@
-//! A capsule is applied to a bank's active image, page by page.
+//! A capsule is applied to a bank's active image, or copied to its recovery area, page by page.
 #![tactic(auto)]
 
 mod applying;
 mod contents;
+mod pages;
 mod taking;
 
-pub use applying::apply;
+pub use applying::apply_unlogged;

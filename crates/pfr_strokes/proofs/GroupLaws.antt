@@ -5,6 +5,7 @@ use Rattle.std.proofs.lemmas.Bool.{cases_lt}
 use Rattle.std.proofs.Math.Nat.{div-lt_iff_lt-mul}
 use Rattle.pfr_strokes.specs.Replaced.{pages_below, pages_between}
 use Rattle.pfr_strokes.specs.Deeds.{Deed}
+use Rattle.pfr_strokes.proofs.ReplacedLaws.{IsOneOf, pages_are}
 use Rattle.pfr_strokes.proofs.PassLaws.{AllOf, AllBefore, AllFrom}
 
 -- ---- pages below a number, and behind it
@@ -38,6 +39,14 @@ none_between p from zero none = refl
 none_between p from (suc k) none =
     ap (λ (pages : List ℕ). pages ++ (if p (from + k) then (from + k) ∷ [] else [])) (none_between p from k (λ j h. none j (omega (arith, h))))
     ∙ ap (λ (b : Bool). if b then (from + k) ∷ [] else []) (none k (omega arith))
+
+one_behind : (n : ℕ) (xs ys : List ℕ) → IsOneOf n ys → IsOneOf n (xs ++ ys)
+one_behind n [] ys one = one
+one_behind n (x ∷ xs) ys one = inr (one_behind n xs ys one)
+
+pub between_only : (test : ℕ → Bool) (from k n : ℕ) → IsOneOf n (pages_between test from k) → (n < from + k) × (test n ≡ true)
+between_only test from k n one =
+    (pages_are test (from + k)).only n (subst (λ (pages : List ℕ). IsOneOf n pages) (sym (below_between test from k)) (one_behind n (pages_below test from) (pages_between test from k) one))
 
 -- ---- those that pass another test too
 filter_two : (q : ℕ → Bool) (xs ys : List ℕ) → filter q (xs ++ ys) ≡ filter q xs ++ filter q ys
