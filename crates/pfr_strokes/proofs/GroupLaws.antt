@@ -78,6 +78,10 @@ module _ (content : ℕ → List ℕ) (group : ℕ) (mark : ℕ → List Deed) w
   before_two number [] ys h k = k
   before_two number (x ∷ xs) ys h k = (h.0, before_two number xs ys h.1 k)
 
+  from_two : (number : ℕ) (xs ys : List ℕ) → AllFrom group number xs → AllFrom group number ys → AllFrom group number (xs ++ ys)
+  from_two number [] ys h k = k
+  from_two number (x ∷ xs) ys h k = (h.0, from_two number xs ys h.1 k)
+
   of_two : (number : ℕ) (xs ys : List ℕ) → AllOf content group mark number xs → AllOf content group mark number ys → AllOf content group mark number (xs ++ ys)
   of_two number [] ys h k = k
   of_two number (x ∷ xs) ys h k = (h.0, of_two number xs ys h.1 k)
@@ -90,6 +94,16 @@ module _ (content : ℕ → List ℕ) (group : ℕ) (mark : ℕ → List Deed) w
     where
       by_test : (b : Bool) → AllBefore group number (if b then n ∷ [] else [])
       by_test true = (each n (omega arith), tt)
+      by_test false = tt
+
+  pub from_between : (test : ℕ → Bool) (number from k : ℕ) → ((j : ℕ) → j < k → number ≤ (from + j) / group) → AllFrom group number (pages_between test from k)
+  unfolding pages_between
+  from_between test number from zero each = tt
+  from_between test number from (suc k) each =
+      from_two number (pages_between test from k) (if test (from + k) then (from + k) ∷ [] else []) (from_between test number from k (λ j h. each j (omega (arith, h)))) (by_test (test (from + k)))
+    where
+      by_test : (b : Bool) → AllFrom group number (if b then (from + k) ∷ [] else [])
+      by_test true = (each k (omega arith), tt)
       by_test false = tt
 
   pub of_between : (test : ℕ → Bool) (number from k : ℕ) → ((j : ℕ) → j < k → (from + j) / group ≡ number) → AllOf content group mark number (pages_between test from k)
@@ -139,3 +153,13 @@ module _ (group all number : ℕ) (some : 0 < group) where
       by_product m is (inr more) =
           let high : (group_at group all number + j) / group < suc number = (div-lt_iff_lt-mul some).1 (omega (arith, h, times_more)) in
           omega (arith, high, more)
+
+  -- and those behind the group are of groups from the next one on
+  pub behind_group : (j : ℕ) → group_at group all number ≤ j → j < all → number ≤ j / group
+  behind_group j low high = by_product (number * group) refl (cases_lt (j / group) number)
+    where
+      by_product : (m : ℕ) → m ≡ number * group → ((j / group < number) ⊎ (number ≤ j / group)) → number ≤ j / group
+      by_product m is (inl less) =
+          let under : j < number * group = (div-lt_iff_lt-mul some).0 less in
+          absurd (omega (arith, under, low, high))
+      by_product m is (inr from) = from

@@ -1,19 +1,21 @@
 -- A pass over the pages of one group, and passes over groups in a row.
-use Rattle.std.proofs.Common.{◌≡◌, ◌∙◌, ℕ, zero, suc, ◌+◌, ◌-◌, ◌*◌, ◌/◌, ◌≤◌, ◌<◌, ◌&&◌, Bool, true, false, not, if◌then◌else◌, refl, sym, ap, subst, arith, List, [], ◌∷◌, ◌++◌, append_assoc, filter, Result, Ok, Err, inl, inr}
+use Rattle.std.proofs.Common.{◌≡◌, ◌∙◌, ℕ, zero, suc, ◌+◌, ◌-◌, ◌*◌, ◌/◌, ◌≤◌, ◌<◌, ◌&&◌, Bool, true, false, if◌then◌else◌, refl, sym, ap, subst, arith, List, [], ◌∷◌, ◌++◌, append_assoc, Result, Ok, Err, inl, inr}
 use Rattle.std.proofs.lemmas.List.{append-nil}
 use Rattle.pfr_flash.specs.FlashState.{now}
 use Rattle.pfr_flash.specs.Operation.{Operation, play, applied}
 use Rattle.pfr_flash.specs.Plan.{Follows, IsPart}
 use Rattle.pfr_flash.specs.declared.flash.FlashFail.{FlashFail}
 use Rattle.pfr_strokes.specs.Strokes.{strokes, strokes_of}
+use Rattle.pfr_strokes.specs.Replaced.{has_pages}
 use Rattle.pfr_strokes.specs.Deeds.{Deed, Asks, Does, called, ends_group, page_deeds, pass, marked_by, unmarked, side_ops, asking, unbegun, torn, IsDeedCut}
 use Rattle.pfr_strokes.specs.Passes.{Pair, at_side, Did, Failed, DidAll, StoppedAt, Passes}
 use Rattle.pfr_strokes.specs.declared.side.Side.{Side}
 use Rattle.pfr_strokes.specs.declared.side.Side.TheVariants.{Bank, Store}
 use Rattle.pfr_strokes.specs.declared.side.CopyFail.{CopyFail}
 use Rattle.pfr_strokes.specs.declared.side.CopyFail.TheVariants as fails
-use Rattle.pfr_strokes.proofs.DeedsLaws.{side_ops-append, none_called, cut_later, cut_front}
-use Rattle.pfr_strokes.proofs.PassesLemmas.{Did-none, Did-of, Failed-of, DidAll-then, Stopped-then, Stopped-first, Passes-then, OnlyAt, by_side, there_none, called_did, called_stopped, AsksLast}
+use Rattle.pfr_strokes.proofs.DeedsLaws.{side_ops-append, ops_called, none_called, cut_later, cut_front}
+use Rattle.pfr_strokes.proofs.PassesLemmas.{Did-none, Did-of, Failed-of, DidAll-then, Stopped-then, Stopped-first, Passes-then, Passes-first, OnlyAt, by_side, there_none, called_did, called_stopped, AsksLast}
+use Rattle.pfr_strokes.proofs.ReplacedLaws.{IsOneOf}
 use Rattle.pfr_strokes.proofs.PassLaws.{pass_strokes, pass_asks, pass_group, pass_apart, mark_behind, marked_asks, AllOf, AllBefore, AllFrom}
 
 -- ---- a part of the bank's operations is a cut of deeds that ask the bank last
@@ -133,6 +135,18 @@ module _ (content : ℕ → List ℕ) (group : ℕ) (number : ℕ) (pages : List
           (Stopped-then Store fail (pass content group unmarked pages) (called Store (plan number) ++ Asks Bank ∷ []) a b c did
           (Stopped-first Store fail (called Store (plan number)) (Asks Bank ∷ []) b c (called_stopped Store (plan number) b c fail only h)))
 
+    -- what is done to the store: the mark, where it has a page
+    pub group_store : side_ops Store (pass content group (marked_by plan) pages) ≡ (if has_pages pages then plan number else [])
+    group_store =
+        ap (λ (deeds : List Deed). side_ops Store deeds) whole
+        ∙ side_ops-append Store (pass content group unmarked pages) (mark_behind content group (marked_by plan) number pages)
+        ∙ ap (λ (ops : List Operation). ops ++ side_ops Store (mark_behind content group (marked_by plan) number pages)) (unmarked_none content group pages)
+        ∙ by_pages pages
+      where
+        by_pages : (pages : List ℕ) → side_ops Store (mark_behind content group (marked_by plan) number pages) ≡ (if has_pages pages then plan number else [])
+        by_pages [] = refl
+        by_pages (page ∷ others) = side_ops-append Store (called Store (plan number)) (Asks Bank ∷ []) ∙ append-nil (side_ops Store (called Store (plan number))) ∙ ops_called Store (plan number)
+
   -- with another plan that does the same for this group
   pub pass_remarked : (plan other : ℕ → List Operation) → other number ≡ plan number → pass content group (marked_by other) pages ≡ pass content group (marked_by plan) pages
   pass_remarked plan other same = whole other ∙ ap (λ (deeds : List Deed). pass content group unmarked pages ++ deeds) (by_pages pages) ∙ sym (whole plan)
@@ -140,6 +154,14 @@ module _ (content : ℕ → List ℕ) (group : ℕ) (number : ℕ) (pages : List
       by_pages : (pages : List ℕ) → mark_behind content group (marked_by other) number pages ≡ mark_behind content group (marked_by plan) number pages
       by_pages [] = refl
       by_pages (page ∷ others) = ap (λ (ops : List Operation). called Store ops ++ Asks Bank ∷ []) same
+
+-- where the pages are to hold the same
+pub pass_same : (content other : ℕ → List ℕ) (group : ℕ) (mark : ℕ → List Deed) (pages : List ℕ) → ((n : ℕ) → IsOneOf n pages → other n ≡ content n) → page_deeds other group mark pages ≡ page_deeds content group mark pages
+unfolding page_deeds
+pass_same content other group mark [] same = refl
+pass_same content other group mark (page ∷ pages) same =
+    ap (λ (bytes : List ℕ). called Bank (strokes page bytes) ++ ((if ends_group group page pages then mark (page / group) else []) ++ page_deeds other group mark pages)) (same page (inl refl))
+    ∙ ap (λ (rest : List Deed). called Bank (strokes page (content page)) ++ ((if ends_group group page pages then mark (page / group) else []) ++ rest)) (pass_same content other group mark pages (λ n one. same n (inr one)))
 
 -- ---- passes in a row
 module _ (content : ℕ → List ℕ) (group : ℕ) (plan : ℕ → List Operation) (number : ℕ) (first more : List ℕ) (before : AllBefore group number first) (behind : AllFrom group number more) where
@@ -163,3 +185,9 @@ module _ (content : ℕ → List ℕ) (group : ℕ) (plan : ℕ → List Operati
       by_asks asks =
           subst (λ (deeds : List Deed). Passes deeds a c result) (is asks)
           (Passes-then {A = Unit {0}} asks.before (pass content group (marked_by plan) more) a b c tt result (record { each = λ which. subst (λ (ops : List Operation). Did ops (at_side which a) (at_side which b)) (same which asks) (did.each which) }) next)
+
+  -- It stopped there, and so did the pass over both.
+  pub pass_stopped : (B C : Type 0) (a b : Pair) (fail : CopyFail) → Passes {T = B} (pass content group (marked_by plan) first) a b (Err fail) → Passes {T = C} (pass content group (marked_by plan) (first ++ more)) a b (Err fail)
+  pass_stopped B C a b fail h =
+      subst (λ (deeds : List Deed). Passes {T = C} deeds a b (Err fail)) (sym joined)
+      (Passes-first B C (pass content group (marked_by plan) first) (page_deeds content group (marked_by plan) more) a b fail h)
