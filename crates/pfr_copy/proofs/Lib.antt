@@ -4,3 +4,4 @@ pub mod PlanLemmas
 pub mod SourcesLaw
 pub mod JudgedLaw
 pub mod JobLaw
+pub mod MarkLaw

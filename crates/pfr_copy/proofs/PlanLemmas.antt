@@ -8,10 +8,9 @@ use Rattle.pfr_flash.specs.Reading.{EndsAt}
 use Rattle.pfr_flash.specs.declared.flash.FlashFail.{FlashFail}
 use Rattle.pfr_flash.proofs.FollowsLemmas.{Follows-none, Follows-reads, Follows-then, Follows-first, Follows-gives, Follows-now}
 use Rattle.pfr_strokes.specs.Strokes.{strokes, strokes_of}
-use Rattle.pfr_strokes.specs.Replaced.{pages_below, pages_between}
+use Rattle.pfr_strokes.specs.Replaced.{has_pages, pages_below, pages_between}
 use Rattle.pfr_strokes.proofs.GroupLaws.{between_all}
 use Rattle.pfr_copy.specs.Applying.{page_plan}
-use Rattle.pfr_copy.specs.Working.{has_pages}
 
 -- ---- the plan of one page
 -- what a page is to hold was read, or that it isn't written

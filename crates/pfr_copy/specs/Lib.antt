@@ -1,2 +1,3 @@
 pub mod Applying
 pub mod Working
+pub mod Marking

@@ -1,5 +1,5 @@
 -- The pages that a job writes, whatever its kind.
-use Rattle.std.specs.Prelude.{ℕ, ◌/◌, Bool, true, false, List, [], ◌∷◌, length}
+use Rattle.std.specs.Prelude.{ℕ, ◌/◌, Bool, List, length}
 use Rattle.pfr_flash.specs.declared.layout.Layout.{Layout}
 use Rattle.pfr_capsule.specs.CapsuleState.{CapsuleState}
 use Rattle.pfr_jobs.specs.declared.job.JobKind.{JobKind}
@@ -30,8 +30,3 @@ job_page RecoveryFromStaging image capsule layout n = recovery_page image layout
 -- the job's pages, in rising order
 abbrev pub job_pages : JobKind → List ℕ → CapsuleState → Layout → List ℕ
 job_pages kind image capsule layout = pages_below (is_job_page kind image capsule layout) (length image / 4096)
-
--- there is a page among them
-abbrev pub has_pages : List ℕ → Bool
-has_pages [] = false
-has_pages (page ∷ pages) = true

@@ -3,7 +3,10 @@
 
 mod applying;
 mod contents;
+mod heeding;
+mod marks;
 mod pages;
 mod taking;
 
 pub use applying::apply_unlogged;
+pub use marks::Marks;

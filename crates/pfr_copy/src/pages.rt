@@ -4,8 +4,8 @@ ghost use Rattle.pfr_flash.specs.FlashState.{now, size_of};
 ghost use Rattle.pfr_flash.specs.Layout.{IsBankSize};
 ghost use Rattle.pfr_flash.specs.Plan.{Follows};
 ghost use Rattle.pfr_copy.specs.Applying.{page_plan};
-ghost use Rattle.pfr_copy.specs.Working.{CanDo, has_pages, is_job_page, job_page};
-ghost use Rattle.pfr_strokes.specs.Replaced.{pages_between};
+ghost use Rattle.pfr_copy.specs.Working.{CanDo, is_job_page, job_page};
+ghost use Rattle.pfr_strokes.specs.Replaced.{has_pages, pages_between};
 ghost use Rattle.pfr_strokes.specs.Strokes.{strokes_of};
 
 use crate::contents::new_page;

@@ -3,7 +3,7 @@ use Rattle.std.proofs.Common.{◌≡◌, ◌∙◌, ℕ, zero, suc, ◌+◌, ◌
 use Rattle.std.proofs.lemmas.List.{append-nil}
 use Rattle.std.proofs.lemmas.Bool.{cases_lt}
 use Rattle.std.proofs.Math.Nat.{div-lt_iff_lt-mul}
-use Rattle.pfr_strokes.specs.Replaced.{pages_below, pages_between}
+use Rattle.pfr_strokes.specs.Replaced.{pages_below, pages_between, group_at}
 use Rattle.pfr_strokes.specs.Deeds.{Deed}
 use Rattle.pfr_strokes.proofs.ReplacedLaws.{IsOneOf, pages_are}
 use Rattle.pfr_strokes.proofs.PassLaws.{AllOf, AllBefore, AllFrom}
@@ -121,10 +121,6 @@ module _ (content : ℕ → List ℕ) (group : ℕ) (mark : ℕ → List Deed) w
   from_of number (page ∷ pages) all = (omega (arith, all.0), from_of number pages all.1)
 
 -- ---- where the groups of so many pages begin
--- the group of this number begins here, where there are so many pages
-abbrev pub group_at : ℕ → ℕ → ℕ → ℕ
-group_at group all number = min (number * group) all
-
 module _ (group all number : ℕ) (some : 0 < group) where
   times_more : suc number * group ≡ number * group + group
   times_more = omega arith

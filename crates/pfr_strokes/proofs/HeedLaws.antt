@@ -2,7 +2,7 @@
 use Rattle.std.proofs.Common.{◌≡◌, ◌∙◌, ℕ, zero, suc, ◌+◌, ◌-◌, ◌*◌, ◌/◌, ◌≤◌, ◌<◌, ◌&&◌, Bool, true, false, not, min, refl, sym, ap, subst, arith, List, [], ◌∷◌, ◌++◌, filter, Result, Ok, Err}
 use Rattle.std.proofs.lemmas.List.{append-nil}
 use Rattle.pfr_flash.specs.Operation.{Operation}
-use Rattle.pfr_strokes.specs.Replaced.{pages_below, pages_between}
+use Rattle.pfr_strokes.specs.Replaced.{pages_below, pages_between, group_at, group_count}
 use Rattle.pfr_strokes.specs.Deeds.{Deed, Asks, page_deeds, pass, marked_by}
 use Rattle.pfr_strokes.specs.Passes.{Pair, at_side, DidAll, Passes}
 use Rattle.pfr_strokes.specs.declared.side.Side.TheVariants.{Bank}
@@ -10,12 +10,8 @@ use Rattle.pfr_strokes.specs.declared.side.CopyFail.{CopyFail}
 use Rattle.pfr_strokes.proofs.PassesLemmas.{Did-none}
 use Rattle.pfr_strokes.proofs.PassLaws.{AllOf}
 use Rattle.pfr_strokes.proofs.ReplacedLaws.{IsOneOf}
-use Rattle.pfr_strokes.proofs.GroupLaws.{below_between, between_only, same_between, none_between, filter_below, before_below, of_between, from_of, from_between, group_at, group_next, below_group, in_group, behind_group}
+use Rattle.pfr_strokes.proofs.GroupLaws.{below_between, between_only, same_between, none_between, filter_below, before_below, of_between, from_of, from_between, group_next, below_group, in_group, behind_group}
 use Rattle.pfr_strokes.proofs.StretchLaws.{pass_remarked, pass_same, pass_then, pass_stopped}
-
--- how many pages the group of this number has, where there are so many pages
-abbrev pub group_count : ℕ → ℕ → ℕ → ℕ
-group_count group all number = min (group_at group all number + group) all - group_at group all number
 
 -- ---- the pass over one group, where it is the same
 module _ (content other : ℕ → List ℕ) (test later : ℕ → Bool) (plan next : ℕ → List Operation) (group all number : ℕ) (some : 0 < group) where

@@ -1,9 +1,9 @@
 use Rattle.std.proofs.Common.{◌≡◌, ◌-◌, ◌≤◌, Ok}
 use Rattle.pfr_flash.specs.FlashState.{now}
 use Rattle.pfr_flash.specs.Plan.{Follows}
-use Rattle.pfr_strokes.specs.Replaced.{pages_between}
+use Rattle.pfr_strokes.specs.Replaced.{has_pages, pages_between}
 use Rattle.pfr_strokes.specs.Strokes.{strokes_of}
-use Rattle.pfr_copy.specs.Working.{has_pages, is_job_page, job_page}
+use Rattle.pfr_copy.specs.Working.{is_job_page, job_page}
 use Rattle.pfr_copy.proofs.pages.replace_pages.Given as goal
 
 -- the pages so far were done
