@@ -1,5 +1,5 @@
 -- A bank's log of jobs as it is kept, and what of it the bytes of the store say.
-use Rattle.std.specs.Prelude.{◌≡◌, ℕ, ◌+◌, ◌*◌, ◌<◌, ◌==◌, ◌&&◌, Bool, true, false, List, Option, Some, None, replicate}
+use Rattle.std.specs.Prelude.{ℕ, ◌+◌, ◌*◌, ◌<◌, ◌==◌, ◌&&◌, Bool, true, false, List, Option, Some, None, replicate}
 use Rattle.pfr_flash.specs.Bytes.{bytes_at}
 use Rattle.pfr_flash.specs.FuseRow.{is_cleared}
 use Rattle.pfr_flash.specs.declared.names.Bank.{Bank}
