@@ -5,3 +5,5 @@ pub mod SourcesLaw
 pub mod JudgedLaw
 pub mod JobLaw
 pub mod MarkLaw
+pub mod GroupSteps
+pub mod HeedLemmas

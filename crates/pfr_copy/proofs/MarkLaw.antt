@@ -1,6 +1,7 @@
 -- What marks leave of a bank's log.
 use Rattle.std.proofs.Common.{◌≡◌, ◌∙◌, ℕ, zero, suc, ◌+◌, ◌*◌, ◌≤◌, ◌<◌, ◌==◌, ◌||◌, Bool, true, false, if◌then◌else◌, refl, sym, ap, subst, arith, List, [], length, Option, Some, None, ◌⊎◌, inl, inr}
 use Rattle.std.proofs.lemmas.Bool.{cases_lt}
+use Rattle.std.proofs.lemmas.Bool.Decides.{nat_tests}
 use Rattle.pfr_flash.specs.Bytes.{bytes_at}
 use Rattle.pfr_flash.specs.FuseRow.{IsCleared, fuse_at, is_cleared, with_cleared}
 use Rattle.pfr_flash.specs.Operation.{Operation, play}
@@ -8,7 +9,7 @@ use Rattle.pfr_flash.specs.declared.names.Bank.{Bank}
 use Rattle.pfr_flash.proofs.BytesLemmas.{length-bytes_at}
 use Rattle.pfr_flash.proofs.FuseLemmas.{IsCleared-with_cleared}
 use Rattle.pfr_flash.proofs.PlayLemmas.{length-play}
-use Rattle.pfr_jobs.specs.Log.{current_at, current_page, last_gated, open_by, open_job}
+use Rattle.pfr_jobs.specs.Log.{current_at, current_page, last_gated, open_by, open_in, open_job}
 use Rattle.pfr_jobs.specs.LogPlans.{mark_by, mark_plan}
 use Rattle.pfr_jobs.specs.LogState.{LogState, is_marked, log_of, marks_in, marks_of}
 use Rattle.pfr_jobs.specs.declared.job.OpenJob.{OpenJob}
@@ -21,7 +22,7 @@ same_zero : (x y : ℕ) → (x ≡ 0 → y ≡ 0) → (y ≡ 0 → x ≡ 0) → 
 same_zero zero zero f g = refl
 same_zero zero (suc y) f g = absurd (omega (arith, f refl))
 same_zero (suc x) zero f g = absurd (omega (arith, g refl))
-same_zero (suc x) (suc y) f g = refl
+same_zero (suc x) (suc y) f g = grind (arith, nat_tests)
 
 is_zero : (x : ℕ) → x ≡ 0 → (x == 0) ≡ true
 is_zero zero e = refl
