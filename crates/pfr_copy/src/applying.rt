@@ -4,31 +4,50 @@ ghost use Rattle.pfr_flash.specs.FlashState.{now, size_of};
 ghost use Rattle.pfr_flash.specs.Layout.{IsBankSize};
 ghost use Rattle.pfr_flash.specs.Plan.{Follows};
 ghost use Rattle.pfr_copy.specs.Applying.{CanApply, IsActive};
-ghost use Rattle.pfr_copy.specs.Working.{CanDo, job_page, job_pages};
+ghost use Rattle.pfr_copy.specs.Marking.{HasLog, LogStays, active_deeds};
 ghost use Rattle.pfr_rebuilt.specs.ActiveCopying.{active_page, active_pages, active_rebuilt};
+ghost use Rattle.pfr_strokes.specs.Passes.{Passes};
 ghost use Rattle.pfr_strokes.specs.Strokes.{strokes_of};
 
-use crate::pages::replace_pages;
-use crate::taking::PAGE;
+use crate::copying::{copy, replace_all};
+use crate::marks::Marks;
 use pfr_bank::Held;
 use pfr_capsule::Capsule;
 use pfr_flash::{Flash, FlashFail, Layout};
-use pfr_jobs::JobKind;
+use pfr_jobs::{JobKind, JobLog};
+use pfr_strokes::CopyFail;
 
-// Writes all pages of the job, in rising order.
-fn replace_all<F: Flash>(
-    flash: &mut F,
+/// Applies a capsule to the active image of a bank that is held: writes the job's pages, in rising order, those that the marks
+/// leave.
+///
+/// The pages of the manifest area get the capsule's signed manifest, with 0xFF behind it. The pages of each region that
+/// `kind` takes get what the capsule gives for them, and those that it leaves aren't written. Each page is erased, and then
+/// programmed in pieces of 256 bytes. The capsule was judged for this bank with this layout; it lies in the bank's recovery
+/// or staging area, where its bytes are as they were judged. A restore's `level` is 1 to 3; at another one, bit `level + 1` of
+/// the masks is asked all the same.
+///
+/// At the first call of a device that fails it ends, with that device and that call's cause: then the pages before were
+/// written, and the last one may be torn. `jobs` is of no more use then, where marks are heeded.
+pub fn apply<F: Flash>(
+    held: &mut Held<F>,
+    nv: &mut F,
+    jobs: &mut JobLog,
     capsule: &Capsule,
     layout: &Layout,
     kind: JobKind,
-) -> Result<(), FlashFail>
-    requires size { IsBankSize (size_of (F.device flash.old)) }
-    requires can { CanDo kind (now (F.device flash.old)) layout.now capsule.now }
-    ensures { let image = now (F.device flash.old) in
-        Follows (strokes_of (job_page kind image capsule.now layout.now) (job_pages kind image capsule.now layout.now)) (F.device flash.old) (F.device flash.new) result }
+    marks: Marks,
+) -> Result<(), CopyFail>
+    requires size { IsBankSize (size_of (F.device held.old.flash)) }
+    requires can { CanApply (now (F.device held.old.flash)) layout.now capsule.now }
+    requires kind { IsActive kind }
+    requires log { HasLog marks held.old.bank (now (F.device nv.old)) (size_of (F.device nv.old)) jobs.old }
+    // What is done to the bank and to the store: all at Ok, and a front at Err, the last operation perhaps torn.
+    ensures passes { Passes (active_deeds marks kind held.old.bank (now (F.device held.old.flash)) (now (F.device nv.old)) capsule.now layout.now)
+        (record { bank = F.device held.old.flash; store = F.device nv.old }) (record { bank = F.device held.new.flash; store = F.device nv.new }) result }
+    ensures stands { OnOk result (LogStays marks held.old.bank (now (F.device nv.new)) jobs.old jobs.new) }
+    ensures bank { held.new.bank ≡ held.old.bank }
 {
-    replace_pages(flash, capsule, layout, kind, 0, flash.size() / PAGE)?;
-    Ok(())
+    copy(held.flash(), nv, jobs, capsule, layout, kind, marks)
 }
 
 /// Applies a capsule to the active image of a bank that is held: writes the job's pages, from the first on.

@@ -3,10 +3,13 @@
 
 mod applying;
 mod contents;
+mod copying;
 mod heeding;
 mod marks;
 mod pages;
+mod recovering;
 mod taking;
 
-pub use applying::apply_unlogged;
+pub use applying::{apply, apply_unlogged};
 pub use marks::Marks;
+pub use recovering::copy_recovery;

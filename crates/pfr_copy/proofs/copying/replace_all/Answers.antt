@@ -5,7 +5,7 @@ use Rattle.pfr_flash.specs.declared.flash.FlashFail.{FlashFail}
 use Rattle.pfr_flash.proofs.RangeLemmas.{length-now}
 use Rattle.pfr_copy.specs.Working.{is_job_page, job_page}
 use Rattle.pfr_copy.proofs.PlanLemmas.{all_done, all_failed}
-use Rattle.pfr_copy.proofs.applying.replace_all.Goals as goal
+use Rattle.pfr_copy.proofs.copying.replace_all.Goals as goal
 
 pub returns-in_err-replace_pages : goal.returns-in_err-replace_pages
 returns-in_err-replace_pages g c =
