@@ -90,7 +90,7 @@ module _ (kind : JobKind) (capsule : CapsuleState) (layout : Layout) (bank : Ban
       subst (λ (n : ℕ). IsHeeded kind capsule layout bank a b n) same (heeded_past b number e h)
 
   -- the pages so far are the job's
-  left_are : (number : ℕ) → AreJobPages kind (now a.bank) capsule layout (heeded (is_job_page kind (now a.bank) capsule layout) (is_marked (now a.store) bank) (group_pages (length (now a.bank))) (length (now a.bank) / 4096) number)
+  pub left_are : (number : ℕ) → AreJobPages kind (now a.bank) capsule layout (heeded (is_job_page kind (now a.bank) capsule layout) (is_marked (now a.store) bank) (group_pages (length (now a.bank))) (length (now a.bank) / 4096) number)
   left_are number n one =
       let is = (pages_are (λ (page : ℕ). is_job_page kind (now a.bank) capsule layout page && not (is_marked (now a.store) bank (page / group_pages (length (now a.bank))))) (group_at (group_pages (length (now a.bank))) (length (now a.bank) / 4096) number)).only n one in
       (by_product (number * group_pages (length (now a.bank))) is.0, first (is_job_page kind (now a.bank) capsule layout n) (not (is_marked (now a.store) bank (n / group_pages (length (now a.bank))))) is.1)
@@ -130,7 +130,7 @@ module _ (kind : JobKind) (capsule : CapsuleState) (layout : Layout) (bank : Ban
         s.content s.test (same_mark (now a.store) bank (λ (g : ℕ). has_pages (pages_of_group (is_job_page kind (now a.bank) capsule layout) (group_pages (length (now a.bank))) (length (now a.bank) / 4096) g)) (now b.store) number h.log)
 
     module _ (unset : is_marked (now a.store) bank number ≡ false) (c : Pair) where
-      next_passes : {B : Type 0} (result : Result B CopyFail)
+      pub next_passes : {B : Type 0} (result : Result B CopyFail)
           → Passes (pass (job_page kind (now b.bank) capsule layout) (group_pages (length (now b.bank))) (marked_by (mark_plan (now b.store) bank))
             (pages_of_group (is_job_page kind (now b.bank) capsule layout) (group_pages (length (now b.bank))) (length (now b.bank) / 4096) number)) b c result
           → Passes (pass (job_page kind (now a.bank) capsule layout) (group_pages (length (now a.bank))) (marked_by (mark_plan (now a.store) bank))

@@ -158,6 +158,9 @@ active_job (ActiveFromRecovery level) active image capsule layout = (λ can. can
 active_job (ActiveFromStaging dynamic) active image capsule layout = (λ can. can, refl, refl)
 active_job RecoveryFromStaging active image capsule layout = absurd active
 
+pub active_can : (kind : JobKind) → IsActive kind → (image : List ℕ) (capsule : CapsuleState) (layout : Layout) → CanApply image layout capsule → CanDo kind image layout capsule
+active_can kind active image capsule layout can = (active_job kind active image capsule layout).0 can
+
 pub job_pages_are : (kind : JobKind) (image : List ℕ) (capsule : CapsuleState) (layout : Layout) → AreJobPages kind image capsule layout (job_pages kind image capsule layout)
 job_pages_are kind image capsule layout n one = (pages_are (is_job_page kind image capsule layout) (length image / 4096)).only n one
 

@@ -7,3 +7,7 @@ pub mod JobLaw
 pub mod MarkLaw
 pub mod GroupSteps
 pub mod HeedLemmas
+pub mod TouchLaw
+pub mod ResumeLaw
+pub mod CopyLemmas
+pub mod ClauseLaw

@@ -1,3 +1,4 @@
 pub mod Applying
 pub mod Working
 pub mod Marking
+pub mod Copied

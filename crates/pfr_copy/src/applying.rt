@@ -1,12 +1,15 @@
 // A capsule is applied to a bank's active image.
-ghost use Rattle.std.specs.Prelude.{◌≡◌, OnOk};
+ghost use Rattle.std.specs.Prelude.{◌≡◌, ◌/◌, OnOk, length};
 ghost use Rattle.pfr_flash.specs.FlashState.{now, size_of};
 ghost use Rattle.pfr_flash.specs.Layout.{IsBankSize};
 ghost use Rattle.pfr_flash.specs.Plan.{Follows};
 ghost use Rattle.pfr_copy.specs.Applying.{CanApply, IsActive};
+ghost use Rattle.pfr_copy.specs.Copied.{AddsPlan, Resumes, SetsMarks, written_pages};
 ghost use Rattle.pfr_copy.specs.Marking.{HasLog, LogStays, active_deeds};
-ghost use Rattle.pfr_rebuilt.specs.ActiveCopying.{active_page, active_pages, active_rebuilt};
+ghost use Rattle.pfr_rebuilt.specs.ActiveCopying.{active_page, active_pages, active_rebuilt, is_active_page};
+ghost use Rattle.pfr_rebuilt.specs.Passing.{group_pages};
 ghost use Rattle.pfr_strokes.specs.Passes.{Passes};
+ghost use Rattle.pfr_strokes.specs.Replaced.{replaced};
 ghost use Rattle.pfr_strokes.specs.Strokes.{strokes_of};
 
 use crate::copying::{copy, replace_all};
@@ -45,6 +48,17 @@ pub fn apply<F: Flash>(
     ensures passes { Passes (active_deeds marks kind held.old.bank (now (F.device held.old.flash)) (now (F.device nv.old)) capsule.now layout.now)
         (record { bank = F.device held.old.flash; store = F.device nv.old }) (record { bank = F.device held.new.flash; store = F.device nv.new }) result }
     ensures stands { OnOk result (LogStays marks held.old.bank (now (F.device nv.new)) jobs.old jobs.new) }
+    // At Ok the bank holds its image with the pages replaced that the marks left.
+    ensures rebuilt { let image = now (F.device held.old.flash) in
+        OnOk result (now (F.device held.new.flash) ≡ replaced image (active_page image capsule.now layout.now) (written_pages marks held.old.bank (now (F.device nv.old)) (group_pages (length image)) (active_pages kind image capsule.now layout.now))) }
+    // Its new operations are those that write these pages, in rising order: all at Ok, and a front of them at Err.
+    ensures strokes { let image = now (F.device held.old.flash) in
+        AddsPlan (strokes_of (active_page image capsule.now layout.now) (written_pages marks held.old.bank (now (F.device nv.old)) (group_pages (length image)) (active_pages kind image capsule.now layout.now))) (F.device held.old.flash) (F.device held.new.flash) result }
+    // At Ok exactly the groups are marked that were, or that have a page of the job; without marks the store is as it was.
+    ensures marked { let image = now (F.device held.old.flash) in
+        OnOk result (SetsMarks marks held.old.bank (is_active_page kind image capsule.now layout.now) (group_pages (length image)) (length image / 4096) (now (F.device nv.old)) (now (F.device nv.new))) }
+    // However it ends, it can be resumed by its marks.
+    ensures resumes { Resumes marks held.old.bank (group_pages (length (now (F.device held.old.flash)))) (record { bank = F.device held.old.flash; store = F.device nv.old }) (record { bank = F.device held.new.flash; store = F.device nv.new }) }
     ensures bank { held.new.bank ≡ held.old.bank }
 {
     copy(held.flash(), nv, jobs, capsule, layout, kind, marks)

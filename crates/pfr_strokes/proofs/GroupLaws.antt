@@ -1,9 +1,9 @@
 -- The pages of groups: lists of pages that pass tests.
 use Rattle.std.proofs.Common.{◌≡◌, ◌∙◌, ℕ, zero, suc, ◌+◌, ◌-◌, ◌*◌, ◌/◌, ◌≤◌, ◌<◌, ◌&&◌, Bool, true, false, not, min, if◌then◌else◌, refl, sym, ap, subst, arith, List, [], ◌∷◌, ◌++◌, append_assoc, filter, ◌⊎◌, inl, inr}
 use Rattle.std.proofs.lemmas.List.{append-nil}
-use Rattle.std.proofs.lemmas.Bool.{cases_lt}
-use Rattle.std.proofs.Math.Nat.{div-lt_iff_lt-mul}
-use Rattle.pfr_strokes.specs.Replaced.{pages_below, pages_between, group_at}
+use Rattle.std.proofs.lemmas.Bool.{cases_lt, false≢true}
+use Rattle.std.proofs.Math.Nat.{div-lt_iff_lt-mul, div-mul-le_self}
+use Rattle.pfr_strokes.specs.Replaced.{has_pages, pages_below, pages_between, group_at, group_count, pages_of_group}
 use Rattle.pfr_strokes.specs.Deeds.{Deed}
 use Rattle.pfr_strokes.proofs.ReplacedLaws.{IsOneOf, pages_are}
 use Rattle.pfr_strokes.proofs.PassLaws.{AllOf, AllBefore, AllFrom}
@@ -159,3 +159,45 @@ module _ (group all number : ℕ) (some : 0 < group) where
           let under : j < number * group = (div-lt_iff_lt-mul some).0 less in
           absurd (omega (arith, under, low, high))
       by_product m is (inr from) = from
+
+-- ---- what a group has
+has_two : (pages : List ℕ) (n : ℕ) (t : Bool) → t ≡ true → has_pages (pages ++ (if t then n ∷ [] else [])) ≡ true
+has_two [] n true e = refl
+has_two [] n false e = absurd (false≢true e)
+has_two (page ∷ pages) n t e = refl
+
+has_before : (pages more : List ℕ) → has_pages pages ≡ true → has_pages (pages ++ more) ≡ true
+has_before [] more e = absurd (false≢true e)
+has_before (page ∷ pages) more e = refl
+
+has_between : (test : ℕ → Bool) (from k n : ℕ) → from ≤ n → n < from + k → test n ≡ true → has_pages (pages_between test from k) ≡ true
+unfolding pages_between
+has_between test from zero n low high e = absurd (omega (arith, low, high))
+has_between test from (suc k) n low high e = by_place (cases_lt n (from + k)) (λ below. has_between test from k n low below e)
+  where
+    by_place : (n < from + k) ⊎ (from + k ≤ n) → (n < from + k → has_pages (pages_between test from k) ≡ true) → has_pages (pages_between test from k ++ (if test (from + k) then (from + k) ∷ [] else [])) ≡ true
+    by_place (inl below) rest = has_before (pages_between test from k) (if test (from + k) then (from + k) ∷ [] else []) (rest below)
+    by_place (inr last) rest =
+        let same : n ≡ from + k = omega arith in
+        has_two (pages_between test from k) (from + k) (test (from + k)) (ap test (sym same) ∙ e)
+
+-- a page that passes the test is one of its group's
+pub has_own : (test : ℕ → Bool) (group all n : ℕ) → 0 < group → n < all → test n ≡ true → has_pages (pages_of_group test group all (n / group)) ≡ true
+has_own test group all n some below e =
+    has_between test (group_at group all (n / group)) (group_count group all (n / group)) n
+    (low (n / group * group) (div-mul-le_self n group))
+    (subst (λ (m : ℕ). n < m) (group_next group all (n / group) some) (high (suc (n / group) * group) ((div-lt_iff_lt-mul some).0 next))) e
+  where
+    low : (m : ℕ) → m ≤ n → min m all ≤ n
+    low m h = omega (arith, h)
+
+    high : (m : ℕ) → n < m → n < min m all
+    high m h = omega (arith, h, below)
+
+    next : n / group < suc (n / group)
+    next = omega arith
+
+pub of_one : (content : ℕ → List ℕ) (group : ℕ) (mark : ℕ → List Deed) (number : ℕ) (pages : List ℕ) → AllOf content group mark number pages → (n : ℕ) → IsOneOf n pages → n / group ≡ number
+of_one content group mark number [] all n one = absurd one
+of_one content group mark number (page ∷ pages) all n (inl same) = ap (λ (m : ℕ). m / group) same ∙ all.0
+of_one content group mark number (page ∷ pages) all n (inr one) = of_one content group mark number pages all.1 n one

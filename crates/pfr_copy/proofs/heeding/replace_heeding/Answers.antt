@@ -8,6 +8,7 @@ use Rattle.pfr_flash.proofs.HoldingLemmas.{now_bytes}
 use Rattle.pfr_jobs.specs.LogState.{LogState, is_marked, log_of}
 use Rattle.pfr_strokes.specs.declared.side.CopyFail.{CopyFail}
 use Rattle.pfr_copy.proofs.HeedLemmas.{IsHeeded, bank_size, heeded_all, heeded_none, kept_past, heeded_same, kept_on, kept_stop, store_size}
+use Rattle.pfr_copy.proofs.ResumeLaw.{one_done, one_failed}
 use Rattle.pfr_copy.proofs.heeding.replace_heeding.Goals as goal
 use Rattle.pfr_copy.proofs.heeding.replace_heeding.Goals.{then-not-marked+in_ok-replace_group, else-not-marked}
 
@@ -63,3 +64,16 @@ loop-group-preserved g c =
 pub returns-clause-passes : goal.returns-clause-passes
 returns-clause-passes g c =
     heeded_all c.args.kind c.args.capsule.now c.args.layout.now c.args.jobs.now.bank (record { bank = g.F.Flash.device c.args.flash.now; store = g.F.Flash.device c.args.nv.now }) (record { bank = g.F.Flash.device c.loop-group.flash; store = g.F.Flash.device c.loop-group.nv }) c.loop-group.group c.loop-group.invariant.heeded c.requires.can (now_bytes (g.F.Flash.device c.args.flash.now) (g.met.F.Flash.holds_bytes c.args.flash.now)) (omega (arith, c.loop-group.invariant.few, c.loop-group-test.false))
+
+pub returns-in_err-replace_group-clause-one : goal.returns-in_err-replace_group-clause-one
+returns-in_err-replace_group-clause-one g c =
+    let stands = c.loop-group.invariant.stands in
+    let marks : is_cleared c.loop-group.jobs.marks c.loop-group.group ≡ is_marked (now (g.F.Flash.device c.loop-group.nv)) c.args.jobs.now.bank c.loop-group.group = ap (λ (l : LogState). is_cleared l.marks c.loop-group.group) stands in
+    let first : is_marked (now (g.F.Flash.device c.args.nv.now)) c.args.jobs.now.bank c.loop-group.group ≡ c.marked.result = sym (c.loop-group.invariant.heeded.log.ahead c.loop-group.group (omega arith)) ∙ sym marks ∙ sym c.marked.ensures in
+    one_failed c.args.kind c.args.capsule.now c.args.layout.now c.args.jobs.now.bank (record { bank = g.F.Flash.device c.args.flash.now; store = g.F.Flash.device c.args.nv.now }) c.requires.can (now_bytes (g.F.Flash.device c.args.flash.now) (g.met.F.Flash.holds_bytes c.args.flash.now)) (record { bank = g.F.Flash.device c.loop-group.flash; store = g.F.Flash.device c.loop-group.nv }) c.loop-group.group c.loop-group.invariant.heeded c.loop-group-test.true
+    (first ∙ c.if-not-marked.true) (record { bank = g.F.Flash.device c.replace_group.new.flash; store = g.F.Flash.device c.replace_group.new.nv })
+    c.loop-group.jobs.bank (ap (λ (l : LogState). l.bank) stands) c.replace_group.ensures.others c.replace_group.result c.replace_group.ensures.passes
+
+pub returns-clause-one : goal.returns-clause-one
+returns-clause-one g c =
+    one_done c.args.kind c.args.capsule.now c.args.layout.now c.args.jobs.now.bank (record { bank = g.F.Flash.device c.args.flash.now; store = g.F.Flash.device c.args.nv.now }) c.requires.can (now_bytes (g.F.Flash.device c.args.flash.now) (g.met.F.Flash.holds_bytes c.args.flash.now)) (record { bank = g.F.Flash.device c.loop-group.flash; store = g.F.Flash.device c.loop-group.nv }) c.loop-group.group c.loop-group.invariant.heeded
