@@ -50,7 +50,7 @@ module _ (kind : JobKind) (capsule : CapsuleState) (layout : Layout) (bank : Ban
     touched_marked : (ops : List Operation) → b.bank.ops ≡ a.bank.ops ++ ops → (n : ℕ) → Touches ops n → (n / (group_pages (length (now a.bank))) < number) × (is_marked (now b.store) bank (n / (group_pages (length (now a.bank)))) ≡ true)
     touched_marked ops added n touches =
         let one : IsOneOf n (heeded (is_job_page kind (now a.bank) capsule layout) (is_marked (now a.store) bank) (group_pages (length (now a.bank))) (length (now a.bank) / 4096) number) =
-        pass_touches _ (job_page kind (now a.bank) capsule layout) (heeded (is_job_page kind (now a.bank) capsule layout) (is_marked (now a.store) bank) (group_pages (length (now a.bank))) (length (now a.bank) / 4096) number) a b (Ok {A = Unit {0}} tt)
+        pass_touches {T = Unit {0}} _ (job_page kind (now a.bank) capsule layout) (heeded (is_job_page kind (now a.bank) capsule layout) (is_marked (now a.store) bank) (group_pages (length (now a.bank))) (length (now a.bank) / 4096) number) a b (Ok tt)
         (pass_strokes (job_page kind (now a.bank) capsule layout) (group_pages (length (now a.bank))) (marked_by (mark_plan (now a.store) bank)) (marked_none (mark_plan (now a.store) bank)) (heeded (is_job_page kind (now a.bank) capsule layout) (is_marked (now a.store) bank) (group_pages (length (now a.bank))) (length (now a.bank) / 4096) number))
         (λ page there. left_whole number page there) h.did ops added n touches in
         let is = (pages_are (λ (page : ℕ). is_job_page kind (now a.bank) capsule layout page && not (is_marked (now a.store) bank (page / (group_pages (length (now a.bank)))))) (group_at (group_pages (length (now a.bank))) (length (now a.bank) / 4096) number)).only n one in
@@ -71,17 +71,17 @@ module _ (kind : JobKind) (capsule : CapsuleState) (layout : Layout) (bank : Ban
       of_next {T} result k ops added n touches unmarked = by_side (touches_two first last n (subst (λ (done : List Operation). Touches done n) split touches))
         where
           first : List Operation
-          first = (adds_plan _ a b _ (Ok {A = Unit {0}} tt) refl h.did).part.added
+          first = (adds_plan {T = Unit {0}} _ a b _ (Ok tt) refl h.did).part.added
 
           last : List Operation
           last = (adds_plan _ b c _ result refl k).part.added
 
           split : ops ≡ first ++ last
-          split = same_added a.bank.ops ops (first ++ last) (sym added ∙ ((adds_plan _ b c _ result refl k).part.is ∙ ap (λ (done : List Operation). done ++ last) (adds_plan _ a b _ (Ok {A = Unit {0}} tt) refl h.did).part.is ∙ append_assoc a.bank.ops first last))
+          split = same_added a.bank.ops ops (first ++ last) (sym added ∙ ((adds_plan _ b c _ result refl k).part.is ∙ ap (λ (done : List Operation). done ++ last) (adds_plan {T = Unit {0}} _ a b _ (Ok tt) refl h.did).part.is ∙ append_assoc a.bank.ops first last))
 
           by_side : (Touches first n ⊎ Touches last n) → n / (group_pages (length (now a.bank))) ≡ number
           by_side (inl before) =
-              let t = touched_marked first (adds_plan _ a b _ (Ok {A = Unit {0}} tt) refl h.did).part.is n before in
+              let t = touched_marked first (adds_plan {T = Unit {0}} _ a b _ (Ok tt) refl h.did).part.is n before in
               let stays : is_marked (now c.store) bank (n / (group_pages (length (now a.bank)))) ≡ is_marked (now b.store) bank (n / (group_pages (length (now a.bank)))) =
               subst (λ (which : Bank). is_marked (now c.store) which (n / (group_pages (length (now a.bank)))) ≡ is_marked (now b.store) which (n / (group_pages (length (now a.bank))))) same
               (others (n / (group_pages (length (now a.bank)))) (omega (arith, t.0, few)) (λ e. absurd (omega (arith, t.0, e)))) in
