@@ -79,7 +79,7 @@ one_filtered q (x ∷ xs) n one = by_test (q x) refl one (λ there. one_filtered
     by_test true e one later = by_place e one later
     by_test false e one later = (inr (later one).0, (later one).1)
 
-written_are : (marks : Marks) (bank : Bank) (nv : List ℕ) (group : ℕ) (pages : List ℕ) (n : ℕ) → IsOneOf n (written_pages marks bank nv group pages) → IsOneOf n pages
+pub written_are : (marks : Marks) (bank : Bank) (nv : List ℕ) (group : ℕ) (pages : List ℕ) (n : ℕ) → IsOneOf n (written_pages marks bank nv group pages) → IsOneOf n pages
 written_are Heed bank nv group pages n one = (one_filtered (λ (page : ℕ). not (is_marked nv bank (page / group))) pages n one).0
 written_are Ignore bank nv group pages n one = one
 written_are Without bank nv group pages n one = one

@@ -31,18 +31,23 @@ use Rattle.pfr_copy.proofs.SourcesLaw.{IsPageApart, SameSources, sources_same, s
 
 -- ---- the recovery area
 module _ (image : List ℕ) (capsule : CapsuleState) (layout : Layout) (can : CanCopyOver image layout capsule) (bytes : AreBytes image) where
-  recovery_fills : (n : ℕ) → IsPage (recovery_page image layout.staging_at capsule.length layout n)
+  pub recovery_fills : (n : ℕ) → IsPage (recovery_page image layout.staging_at capsule.length layout n)
   unfolding recovery_page
   recovery_fills n = text_fills (bytes_at image layout.staging_at capsule.length) (AreBytes-bytes_at image layout.staging_at capsule.length bytes) (4096 * n - layout.recovery_at)
 
-  -- its pages lie apart from the staging area
-  recovery_apart : (n : ℕ) → holds_text layout.recovery_at capsule.length n ≡ true → IsPageApart layout.staging_at layout.area_len (recovery_page image layout.staging_at capsule.length layout) n
-  recovery_apart n holds =
+  -- its pages lie in it
+  pub recovery_inside : (n : ℕ) → holds_text layout.recovery_at capsule.length n ≡ true → (layout.recovery_at ≤ 4096 * n) × (4096 * n + 4096 ≤ layout.recovery_at + layout.area_len)
+  recovery_inside n holds =
       let low : layout.recovery_at ≤ 4096 * n = grind (arith, nat_tests) in
       let high : 4096 * n < layout.recovery_at + capsule.length = grind (arith, nat_tests) in
       let fits : capsule.length ≤ layout.area_len = can.lies.within in
-      let end : 4096 * n + 4096 ≤ layout.recovery_at + layout.area_len = omega (arith, high, fits, can.valid.aligned.recovery_at, can.valid.aligned.area_len) in
-      record { apart = by_side low end can.valid.apart.recovery_staging; whole = (recovery_fills n).whole }
+      (low, omega (arith, high, fits, can.valid.aligned.recovery_at, can.valid.aligned.area_len))
+
+  -- and apart from the staging area
+  recovery_apart : (n : ℕ) → holds_text layout.recovery_at capsule.length n ≡ true → IsPageApart layout.staging_at layout.area_len (recovery_page image layout.staging_at capsule.length layout) n
+  recovery_apart n holds =
+      let h = recovery_inside n holds in
+      record { apart = by_side h.0 h.1 can.valid.apart.recovery_staging; whole = (recovery_fills n).whole }
     where
       by_side : layout.recovery_at ≤ 4096 * n → 4096 * n + 4096 ≤ layout.recovery_at + layout.area_len → ((layout.recovery_at + layout.area_len ≤ layout.staging_at) ⊎ (layout.staging_at + layout.area_len ≤ layout.recovery_at))
           → (layout.staging_at + layout.area_len ≤ 4096 * n) ⊎ (4096 * n + 4096 ≤ layout.staging_at)

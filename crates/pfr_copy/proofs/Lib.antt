@@ -11,3 +11,4 @@ pub mod TouchLaw
 pub mod ResumeLaw
 pub mod CopyLemmas
 pub mod ClauseLaw
+pub mod RecoverLaw

@@ -2,3 +2,4 @@ pub mod Applying
 pub mod Working
 pub mod Marking
 pub mod Copied
+pub mod Recovering

@@ -5,8 +5,11 @@ ghost use Rattle.pfr_flash.specs.Layout.{IsBankSize};
 ghost use Rattle.pfr_copy.specs.Applying.{CanCopyOver};
 ghost use Rattle.pfr_copy.specs.Copied.{AddsPlan, Resumes, SetsMarks, written_pages};
 ghost use Rattle.pfr_copy.specs.Marking.{HasLog, LogStays, recovery_deeds};
+ghost use Rattle.pfr_copy.specs.Recovering.{HasJobBy};
+ghost use Rattle.pfr_engine.specs.Acceptance.{Acceptance};
 ghost use Rattle.pfr_rebuilt.specs.Copying.{holds_text, recovery_page, recovery_pages};
 ghost use Rattle.pfr_rebuilt.specs.Passing.{group_pages};
+ghost use Rattle.pfr_recoverable.specs.Recoverable.{IsRecoverable};
 ghost use Rattle.pfr_strokes.specs.Passes.{Passes};
 ghost use Rattle.pfr_strokes.specs.Replaced.{replaced};
 ghost use Rattle.pfr_strokes.specs.Strokes.{strokes_of};
@@ -52,6 +55,9 @@ pub fn copy_recovery<F: Flash>(
         OnOk result (SetsMarks marks held.old.bank (holds_text layout.now.recovery_at capsule.now.length) (group_pages (length image)) (length image / 4096) (now (F.device nv.old)) (now (F.device nv.new))) }
     // However it ends, it can be resumed by its marks.
     ensures resumes { Resumes marks held.old.bank (group_pages (length (now (F.device held.old.flash)))) (record { bank = F.device held.old.flash; store = F.device nv.old }) (record { bank = F.device held.new.flash; store = F.device nv.new }) }
+    // However it ends, a bank whose recovery job this is can be recovered.
+    ensures recoverable { (accepts : Acceptance) → HasJobBy layout.now held.old.bank (now (F.device held.old.flash)) (now (F.device nv.old)) accepts →
+        size_of (F.device nv.old) ≡ 32768 → IsRecoverable held.old.bank (now (F.device held.new.flash)) (now (F.device nv.new)) accepts }
     ensures bank { held.new.bank ≡ held.old.bank }
 {
     copy(held.flash(), nv, jobs, capsule, layout, JobKind::RecoveryFromStaging, marks)
