@@ -5,6 +5,8 @@ pub mod SeatLemmas
 pub mod CapsuleLemmas
 pub mod StandLemmas
 pub mod StoreLemmas
+pub mod StoredLemmas
+pub mod LogLemmas
 pub mod ProvisionLemmas
 pub mod TurnLemmas
 pub mod SoundLemmas

@@ -7,6 +7,7 @@ mod bringing;
 mod bus;
 mod desk;
 mod inner;
+mod jobs;
 mod judging;
 mod platform;
 mod preparing;
