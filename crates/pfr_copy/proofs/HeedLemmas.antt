@@ -132,16 +132,16 @@ module _ (kind : JobKind) (capsule : CapsuleState) (layout : Layout) (bank : Ban
     module _ (unset : is_marked (now a.store) bank number ≡ false) (c : Pair) where
       pub next_passes : {B : Type 0} (result : Result B CopyFail)
           → Passes (pass (job_page kind (now b.bank) capsule layout) (group_pages (length (now b.bank))) (marked_by (mark_plan (now b.store) bank))
-            (pages_of_group (is_job_page kind (now b.bank) capsule layout) (group_pages (length (now b.bank))) (length (now b.bank) / 4096) number)) b c result
+          (pages_of_group (is_job_page kind (now b.bank) capsule layout) (group_pages (length (now b.bank))) (length (now b.bank) / 4096) number)) b c result
           → Passes (pass (job_page kind (now a.bank) capsule layout) (group_pages (length (now a.bank))) (marked_by (mark_plan (now a.store) bank))
-            (pages_of_group (is_job_page kind (now a.bank) capsule layout) (group_pages (length (now a.bank))) (length (now a.bank) / 4096) number)) b c result
+          (pages_of_group (is_job_page kind (now a.bank) capsule layout) (group_pages (length (now a.bank))) (length (now a.bank) / 4096) number)) b c result
       next_passes result k = subst (λ (deeds : List Deed). Passes deeds b c result) (next_same (length (now b.bank)) heeded_same.size) k
 
       whole_passes : {B : Type 0} (result : Result B CopyFail)
           → Passes (pass (job_page kind (now b.bank) capsule layout) (group_pages (length (now b.bank))) (marked_by (mark_plan (now b.store) bank))
-            (pages_of_group (is_job_page kind (now b.bank) capsule layout) (group_pages (length (now b.bank))) (length (now b.bank) / 4096) number)) b c result
+          (pages_of_group (is_job_page kind (now b.bank) capsule layout) (group_pages (length (now b.bank))) (length (now b.bank) / 4096) number)) b c result
           → Passes (pass (job_page kind (now a.bank) capsule layout) (group_pages (length (now a.bank))) (marked_by (mark_plan (now a.store) bank))
-            (heeded (is_job_page kind (now a.bank) capsule layout) (is_marked (now a.store) bank) (group_pages (length (now a.bank))) (length (now a.bank) / 4096) (suc number))) a c result
+          (heeded (is_job_page kind (now a.bank) capsule layout) (is_marked (now a.store) bank) (group_pages (length (now a.bank))) (length (now a.bank) / 4096) (suc number))) a c result
       whole_passes result k =
           heeds_on (job_page kind (now a.bank) capsule layout) (group_pages (length (now a.bank))) (length (now a.bank) / 4096) some (is_job_page kind (now a.bank) capsule layout) (is_marked (now a.store) bank) (mark_plan (now a.store) bank)
           number a b c result unset h.did (next_passes result k)
@@ -149,11 +149,11 @@ module _ (kind : JobKind) (capsule : CapsuleState) (layout : Layout) (bank : Ban
       -- the next group was done
       pub heeded_on : number < 128 → ¬ (open_job (now a.store) bank ≡ job.None)
           → DidAll (pass (job_page kind (now b.bank) capsule layout) (group_pages (length (now b.bank))) (marked_by (mark_plan (now b.store) bank))
-            (pages_of_group (is_job_page kind (now b.bank) capsule layout) (group_pages (length (now b.bank))) (length (now b.bank) / 4096) number)) b c
+          (pages_of_group (is_job_page kind (now b.bank) capsule layout) (group_pages (length (now b.bank))) (length (now b.bank) / 4096) number)) b c
           → IsHeeded kind capsule layout bank a c (suc number)
       heeded_on small opened k =
           let done : DidAll (pass (job_page kind (now a.bank) capsule layout) (group_pages (length (now a.bank))) (marked_by (mark_plan (now a.store) bank))
-            (pages_of_group (is_job_page kind (now a.bank) capsule layout) (group_pages (length (now a.bank))) (length (now a.bank) / 4096) number)) b c = next_passes {B = Unit {0}} (Ok tt) k in
+          (pages_of_group (is_job_page kind (now a.bank) capsule layout) (group_pages (length (now a.bank))) (length (now a.bank) / 4096) number)) b c = next_passes {B = Unit {0}} (Ok tt) k in
           record {
             did = whole_passes {B = Unit {0}} (Ok tt) k;
             log = log_on (now a.store) bank (λ (g : ℕ). has_pages (pages_of_group (is_job_page kind (now a.bank) capsule layout) (group_pages (length (now a.bank))) (length (now a.bank) / 4096) g)) (now b.store) (now c.store) number h.log
@@ -173,7 +173,7 @@ module _ (kind : JobKind) (capsule : CapsuleState) (layout : Layout) (bank : Ban
       -- or failed
       pub heeded_stop : (B C : Type 0) (fail : CopyFail)
           → Passes {T = B} (pass (job_page kind (now b.bank) capsule layout) (group_pages (length (now b.bank))) (marked_by (mark_plan (now b.store) bank))
-            (pages_of_group (is_job_page kind (now b.bank) capsule layout) (group_pages (length (now b.bank))) (length (now b.bank) / 4096) number)) b c (Err fail)
+          (pages_of_group (is_job_page kind (now b.bank) capsule layout) (group_pages (length (now b.bank))) (length (now b.bank) / 4096) number)) b c (Err fail)
           → Passes {T = C} (heeding bank (now a.store) (job_page kind (now a.bank) capsule layout) (group_pages (length (now a.bank))) (job_pages kind (now a.bank) capsule layout)) a c (Err fail)
       heeded_stop B C fail k =
           heeds_stop (job_page kind (now a.bank) capsule layout) (group_pages (length (now a.bank))) (length (now a.bank) / 4096) some (is_job_page kind (now a.bank) capsule layout) (is_marked (now a.store) bank) (mark_plan (now a.store) bank)

@@ -12,3 +12,4 @@ pub mod ResumeLaw
 pub mod CopyLemmas
 pub mod ClauseLaw
 pub mod RecoverLaw
+pub mod AreaLaw

@@ -50,15 +50,24 @@ module _ (capsule : CapsuleState) (layout : Layout) (bank : Bank) (a b : Pair) (
 
   all_pass : (marks : Marks) → AllPassDeeds layout (current_at (now a.store) bank)
       (marks_deeds marks bank (now a.store) (recovery_page (now a.bank) layout.staging_at capsule.length layout) (group_pages (length (now a.bank))) (recovery_pages layout capsule.length (length (now a.bank))))
-  all_pass Heed = (tt, pages_pass layout (current_at (now a.store) bank) (recovery_page (now a.bank) layout.staging_at capsule.length layout) (group_pages (length (now a.bank))) (marked_by (mark_plan (now a.store) bank))
-      (written_pages Heed bank (now a.store) (group_pages (length (now a.bank))) (recovery_pages layout capsule.length (length (now a.bank))))
-      (λ n one. area_page n (written_are Heed bank (now a.store) (group_pages (length (now a.bank))) (recovery_pages layout capsule.length (length (now a.bank))) n one))
-      (λ n one. mark_deeds layout (now a.store) bank (n / group_pages (length (now a.bank)))
-      (small_group (length (now a.bank)) n (area_are n (written_are Heed bank (now a.store) (group_pages (length (now a.bank))) (recovery_pages layout capsule.length (length (now a.bank))) n one)).0)))
-  all_pass Ignore = (tt, pages_pass layout (current_at (now a.store) bank) (recovery_page (now a.bank) layout.staging_at capsule.length layout) (group_pages (length (now a.bank))) unmarked
-      (recovery_pages layout capsule.length (length (now a.bank))) (λ n one. area_page n one) (λ n one. tt))
-  all_pass Without = (tt, pages_pass layout (current_at (now a.store) bank) (recovery_page (now a.bank) layout.staging_at capsule.length layout) (group_pages (length (now a.bank))) unmarked
-      (recovery_pages layout capsule.length (length (now a.bank))) (λ n one. area_page n one) (λ n one. tt))
+  all_pass Heed = (
+    tt,
+    pages_pass layout (current_at (now a.store) bank) (recovery_page (now a.bank) layout.staging_at capsule.length layout) (group_pages (length (now a.bank))) (marked_by (mark_plan (now a.store) bank))
+        (written_pages Heed bank (now a.store) (group_pages (length (now a.bank))) (recovery_pages layout capsule.length (length (now a.bank))))
+        (λ n one. area_page n (written_are Heed bank (now a.store) (group_pages (length (now a.bank))) (recovery_pages layout capsule.length (length (now a.bank))) n one))
+        (λ n one. mark_deeds layout (now a.store) bank (n / group_pages (length (now a.bank)))
+        (small_group (length (now a.bank)) n (area_are n (written_are Heed bank (now a.store) (group_pages (length (now a.bank))) (recovery_pages layout capsule.length (length (now a.bank))) n one)).0)),
+  )
+  all_pass Ignore = (
+    tt,
+    pages_pass layout (current_at (now a.store) bank) (recovery_page (now a.bank) layout.staging_at capsule.length layout) (group_pages (length (now a.bank))) unmarked
+        (recovery_pages layout capsule.length (length (now a.bank))) (λ n one. area_page n one) (λ n one. tt),
+  )
+  all_pass Without = (
+    tt,
+    pages_pass layout (current_at (now a.store) bank) (recovery_page (now a.bank) layout.staging_at capsule.length layout) (group_pages (length (now a.bank))) unmarked
+        (recovery_pages layout capsule.length (length (now a.bank))) (λ n one. area_page n one) (λ n one. tt),
+  )
 
   pub recoverable_by : IsBankSize (size_of a.bank) → (marks : Marks) (result : Result (Unit {0}) CopyFail)
       → Passes (marks_deeds marks bank (now a.store) (recovery_page (now a.bank) layout.staging_at capsule.length layout) (group_pages (length (now a.bank))) (recovery_pages layout capsule.length (length (now a.bank)))) a b result

@@ -66,7 +66,7 @@ module _ (kind : JobKind) (capsule : CapsuleState) (layout : Layout) (bank : Ban
     module _ (few : number < 128) (unset : is_marked (now a.store) bank number ≡ false) (c : Pair) (other : Bank) (same : other ≡ bank)
         (others : (g : ℕ) → g < 128 → ¬ (g ≡ number) → is_marked (now c.store) other g ≡ is_marked (now b.store) other g) where
       of_next : {T : Type 0} (result : Result T CopyFail) → Passes (pass (job_page kind (now b.bank) capsule layout) (group_pages (length (now b.bank))) (marked_by (mark_plan (now b.store) bank))
-            (pages_of_group (is_job_page kind (now b.bank) capsule layout) (group_pages (length (now b.bank))) (length (now b.bank) / 4096) number)) b c result
+          (pages_of_group (is_job_page kind (now b.bank) capsule layout) (group_pages (length (now b.bank))) (length (now b.bank) / 4096) number)) b c result
           → (ops : List Operation) → c.bank.ops ≡ a.bank.ops ++ ops → (n : ℕ) → Touches ops n → is_marked (now c.store) bank (n / (group_pages (length (now a.bank)))) ≡ false → n / (group_pages (length (now a.bank))) ≡ number
       of_next {T} result k ops added n touches unmarked = by_side (touches_two first last n (subst (λ (done : List Operation). Touches done n) split touches))
         where
@@ -94,8 +94,8 @@ module _ (kind : JobKind) (capsule : CapsuleState) (layout : Layout) (bank : Ban
               (λ page there. own_whole number page there) (next_passes kind capsule layout bank a b number h can bytes unset c result k) last (adds_plan _ b c _ result refl k).part.is n now_touched)
 
       pub one_failed : {T : Type 0} (result : Result T CopyFail) → Passes (pass (job_page kind (now b.bank) capsule layout) (group_pages (length (now b.bank))) (marked_by (mark_plan (now b.store) other))
-            (pages_of_group (is_job_page kind (now b.bank) capsule layout) (group_pages (length (now b.bank))) (length (now b.bank) / 4096) number)) b c result → OpensOne bank (group_pages (length (now a.bank))) a c
+          (pages_of_group (is_job_page kind (now b.bank) capsule layout) (group_pages (length (now b.bank))) (length (now b.bank) / 4096) number)) b c result → OpensOne bank (group_pages (length (now a.bank))) a c
       one_failed {T} result k ops added n m touched_n touched_m unmarked_n unmarked_m =
           let by_bank = subst (λ (which : Bank). Passes (pass (job_page kind (now b.bank) capsule layout) (group_pages (length (now b.bank))) (marked_by (mark_plan (now b.store) which))
-            (pages_of_group (is_job_page kind (now b.bank) capsule layout) (group_pages (length (now b.bank))) (length (now b.bank) / 4096) number)) b c result) same k in
+          (pages_of_group (is_job_page kind (now b.bank) capsule layout) (group_pages (length (now b.bank))) (length (now b.bank) / 4096) number)) b c result) same k in
           of_next result by_bank ops added n touched_n unmarked_n ∙ sym (of_next result by_bank ops added m touched_m unmarked_m)

@@ -197,7 +197,7 @@ module _ (kind : JobKind) (image : List ℕ) (capsule : CapsuleState) (layout : 
             let low : layout.manifest_at ≤ 4096 * n = grind (arith, nat_tests) in
             inl (omega (arith, low, behind))
 
-    page_apart : (n : ℕ) → is_active_page kind image capsule layout n ≡ true → (place + layout.area_len ≤ 4096 * n) ⊎ (4096 * n + 4096 ≤ place)
+    pub page_apart : (n : ℕ) → is_active_page kind image capsule layout n ≡ true → (place + layout.area_len ≤ 4096 * n) ⊎ (4096 * n + 4096 ≤ place)
     unfolding is_active_page
     page_apart n h = by_area (holds_text layout.manifest_at layout.manifest_len n) refl h
       where

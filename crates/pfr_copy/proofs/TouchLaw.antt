@@ -91,9 +91,10 @@ part_on image pages [] (op ∷ ops) all p = absurd p
 part_on image pages (next ∷ plan) (op ∷ ops) all (inl whole) =
     (subst (λ (o : Operation). IsOnOne pages o) (sym whole.0) all.0, part_on (applied image next) pages plan ops all.1 whole.1)
 part_on image pages (next ∷ plan) (op ∷ ops) all (inr t) =
-    let same = IsTorn-within image next op t.0 in
-    (record { page = all.0.page; one = all.0.one; within = record { low = omega (arith, all.0.within.low, same.0); high = omega (arith, all.0.within.high, same.0, same.1) } },
-    subst (λ (rest : List Operation). AllOnOne pages rest) (sym t.1) tt)
+    let same = IsTorn-within image next op t.0 in (
+      record { page = all.0.page; one = all.0.one; within = record { low = omega (arith, all.0.within.low, same.0); high = omega (arith, all.0.within.high, same.0, same.1) } },
+      subst (λ (rest : List Operation). AllOnOne pages rest) (sym t.1) tt,
+    )
 
 pub touched_one : (pages : List ℕ) (ops : List Operation) (n : ℕ) → AllOnOne pages ops → Touches ops n → IsOneOf n pages
 touched_one pages [] n all touches = absurd touches

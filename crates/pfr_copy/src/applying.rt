@@ -6,8 +6,11 @@ ghost use Rattle.pfr_flash.specs.Plan.{Follows};
 ghost use Rattle.pfr_copy.specs.Applying.{CanApply, IsActive};
 ghost use Rattle.pfr_copy.specs.Copied.{AddsPlan, Resumes, SetsMarks, written_pages};
 ghost use Rattle.pfr_copy.specs.Marking.{HasLog, LogStays, active_deeds};
+ghost use Rattle.pfr_copy.specs.Recovering.{HasAreaBy};
+ghost use Rattle.pfr_engine.specs.Acceptance.{Acceptance};
 ghost use Rattle.pfr_rebuilt.specs.ActiveCopying.{active_page, active_pages, active_rebuilt, is_active_page};
 ghost use Rattle.pfr_rebuilt.specs.Passing.{group_pages};
+ghost use Rattle.pfr_recoverable.specs.Recoverable.{HasGoodRecovery};
 ghost use Rattle.pfr_strokes.specs.Passes.{Passes};
 ghost use Rattle.pfr_strokes.specs.Replaced.{replaced};
 ghost use Rattle.pfr_strokes.specs.Strokes.{strokes_of};
@@ -57,7 +60,10 @@ pub fn apply<F: Flash>(
     // At Ok exactly the groups are marked that were, or that have a page of the job; without marks the store is as it was.
     ensures marked { let image = now (F.device held.old.flash) in
         OnOk result (SetsMarks marks held.old.bank (is_active_page kind image capsule.now layout.now) (group_pages (length image)) (length image / 4096) (now (F.device nv.old)) (now (F.device nv.new))) }
-    // However it ends, it can be resumed by its marks.
+    // However it ends, a recovery area that was good is so still.
+    ensures recoverable { (accepts : Acceptance) → HasAreaBy layout.now held.old.bank (now (F.device held.old.flash)) (now (F.device nv.old)) accepts →
+        size_of (F.device nv.old) ≡ 32768 → HasGoodRecovery held.old.bank (now (F.device held.new.flash)) (now (F.device nv.new)) accepts }
+    // It can be resumed by its marks.
     ensures resumes { Resumes marks held.old.bank (group_pages (length (now (F.device held.old.flash)))) (record { bank = F.device held.old.flash; store = F.device nv.old }) (record { bank = F.device held.new.flash; store = F.device nv.new }) }
     ensures bank { held.new.bank ≡ held.old.bank }
 {

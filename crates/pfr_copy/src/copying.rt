@@ -47,7 +47,7 @@ fn replace_ignoring<F: Flash>(
     requires can { CanDo kind (now (F.device flash.old)) layout.now capsule.now }
     ensures { let image = now (F.device flash.old) in (store : FlashState) →
         Passes (ignoring (job_page kind image capsule.now layout.now) (group_pages (length image)) (job_pages kind image capsule.now layout.now))
-            (record { bank = F.device flash.old; store = store }) (record { bank = F.device flash.new; store = store }) result }
+        (record { bank = F.device flash.old; store = store }) (record { bank = F.device flash.new; store = store }) result }
 {
     match replace_all(flash, capsule, layout, kind) {
         Ok(()) => Ok(()),

@@ -48,8 +48,8 @@ fn replace_group<F: Flash>(
     requires group { group < 128 }
     ensures passes { let image = now (F.device flash.old) in
         Passes (pass (job_page kind image capsule.now layout.now) (group_pages (length image)) (marked_by (mark_plan (now (F.device nv.old)) jobs.old.bank))
-            (pages_of_group (is_job_page kind image capsule.now layout.now) (group_pages (length image)) (length image / 4096) group))
-            (record { bank = F.device flash.old; store = F.device nv.old }) (record { bank = F.device flash.new; store = F.device nv.new }) result }
+        (pages_of_group (is_job_page kind image capsule.now layout.now) (group_pages (length image)) (length image / 4096) group))
+        (record { bank = F.device flash.old; store = F.device nv.old }) (record { bank = F.device flash.new; store = F.device nv.new }) result }
     ensures stands { OnOk result (jobs.new ≡ log_of (now (F.device nv.new)) jobs.old.bank) }
     ensures others { (other : ℕ) → other < 128 → other ≢ group →
         is_marked (now (F.device nv.new)) jobs.old.bank other ≡ is_marked (now (F.device nv.old)) jobs.old.bank other }
@@ -84,7 +84,7 @@ pub fn replace_heeding<F: Flash>(
     requires open { jobs.old.job ≢ job.None }
     ensures passes { let image = now (F.device flash.old) in
         Passes (heeding jobs.old.bank (now (F.device nv.old)) (job_page kind image capsule.now layout.now) (group_pages (length image)) (job_pages kind image capsule.now layout.now))
-            (record { bank = F.device flash.old; store = F.device nv.old }) (record { bank = F.device flash.new; store = F.device nv.new }) result }
+        (record { bank = F.device flash.old; store = F.device nv.old }) (record { bank = F.device flash.new; store = F.device nv.new }) result }
     ensures stands { OnOk result (jobs.new ≡ log_of (now (F.device nv.new)) jobs.old.bank) }
     ensures marked { let image = now (F.device flash.old) in
         OnOk result (MarksGroups jobs.old.bank (is_job_page kind image capsule.now layout.now) (group_pages (length image)) (length image / 4096) (now (F.device nv.old)) (now (F.device nv.new))) }

@@ -60,5 +60,13 @@ pub fn copy_recovery<F: Flash>(
         size_of (F.device nv.old) ≡ 32768 → IsRecoverable held.old.bank (now (F.device held.new.flash)) (now (F.device nv.new)) accepts }
     ensures bank { held.new.bank ≡ held.old.bank }
 {
-    copy(held.flash(), nv, jobs, capsule, layout, JobKind::RecoveryFromStaging, marks)
+    copy(
+        held.flash(),
+        nv,
+        jobs,
+        capsule,
+        layout,
+        JobKind::RecoveryFromStaging,
+        marks,
+    )
 }

@@ -23,7 +23,7 @@ use Rattle.pfr_recoverable.proofs.StaysLaw.{job_left}
 abbrev pub IsInLogs : Operation → Type 0
 IsInLogs op = IsWithin 0x1000 0x6000 op
 
-logs_same : (nv : List ℕ) (op : Operation) → length nv ≡ 32768 → IsInLogs op → fuses_of (applied nv op) ≡ fuses_of nv
+pub logs_same : (nv : List ℕ) (op : Operation) → length nv ≡ 32768 → IsInLogs op → fuses_of (applied nv op) ≡ fuses_of nv
 logs_same nv op size inside = fuses_of-same nv (applied nv op) (record {
   outside = SameOutside-wider (place_of op) (len_of op) 4096 24576 nv (applied nv op) (omega (arith, inside.low)) (omega (arith, inside.high)) (SameOutside-applied nv op);
   size = length-applied nv op;

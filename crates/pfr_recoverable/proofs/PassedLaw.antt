@@ -103,7 +103,7 @@ mark_deeds layout nv b group small = by_set (is_marked nv b group)
     by_set false = by_last (last_gated (current_page nv b) 64) (last_of (current_page nv b) 64)
 
 -- ---- a call that is to do them
-Failed-now : (fail : FlashFail) (ops : List Operation) (old new : FlashState) → Failed fail ops old new → now new ≡ play (now old) ops
+pub Failed-now : (fail : FlashFail) (ops : List Operation) (old new : FlashState) → Failed fail ops old new → now new ≡ play (now old) ops
 Failed-now fail ops old new h =
     ap (λ (s : List ℕ). play s new.ops) h.worked.moved.start ∙ ap (λ (o : List Operation). play old.start o) h.done ∙ play-append old.start old.ops ops
 

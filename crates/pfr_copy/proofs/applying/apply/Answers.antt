@@ -2,6 +2,7 @@ use Rattle.std.proofs.Common.{◌/◌, List, length, subst}
 use Rattle.pfr_flash.specs.FlashState.{now}
 use Rattle.pfr_flash.proofs.HoldingLemmas.{now_bytes}
 use Rattle.pfr_rebuilt.specs.ActiveCopying.{active_page, active_pages, is_active_page}
+use Rattle.pfr_copy.proofs.AreaLaw.{area_by}
 use Rattle.pfr_copy.proofs.ClauseLaw.{active_is, active_same, marks_by, passes_by, rebuilt_by, resumes_by, strokes_by}
 use Rattle.pfr_copy.proofs.JobLaw.{active_can}
 use Rattle.pfr_strokes.specs.Deeds.{Deed}
@@ -45,3 +46,12 @@ returns-clause-resumes g c =
     let by = passes_by c.args.kind c.args.capsule.now c.args.layout.now c.args.held.now.bank (record { bank = d; store = nv }) (record { bank = g.F.Flash.device c.copy.new.flash; store = g.F.Flash.device c.copy.new.nv }) (active_page (now d) c.args.capsule.now c.args.layout.now) (is_active_page c.args.kind (now d) c.args.capsule.now c.args.layout.now) (active_pages c.args.kind (now d) c.args.capsule.now c.args.layout.now) (active_is c.args.kind c.requires.kind (now d) c.args.capsule.now c.args.layout.now)
     c.copy.result c.args.marks c.args.jobs.now _ c.requires.log (rw c.flash.ensures.value at c.copy.ensures.passes) in
     resumes_by c.args.kind c.args.capsule.now c.args.layout.now c.args.held.now.bank (record { bank = d; store = nv }) (record { bank = g.F.Flash.device c.copy.new.flash; store = g.F.Flash.device c.copy.new.nv }) (active_page (now d) c.args.capsule.now c.args.layout.now) (is_active_page c.args.kind (now d) c.args.capsule.now c.args.layout.now) (active_pages c.args.kind (now d) c.args.capsule.now c.args.layout.now) (active_is c.args.kind c.requires.kind (now d) c.args.capsule.now c.args.layout.now) c.copy.result (active_can c.args.kind c.requires.kind (now d) c.args.capsule.now c.args.layout.now c.requires.can) (now_bytes d (g.met.F.Flash.holds_bytes c.args.held.now.flash)) c.args.marks c.args.jobs.now _ c.requires.log by (rw c.flash.ensures.value at c.copy.ensures.one)
+
+pub returns-clause-recoverable : goal.returns-clause-recoverable
+returns-clause-recoverable g c =
+    let d = g.F.Flash.device c.args.held.now.flash in
+    let nv = g.F.Flash.device c.args.nv.now in
+    let by = passes_by c.args.kind c.args.capsule.now c.args.layout.now c.args.held.now.bank (record { bank = d; store = nv }) (record { bank = g.F.Flash.device c.copy.new.flash; store = g.F.Flash.device c.copy.new.nv }) (active_page (now d) c.args.capsule.now c.args.layout.now) (is_active_page c.args.kind (now d) c.args.capsule.now c.args.layout.now) (active_pages c.args.kind (now d) c.args.capsule.now c.args.layout.now) (active_is c.args.kind c.requires.kind (now d) c.args.capsule.now c.args.layout.now)
+    c.copy.result c.args.marks c.args.jobs.now _ c.requires.log (rw c.flash.ensures.value at c.copy.ensures.passes) in
+    area_by c.args.kind c.args.capsule.now c.args.layout.now c.args.held.now.bank (record { bank = d; store = nv }) (record { bank = g.F.Flash.device c.copy.new.flash; store = g.F.Flash.device c.copy.new.nv })
+    c.requires.can (now_bytes d (g.met.F.Flash.holds_bytes c.args.held.now.flash)) c.requires.size c.args.marks c.copy.result by

@@ -45,7 +45,7 @@ loop-group-preserved g c =
     let marks : is_cleared c.loop-group.jobs.marks c.loop-group.group ≡ is_marked (now (g.F.Flash.device c.loop-group.nv)) c.args.jobs.now.bank c.loop-group.group = ap (λ (l : LogState). is_cleared l.marks c.loop-group.group) stands in
     let first : is_marked (now (g.F.Flash.device c.args.nv.now)) c.args.jobs.now.bank c.loop-group.group ≡ c.marked.result = sym (c.loop-group.invariant.heeded.log.ahead c.loop-group.group (omega arith)) ∙ sym marks ∙ sym c.marked.ensures in
     elim c.if-not-marked.branch [
-      then-not-marked+in_ok-replace_group w ↦ record {
+      | then-not-marked+in_ok-replace_group w ↦ record {
         few = omega (arith, c.loop-group-test.true);
         heeded = rw (w.flash-is, w.nv-is)
             (kept_on c.args.kind c.args.capsule.now c.args.layout.now c.args.jobs.now.bank (record { bank = g.F.Flash.device c.args.flash.now; store = g.F.Flash.device c.args.nv.now }) (record { bank = g.F.Flash.device c.loop-group.flash; store = g.F.Flash.device c.loop-group.nv }) c.loop-group.group c.loop-group.invariant.heeded c.requires.can (now_bytes (g.F.Flash.device c.args.flash.now) (g.met.F.Flash.holds_bytes c.args.flash.now))
