@@ -3,3 +3,12 @@ pub mod ContentsLemmas
 pub mod PlanLemmas
 pub mod SourcesLaw
 pub mod JudgedLaw
+pub mod JobLaw
+pub mod MarkLaw
+pub mod GroupSteps
+pub mod HeedLemmas
+pub mod TouchLaw
+pub mod ResumeLaw
+pub mod CopyLemmas
+pub mod ClauseLaw
+pub mod RecoverLaw

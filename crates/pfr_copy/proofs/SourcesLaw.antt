@@ -91,14 +91,7 @@ module _ (image later : List ℕ) (capsule : CapsuleState) (layout : Layout) (s 
       ∙ ap (λ (xs : List ℕ). if holds_text layout.manifest_at layout.manifest_len n then text_page (bytes_at image capsule.signed_manifest.at capsule.signed_manifest.len) (4096 * n - layout.manifest_at) else xs)
       (ap (λ (p : Page). page_bytes later p) (same_page n) ∙ given_same n below)
 
-  -- what is done for a page is the same
-  pub same_plan : (kind : JobKind) (n : ℕ) → n < capsule.pages.bits
-      → page_plan (active_page later capsule layout) (is_active_page kind later capsule layout) n ≡ page_plan (active_page image capsule layout) (is_active_page kind image capsule layout) n
-  same_plan kind n below =
-      ap (λ (b : Bool). if b then strokes n (active_page later capsule layout n) else []) (same_test kind n)
-      ∙ ap (λ (xs : List ℕ). if is_active_page kind image capsule layout n then strokes n xs else []) (same_content n below)
-
-  lies_later : (place : ℕ) → LiesAt image place layout.area_len capsule → LiesAt later place layout.area_len capsule
+  pub lies_later : (place : ℕ) → LiesAt image place layout.area_len capsule → LiesAt later place layout.area_len capsule
   lies_later place h = record {
     within = h.within;
     signed_manifest = h.signed_manifest;
@@ -136,7 +129,7 @@ pub record IsPageApart (from len : ℕ) (content : ℕ → List ℕ) (page : ℕ
   pub apart : (from + len ≤ 4096 * page) ⊎ (4096 * page + 4096 ≤ from)
   pub whole : length (content page) ≡ 4096
 
-strokes_leave : (image : List ℕ) (content : ℕ → List ℕ) (pages : List ℕ) (from len : ℕ) → ((page : ℕ) → IsOneOf page pages → IsPageApart from len content page) → from + len ≤ length image
+pub strokes_leave : (image : List ℕ) (content : ℕ → List ℕ) (pages : List ℕ) (from len : ℕ) → ((page : ℕ) → IsOneOf page pages → IsPageApart from len content page) → from + len ≤ length image
     → bytes_at (play image (strokes_of content pages)) from len ≡ bytes_at image from len
 unfolding strokes_of
 strokes_leave image content [] from len each inside = refl
@@ -181,7 +174,7 @@ module _ (kind : JobKind) (image : List ℕ) (capsule : CapsuleState) (layout : 
   no_and false k = false≢true k
 
   -- each is to hold a page's bytes
-  fills : (n : ℕ) → n < length image / 4096 → is_active_page kind image capsule layout n ≡ true → IsPage (active_page image capsule layout n)
+  pub fills : (n : ℕ) → n < length image / 4096 → is_active_page kind image capsule layout n ≡ true → IsPage (active_page image capsule layout n)
   unfolding is_active_page active_page
   fills n below h = by_area (holds_text layout.manifest_at layout.manifest_len n) (is_kept (page_of image capsule.pages n)) refl h
     where
@@ -190,18 +183,6 @@ module _ (kind : JobKind) (image : List ℕ) (capsule : CapsuleState) (layout : 
       by_area true kept e h = text_fills (bytes_at image capsule.signed_manifest.at capsule.signed_manifest.len) (AreBytes-bytes_at image capsule.signed_manifest.at capsule.signed_manifest.len bytes) (4096 * n - layout.manifest_at)
       by_area false false e h = page_gives image bytes capsule n can.index (omega (arith, can.bits, below)) e
       by_area false true e h = absurd (no_and (in_some_region (filter (λ (region : Region). is_taken kind region) capsule.manifest.regions) n) h)
-
-  all_can : (list : List ℕ) → ((n : ℕ) → IsOneOf n list → (n < length image / 4096) × (is_active_page kind image capsule layout n ≡ true)) → AllCan (length image) (active_page image capsule layout) list
-  all_can [] each = tt
-  all_can (n ∷ list) each =
-      let e = each n (inl refl) in
-      (record { inside = omega (arith, e.0); fills = fills n e.0 e.1 }, all_can list (λ m one. each m (inr one)))
-
-  -- The strokes of the job's pages leave the image as the job does.
-  pub applied_is : play image (strokes_of (active_page image capsule layout) (active_pages kind image capsule layout)) ≡ active_rebuilt kind image capsule layout
-  unfolding active_pages
-  applied_is = strokes_replace image (active_page image capsule layout) (pages_below (is_active_page kind image capsule layout) (length image / 4096))
-      (all_can (pages_below (is_active_page kind image capsule layout) (length image / 4096)) (λ m there. (pages_are (is_active_page kind image capsule layout) (length image / 4096)).only m there))
 
   -- each lies apart from an area that the manifest area and each region are clear of
   module _ (place : ℕ) (manifest : AreApart layout.manifest_at layout.manifest_len place layout.area_len) (clear : All (λ (r : Region). IsClearOf r place layout.area_len × (r.end % 4096 ≡ 0)) capsule.manifest.regions) where
@@ -230,47 +211,23 @@ module _ (kind : JobKind) (image : List ℕ) (capsule : CapsuleState) (layout : 
         by_area false e k = region_apart place layout.area_len n (λ (region : Region). is_taken kind region) capsule.manifest.regions clear
             (first (in_some_region (filter (λ (region : Region). is_taken kind region) capsule.manifest.regions) n) (not (is_kept (page_of image capsule.pages n))) k)
 
-    area_stays : (k : ℕ) → k ≤ length image / 4096 → place + layout.area_len ≤ length image
-        → bytes_at (play image (strokes_of (active_page image capsule layout) (pages_below (is_active_page kind image capsule layout) k))) place layout.area_len ≡ bytes_at image place layout.area_len
-    area_stays k few inside =
-        strokes_leave image (active_page image capsule layout) (pages_below (is_active_page kind image capsule layout) k) place layout.area_len
-        (λ n one.
-        let is = (pages_are (is_active_page kind image capsule layout) k).only n one in
-        record { apart = page_apart n is.1; whole = (fills n (omega (arith, is.0, few)) is.1).whole })
+    area_stays : (pages : List ℕ) → ((n : ℕ) → IsOneOf n pages → (n < length image / 4096) × (is_active_page kind image capsule layout n ≡ true)) → place + layout.area_len ≤ length image
+        → bytes_at (play image (strokes_of (active_page image capsule layout) pages)) place layout.area_len ≡ bytes_at image place layout.area_len
+    area_stays pages each inside =
+        strokes_leave image (active_page image capsule layout) pages place layout.area_len
+        (λ n one. record { apart = page_apart n (each n one).1; whole = (fills n (each n one).0 (each n one).1).whole })
         inside
 
-  -- Once the strokes of the pages below a number are done, what is read of the capsule is as it was.
-  pub sources_stay : (k : ℕ) → k ≤ length image / 4096
-      → SameSources image (play image (strokes_of (active_page image capsule layout) (pages_below (is_active_page kind image capsule layout) k))) capsule
-  sources_stay k few = by_area can.lies
+  -- Once the strokes of some of them are done, what is read of the capsule is as it was.
+  pub sources_stay : (pages : List ℕ) → ((n : ℕ) → IsOneOf n pages → (n < length image / 4096) × (is_active_page kind image capsule layout n ≡ true))
+      → SameSources image (play image (strokes_of (active_page image capsule layout) pages)) capsule
+  sources_stay pages each = by_area can.lies
     where
-      size : length (play image (strokes_of (active_page image capsule layout) (pages_below (is_active_page kind image capsule layout) k))) ≡ length image
-      size = length-play image (strokes_of (active_page image capsule layout) (pages_below (is_active_page kind image capsule layout) k))
+      size : length (play image (strokes_of (active_page image capsule layout) pages)) ≡ length image
+      size = length-play image (strokes_of (active_page image capsule layout) pages)
 
-      by_area : LiesInArea image layout capsule → SameSources image (play image (strokes_of (active_page image capsule layout) (pages_below (is_active_page kind image capsule layout) k))) capsule
+      by_area : LiesInArea image layout capsule → SameSources image (play image (strokes_of (active_page image capsule layout) pages)) capsule
       by_area (inl lies) = sources_same image _ capsule layout.recovery_at layout.area_len lies size
-          (area_stays layout.recovery_at can.valid.apart.manifest_recovery (λ i d below. let r = can.regions i d below in (r.clear_of_recovery, r.end_aligned)) k few can.valid.inside.recovery)
+          (area_stays layout.recovery_at can.valid.apart.manifest_recovery (λ i d below. let r = can.regions i d below in (r.clear_of_recovery, r.end_aligned)) pages each can.valid.inside.recovery)
       by_area (inr lies) = sources_same image _ capsule layout.staging_at layout.area_len lies size
-          (area_stays layout.staging_at can.valid.apart.manifest_staging (λ i d below. let r = can.regions i d below in (r.clear_of_staging, r.end_aligned)) k few can.valid.inside.staging)
-
--- ---- the same of a device
-module _ (kind : JobKind) (capsule : CapsuleState) (layout : Layout) (a : FlashState) (can : CanApply (now a) layout capsule) (holds : HoldsBytes a) where
-  pub sources_at : (k : ℕ) (b : FlashState) → k ≤ length (now a) / 4096
-      → Follows {A = Unit {0}} (strokes_of (active_page (now a) capsule layout) (pages_below (is_active_page kind (now a) capsule layout) k)) a b (Ok tt) → SameSources (now a) (now b) capsule
-  sources_at k b few h =
-      subst (λ (image : List ℕ). SameSources (now a) image capsule) (sym (Follows-now (strokes_of (active_page (now a) capsule layout) (pages_below (is_active_page kind (now a) capsule layout) k)) a b tt h))
-      (sources_stay kind (now a) capsule layout can (now_bytes a holds) k few)
-
-  pub can_still : (k : ℕ) (b : FlashState) → k ≤ length (now a) / 4096
-      → Follows {A = Unit {0}} (strokes_of (active_page (now a) capsule layout) (pages_below (is_active_page kind (now a) capsule layout) k)) a b (Ok tt) → CanApply (now b) layout capsule
-  can_still k b few h = can_later (now a) (now b) capsule layout (sources_at k b few h) can
-
-  pub plan_still : (k : ℕ) (b : FlashState) → k < length (now a) / 4096
-      → Follows {A = Unit {0}} (strokes_of (active_page (now a) capsule layout) (pages_below (is_active_page kind (now a) capsule layout) k)) a b (Ok tt)
-      → page_plan (active_page (now b) capsule layout) (is_active_page kind (now b) capsule layout) k ≡ page_plan (active_page (now a) capsule layout) (is_active_page kind (now a) capsule layout) k
-  plan_still k b few h = same_plan (now a) (now b) capsule layout (sources_at k b (omega (arith, few)) h) kind k (omega (arith, few, can.bits))
-
-pub pages_is : (kind : JobKind) (image : List ℕ) (capsule : CapsuleState) (layout : Layout) (all : ℕ) → all ≡ length image / 4096
-    → pages_below (is_active_page kind image capsule layout) all ≡ active_pages kind image capsule layout
-unfolding active_pages
-pages_is kind image capsule layout all is = ap (λ (n : ℕ). pages_below (is_active_page kind image capsule layout) n) is
+          (area_stays layout.staging_at can.valid.apart.manifest_staging (λ i d below. let r = can.regions i d below in (r.clear_of_staging, r.end_aligned)) pages each can.valid.inside.staging)

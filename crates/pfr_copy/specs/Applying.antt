@@ -1,4 +1,4 @@
--- What must hold where a capsule is applied to a bank.
+-- What must hold where a capsule is applied to a bank, or copied to its recovery area.
 use Rattle.std.specs.Prelude.{◌≡◌, ℕ, ◌*◌, ◌⊎◌, Bool, if◌then◌else◌, List, [], length, All}
 use Rattle.pfr_flash.specs.Layout.{IsValidLayout}
 use Rattle.pfr_flash.specs.Operation.{Operation}
@@ -29,6 +29,11 @@ pub record CanApply (image : List ℕ) (layout : Layout) (capsule : CapsuleState
   -- its maps have the bank's pages, and its regions lie in the bank
   pub bits : 4096 * capsule.pages.bits ≡ length image
   pub regions : All (IsRegion layout (length image)) capsule.manifest.regions
+
+-- A capsule that was judged in a bank's staging area lies there, and is to be copied to the recovery area.
+pub record CanCopyOver (image : List ℕ) (layout : Layout) (capsule : CapsuleState) : Type 0 where
+  pub valid : IsValidLayout layout (length image)
+  pub lies : LiesAt image layout.staging_at layout.area_len capsule
 
 -- what is done for a page: its strokes where it passes a test, else nothing
 abbrev pub page_plan : (ℕ → List ℕ) → (ℕ → Bool) → ℕ → List Operation

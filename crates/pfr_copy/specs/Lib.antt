@@ -1,1 +1,5 @@
 pub mod Applying
+pub mod Working
+pub mod Marking
+pub mod Copied
+pub mod Recovering

@@ -6,9 +6,10 @@ ghost use Rattle.pfr_flash.specs.Layout.{IsBankSize};
 ghost use Rattle.pfr_flash.specs.Reading.{EndsAt, failed_by};
 ghost use Rattle.pfr_capsule.specs.PageBytes.{page_bytes};
 ghost use Rattle.pfr_capsule.specs.Pages.{IsPayloadInside};
-ghost use Rattle.pfr_copy.specs.Applying.{CanApply, IsActive};
+ghost use Rattle.pfr_copy.specs.Applying.{CanApply, CanCopyOver, IsActive};
+ghost use Rattle.pfr_copy.specs.Working.{CanDo, is_job_page, job_page};
 ghost use Rattle.pfr_rebuilt.specs.ActiveCopying.{active_page, is_active_page, is_kept};
-ghost use Rattle.pfr_rebuilt.specs.Copying.{text_page};
+ghost use Rattle.pfr_rebuilt.specs.Copying.{holds_text, recovery_page, text_page};
 
 use crate::taking::{PAGE, holds_text, in_taken_region};
 use pfr_capsule::{Capsule, Page, Span};
@@ -58,9 +59,9 @@ fn given_page<F: Flash>(flash: &mut F, page: Page) -> Result<Option<PageBytes>, 
     }
 }
 
-/// What page `n` is to hold, where the job writes it.
+// What page `n` is to hold, where a job on the active image writes it.
 #[tactic(auto, unfolding(pfr_rebuilt::specs::ActiveCopying::is_active_page, pfr_rebuilt::specs::ActiveCopying::active_page))]
-pub fn new_page<F: Flash>(
+fn active_page<F: Flash>(
     flash: &mut F,
     capsule: &Capsule,
     layout: &Layout,
@@ -84,4 +85,54 @@ pub fn new_page<F: Flash>(
     }
     let page = capsule.pages().page(flash, n)?;
     given_page(flash, page)
+}
+
+// What page `n` is to hold, where it holds a byte of the capsule once this is copied to the recovery area.
+#[tactic(auto, unfolding(pfr_rebuilt::specs::Copying::recovery_page))]
+fn recovery_page<F: Flash>(
+    flash: &mut F,
+    capsule: &Capsule,
+    layout: &Layout,
+    n: u32,
+) -> Result<Option<PageBytes>, FlashFail>
+    requires size { IsBankSize (size_of (F.device flash.old)) }
+    requires can { CanCopyOver (now (F.device flash.old)) layout.now capsule.now }
+    requires page { 4096 * n < size_of (F.device flash.old) }
+    ensures found { let image = now (F.device flash.old) in
+        IfOk result (λ found. found ≡ (if holds_text layout.now.recovery_at capsule.now.length n then Some (recovery_page image layout.now.staging_at capsule.now.length layout.now n) else None)) }
+    ensures ends { EndsAt (failed_by (λ fail. Some fail) result) (F.device flash.old) (F.device flash.new) }
+{
+    if !holds_text(layout.recovery_at, capsule.length(), n) {
+        return Ok(None);
+    }
+    let staged = Span {
+        at: layout.staging_at,
+        len: capsule.length(),
+    };
+    let off = PAGE * n - layout.recovery_at;
+    Ok(Some(text_page(flash, staged, off)?))
+}
+
+/// What page `n` is to hold, where the job writes it.
+#[tactic(auto, unfolding(crate::specs::Working::is_job_page, crate::specs::Working::job_page))]
+pub fn new_page<F: Flash>(
+    flash: &mut F,
+    capsule: &Capsule,
+    layout: &Layout,
+    kind: JobKind,
+    n: u32,
+) -> Result<Option<PageBytes>, FlashFail>
+    requires size { IsBankSize (size_of (F.device flash.old)) }
+    requires can { CanDo kind (now (F.device flash.old)) layout.now capsule.now }
+    requires page { 4096 * n < size_of (F.device flash.old) }
+    ensures found { let image = now (F.device flash.old) in
+        IfOk result (λ found. found ≡ (if is_job_page kind image capsule.now layout.now n then Some (job_page kind image capsule.now layout.now n) else None)) }
+    ensures ends { EndsAt (failed_by (λ fail. Some fail) result) (F.device flash.old) (F.device flash.new) }
+{
+    match kind {
+        JobKind::ActiveFromRecovery { .. } | JobKind::ActiveFromStaging { .. } => {
+            active_page(flash, capsule, layout, kind, n)
+        }
+        JobKind::RecoveryFromStaging => recovery_page(flash, capsule, layout, n),
+    }
 }

@@ -6,6 +6,7 @@ use Rattle.std.specs.List.{list_all}
 use Rattle.pfr_flash.specs.Bytes.{bytes_at}
 use Rattle.pfr_flash.specs.FuseRow.{fuse_byte, with_cleared}
 use Rattle.pfr_flash.specs.Operation.{Operation, Program, applied}
+use Rattle.pfr_flash.specs.Range.{place_of, len_of}
 use Rattle.pfr_flash.specs.declared.names.Bank.{Bank}
 use Rattle.pfr_flash.proofs.BytesLemmas.{length-bytes_at, get_or-bytes_at}
 use Rattle.pfr_flash.proofs.PartsLemmas.{part_of}
@@ -142,43 +143,44 @@ module _ (nv : List ℕ) (b : Bank) (k : ℕ) (size : length nv ≡ 32768) (last
   gated : is_gated (current_page nv b) k ≡ true
   gated = (last_facts (current_page nv b) 64 k last).1
 
-  -- a program of one byte there
-  module _ (m byte : ℕ) (low : 0 < m) (high : m < 64) (at : ℕ) (is : at ≡ current_at nv b + (64 * k + m)) where
+  -- an operation on one byte there, whole or torn
+  module _ (done : Operation) (m : ℕ) (low : 0 < m) (high : m < 64) (is : place_of done ≡ current_at nv b + (64 * k + m)) (one : len_of done ≡ 1) where
     abbrev nv' : List ℕ
-    nv' = applied nv (Program at (byte ∷ []))
+    nv' = applied nv done
 
     then_size : length nv' ≡ 32768
-    then_size = length-applied nv (Program at (byte ∷ [])) ∙ size
+    then_size = length-applied nv done ∙ size
 
     same : (p : ℕ) → (p < current_at nv b + (64 * k + m)) ⊎ (current_at nv b + (64 * k + m) < p) → get_or nv' p 0 ≡ get_or nv p 0
-    same p apart = (SameOutside-applied nv (Program at (byte ∷ []))).stays p (by_place apart)
+    same p apart = (SameOutside-applied nv done).stays p (by_place apart)
       where
-        by_place : (p < current_at nv b + (64 * k + m)) ⊎ (current_at nv b + (64 * k + m) < p) → (p < at) ⊎ (at + 1 ≤ p)
+        by_place : (p < current_at nv b + (64 * k + m)) ⊎ (current_at nv b + (64 * k + m) < p) → (p < place_of done) ⊎ (place_of done + len_of done ≤ p)
         by_place (inl before) = inl (omega (arith, before, is))
-        by_place (inr behind) = inr (omega (arith, behind, is))
+        by_place (inr behind) = inr (omega (arith, behind, is, one))
 
-    program_state : log_of nv' b ≡ record (log_of nv b) { job = open_job nv' b; marks = marks_of nv' b }
-    program_state = state_kept nv nv' b k m size then_size few low high gated same
+    changed_state : log_of nv' b ≡ record (log_of nv b) { job = open_job nv' b; marks = marks_of nv' b }
+    changed_state = state_kept nv nv' b k m size then_size few low high gated same
 
-    program_marks : marks_of nv' b ≡ bytes_at (bytes_at nv' (current_at nv b) 4096) (64 * k + 36) 16
-    program_marks = marks_there nv nv' b k m size then_size few low high gated same last
+    -- the marks are those that stand in the slot now
+    pub changed_marks : marks_of nv' b ≡ bytes_at nv' (current_at nv b + 64 * k + 36) 16
+    changed_marks =
+        marks_there nv nv' b k m size then_size few low high gated same last
+        ∙ part_of nv' (current_at nv b) 4096 (64 * k + 36) 16 (omega (arith, few))
+        ∙ (let e : current_at nv b + (64 * k + 36) ≡ current_at nv b + 64 * k + 36 = omega arith in ap (λ (p : ℕ). bytes_at nv' p 16) e)
 
-    program_keeps : 52 ≤ m → marks_of nv' b ≡ marks_of nv b
-    program_keeps behind = marks_kept nv nv' b k m size then_size few low high gated same last behind
+    changed_behind : 52 ≤ m → marks_of nv' b ≡ marks_of nv b
+    changed_behind behind = marks_kept nv nv' b k m size then_size few low high gated same last behind
 
   -- A mark changes nothing but that it is one.
   pub mark_state : (group : ℕ) → group < 128 → log_of (applied nv (Program (current_at nv b + 64 * k + 36 + group / 8) (fuse_byte group ∷ []))) b ≡ record (log_of nv b) { marks = with_cleared (marks_of nv b) group }
   unfolding marks_of
   mark_state group small =
-      program_state (36 + group / 8) (fuse_byte group) (omega arith) (omega (arith, small)) at (omega arith)
+      changed_state op (36 + group / 8) (omega arith) (omega (arith, small)) (omega arith) refl
       ∙ ap (λ (j : OpenJob). record (log_of nv b) { job = j; marks = marks_of new b }) (mark_keeps nv b size op k group few small (omega arith) refl)
       ∙ ap (λ (marks : List ℕ). record (log_of nv b) { marks = marks }) marks
     where
-      at : ℕ
-      at = current_at nv b + 64 * k + 36 + group / 8
-
       op : Operation
-      op = Program at (fuse_byte group ∷ [])
+      op = Program (current_at nv b + 64 * k + 36 + group / 8) (fuse_byte group ∷ [])
 
       new : List ℕ
       new = applied nv op
@@ -188,15 +190,16 @@ module _ (nv : List ℕ) (b : Bank) (k : ℕ) (size : length nv ≡ 32768) (last
 
       marks : marks_of new b ≡ with_cleared (marks_of nv b) group
       marks =
-          program_marks (36 + group / 8) (fuse_byte group) (omega arith) (omega (arith, small)) at (omega arith)
-          ∙ part_of new (current_at nv b) 4096 (64 * k + 36) 16 (omega (arith, few))
-          ∙ ap (λ (p : ℕ). bytes_at new p 16) place
+          changed_marks op (36 + group / 8) (omega arith) (omega (arith, small)) (omega arith) refl
           ∙ clearing-row nv (current_at nv b + 64 * k + 36) 16 group (omega (arith, small)) (omega (arith, size, current_inside nv b, few))
           ∙ ap (λ (row : List ℕ). with_cleared row group)
-          (ap (λ (p : ℕ). bytes_at nv p 16) (sym place) ∙ sym (part_of nv (current_at nv b) 4096 (64 * k + 36) 16 (omega (arith, few))) ∙ sym (ap (λ (l : Option ℕ). marks_in (current_page nv b) l) last))
+            (ap (λ (p : ℕ). bytes_at nv p 16) (sym place) ∙ sym (part_of nv (current_at nv b) 4096 (64 * k + 36) 16 (omega (arith, few))) ∙ sym (ap (λ (l : Option ℕ). marks_in (current_page nv b) l) last))
 
   -- The end of a job changes nothing else than what is open.
-  pub end_state : log_of (applied nv (Program (current_at nv b + 64 * k + 63) (0 ∷ []))) b ≡ record (log_of nv b) { job = open_job (applied nv (Program (current_at nv b + 64 * k + 63) (0 ∷ []))) b }
+  abbrev ending : Operation
+  ending = Program (current_at nv b + 64 * k + 63) (0 ∷ [])
+
+  pub end_state : log_of (applied nv ending) b ≡ record (log_of nv b) { job = open_job (applied nv ending) b }
   end_state =
-      program_state 63 0 (omega arith) (omega arith) (current_at nv b + 64 * k + 63) (omega arith)
-      ∙ ap (λ (marks : List ℕ). record (log_of nv b) { job = open_job (applied nv (Program (current_at nv b + 64 * k + 63) (0 ∷ []))) b; marks = marks }) (program_keeps 63 0 (omega arith) (omega arith) (current_at nv b + 64 * k + 63) (omega arith) (omega arith))
+      changed_state ending 63 (omega arith) (omega arith) (omega arith) refl
+      ∙ ap (λ (marks : List ℕ). record (log_of nv b) { job = open_job (applied nv ending) b; marks = marks }) (changed_behind ending 63 (omega arith) (omega arith) (omega arith) refl (omega arith))

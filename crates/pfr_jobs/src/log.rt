@@ -1,15 +1,17 @@
 // A bank's log of jobs in the store.
-ghost use Rattle.std.specs.Prelude.{◌≡◌, ◌≢◌, ◌+◌, ◌%◌, ◌<◌, ◌≤◌, [], ◌∷◌, false, IfOk, OnOk, Some};
+ghost use Rattle.std.specs.Prelude.{◌≡◌, ◌≢◌, ◌⊎◌, ℕ, ◌+◌, ◌%◌, ◌<◌, ◌≤◌, [], ◌∷◌, true, false, IfOk, OnOk, OnErr, Some};
 ghost use Rattle.pfr_flash.specs.Bytes.{bytes_at};
 ghost use Rattle.pfr_flash.specs.FlashState.{now, size_of};
 ghost use Rattle.pfr_flash.specs.FuseRow.{is_cleared};
+ghost use Rattle.pfr_flash.specs.Losing.{AddsAtMost};
 ghost use Rattle.pfr_flash.specs.Operation.{Program};
 ghost use Rattle.pfr_flash.specs.Plan.{Follows};
 ghost use Rattle.pfr_flash.specs.Reading.{EndsAt, failed_by};
 ghost use Rattle.pfr_jobs.specs.Beginning.{Begins, free_slot, freeing};
-ghost use Rattle.pfr_jobs.specs.Log.{log_at};
+ghost use Rattle.pfr_jobs.specs.Log.{log_at, open_job};
 ghost use Rattle.pfr_jobs.specs.LogPlans.{IsKind, body_of, finish_plan, mark_plan};
-ghost use Rattle.pfr_jobs.specs.LogState.{is_spent_in, log_of};
+ghost use Rattle.pfr_jobs.specs.LogState.{is_marked, is_spent_in, log_of};
+ghost use Rattle.pfr_jobs.specs.Logged.{IsOpened, StaysInLog, begun, finished, marked};
 ghost use Rattle.pfr_jobs.specs.declared.job.OpenJob.TheVariants as job;
 
 use crate::job::{JobKind, OpenJob};
@@ -186,11 +188,8 @@ impl JobLog {
         self.marks.is_cleared(group)
     }
 
-    /// Begins a job, where none is open: in the first slot behind those that were used, or, where there is none, in the first one
-    /// of the other page, which is erased and made the current one before. Its gate is programmed last.
-    ///
-    /// After `JobFail::Flash` no job is open, or this one with no mark, and this log is of no more use.
-    pub fn begin<F: Flash>(
+    // Begins a job in the slot that is free for it.
+    fn begin_job<F: Flash>(
         &mut self,
         nv: &mut F,
         kind: JobKind,
@@ -212,13 +211,37 @@ impl JobLog {
         Ok(())
     }
 
-    /// Marks a group of pages in the job that is open, unless it is marked already.
+    /// Begins a job, where none is open: in the first slot behind those that were used, or, where there is none, in the first one
+    /// of the other page, which is erased and made the current one before. Its gate is programmed last.
     ///
-    /// After `Err` it is marked or not, and this log is of no more use.
-    pub fn mark<F: Flash>(&mut self, nv: &mut F, group: u32) -> Result<(), FlashFail>
+    /// After `JobFail::Flash` no job is open, or this one with no mark, and this log is of no more use.
+    pub fn begin<F: Flash>(
+        &mut self,
+        nv: &mut F,
+        kind: JobKind,
+        digest: &[u8; 32],
+    ) -> Result<(), JobFail>
         requires size { size_of (F.device nv.old) ≡ 32768 }
         requires stands { self.old ≡ log_of (now (F.device nv.old)) self.old.bank }
-        requires open { self.old.job ≢ job.None }
+        requires none { self.old.job ≡ job.None }
+        requires kind { IsKind kind }
+        ensures begins { Begins self.old.bank kind digest.now (F.device nv.old) (F.device nv.new) result }
+        ensures stands { OnOk result (self.new ≡ log_of (now (F.device nv.new)) self.old.bank) }
+        // The store is this one, byte for byte, and the job is open with no mark.
+        ensures exact { OnOk result (now (F.device nv.new) ≡ begun (now (F.device nv.old)) self.old.bank kind digest.now) }
+        ensures opened { OnOk result (IsOpened (now (F.device nv.new)) self.old.bank kind digest.now) }
+        ensures left { OnErr result ((open_job (now (F.device nv.new)) self.old.bank ≡ job.None) ⊎ IsOpened (now (F.device nv.new)) self.old.bank kind digest.now) }
+        // At each answer, no byte outside of the bank's three sectors was touched.
+        ensures within { StaysInLog self.old.bank (F.device nv.old) (F.device nv.new) }
+        ensures count { AddsAtMost 4 (F.device nv.old) (F.device nv.new) }
+    {
+        self.begin_job(nv, kind, digest)
+    }
+
+    // Marks a group in the slot that is open.
+    fn mark_group<F: Flash>(&mut self, nv: &mut F, group: u32) -> Result<(), FlashFail>
+        requires size { size_of (F.device nv.old) ≡ 32768 }
+        requires stands { self.old ≡ log_of (now (F.device nv.old)) self.old.bank }
         requires group { group < 128 }
         ensures follows { Follows (mark_plan (now (F.device nv.old)) self.old.bank group) (F.device nv.old) (F.device nv.new) result }
         ensures stands { OnOk result (self.new ≡ log_of (now (F.device nv.new)) self.old.bank) }
@@ -233,10 +256,31 @@ impl JobLog {
         Ok(())
     }
 
-    /// Finishes the job that is open.
+    /// Marks a group of pages in the job that is open, unless it is marked already.
     ///
-    /// After `Err` it is open or not, and this log is of no more use.
-    pub fn finish<F: Flash>(&mut self, nv: &mut F) -> Result<(), FlashFail>
+    /// After `Err` it is marked or not, and this log is of no more use.
+    pub fn mark<F: Flash>(&mut self, nv: &mut F, group: u32) -> Result<(), FlashFail>
+        requires size { size_of (F.device nv.old) ≡ 32768 }
+        requires stands { self.old ≡ log_of (now (F.device nv.old)) self.old.bank }
+        requires open { self.old.job ≢ job.None }
+        requires group { group < 128 }
+        ensures follows { Follows (mark_plan (now (F.device nv.old)) self.old.bank group) (F.device nv.old) (F.device nv.new) result }
+        ensures stands { OnOk result (self.new ≡ log_of (now (F.device nv.new)) self.old.bank) }
+        // The store is this one, byte for byte, and the group is marked.
+        ensures exact { OnOk result (now (F.device nv.new) ≡ marked (now (F.device nv.old)) self.old.bank (group ∷ [])) }
+        ensures marks { OnOk result (is_marked (now (F.device nv.new)) self.old.bank group ≡ true) }
+        // At each answer, the job stays open and no other mark changes.
+        ensures left { open_job (now (F.device nv.new)) self.old.bank ≡ open_job (now (F.device nv.old)) self.old.bank }
+        ensures others { (other : ℕ) → other < 128 → other ≢ group →
+            is_marked (now (F.device nv.new)) self.old.bank other ≡ is_marked (now (F.device nv.old)) self.old.bank other }
+        ensures within { StaysInLog self.old.bank (F.device nv.old) (F.device nv.new) }
+        ensures count { AddsAtMost 1 (F.device nv.old) (F.device nv.new) }
+    {
+        self.mark_group(nv, group)
+    }
+
+    // Programs the end of the slot that is open.
+    fn end_slot<F: Flash>(&mut self, nv: &mut F) -> Result<(), FlashFail>
         requires size { size_of (F.device nv.old) ≡ 32768 }
         requires stands { self.old ≡ log_of (now (F.device nv.old)) self.old.bank }
         requires open { self.old.job ≢ job.None }
@@ -248,5 +292,25 @@ impl JobLog {
             self.job = OpenJob::None;
         }
         Ok(())
+    }
+
+    /// Finishes the job that is open.
+    ///
+    /// After `Err` it is open or not, and this log is of no more use.
+    pub fn finish<F: Flash>(&mut self, nv: &mut F) -> Result<(), FlashFail>
+        requires size { size_of (F.device nv.old) ≡ 32768 }
+        requires stands { self.old ≡ log_of (now (F.device nv.old)) self.old.bank }
+        requires open { self.old.job ≢ job.None }
+        ensures follows { Follows (finish_plan (now (F.device nv.old)) self.old.bank) (F.device nv.old) (F.device nv.new) result }
+        ensures stands { OnOk result (self.new ≡ log_of (now (F.device nv.new)) self.old.bank) }
+        // The store is this one, byte for byte, and no job is open.
+        ensures exact { OnOk result (now (F.device nv.new) ≡ finished (now (F.device nv.old)) self.old.bank) }
+        ensures ended { OnOk result (open_job (now (F.device nv.new)) self.old.bank ≡ job.None) }
+        // At each answer, what was open is open still, or nothing is.
+        ensures left { (open_job (now (F.device nv.new)) self.old.bank ≡ open_job (now (F.device nv.old)) self.old.bank) ⊎ (open_job (now (F.device nv.new)) self.old.bank ≡ job.None) }
+        ensures within { StaysInLog self.old.bank (F.device nv.old) (F.device nv.new) }
+        ensures count { AddsAtMost 1 (F.device nv.old) (F.device nv.new) }
+    {
+        self.end_slot(nv)
     }
 }

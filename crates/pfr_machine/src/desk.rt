@@ -32,7 +32,7 @@ use pfr_auth::{ActiveFail, Area, capsule_at};
 use pfr_bank::{Checked, Held, Unchecked};
 use pfr_capsule::{Capsule, CapsuleFail};
 use pfr_chain::Engine;
-use pfr_copy::apply;
+use pfr_copy::apply_unlogged;
 use pfr_flash::{Bank, Counts, Device, Flash, FlashFail};
 use pfr_fuses::{FuseFail, Fuses};
 use pfr_jobs::JobKind;
@@ -192,7 +192,7 @@ impl<F: Flash> Desk<F> {
         ensures store { self.new.world.nv ≡ self.old.world.nv }
     {
         let layout = fuses.provision().layout(self.bank);
-        match apply(&mut self.held, capsule, layout, kind) {
+        match apply_unlogged(&mut self.held, capsule, layout, kind) {
             Ok(()) => Ok(()),
             Err(fail) => Err(Stop {
                 device: device_of(self.bank),

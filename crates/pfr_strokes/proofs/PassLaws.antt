@@ -72,7 +72,7 @@ module _ (content : ℕ → List ℕ) (group : ℕ) (mark : ℕ → List Deed) w
   AllOf number [] = Unit {0}
   AllOf number (page ∷ pages) = (page / group ≡ number) × AllOf number pages
 
-  without : (page : ℕ) (ends : Bool) (rest : List Deed) → called Bank (strokes page (content page)) ++ ((if ends then unmarked (page / group) else []) ++ rest) ≡ called Bank (strokes page (content page)) ++ rest
+  pub without : (page : ℕ) (ends : Bool) (rest : List Deed) → called Bank (strokes page (content page)) ++ ((if ends then unmarked (page / group) else []) ++ rest) ≡ called Bank (strokes page (content page)) ++ rest
   without page true rest = refl
   without page false rest = refl
 

@@ -95,7 +95,7 @@ by_side P side.Bank side.Store here there = there
 by_side P side.Store side.Bank here there = there
 by_side P side.Store side.Store here there = here
 
-there_none : (which : Side) (deeds : List Deed) (old new : Pair) → OnlyAt which old new → side_ops (other_side which) deeds ≡ [] → Did (side_ops (other_side which) deeds) (at_side (other_side which) old) (at_side (other_side which) new)
+pub there_none : (which : Side) (deeds : List Deed) (old new : Pair) → OnlyAt which old new → side_ops (other_side which) deeds ≡ [] → Did (side_ops (other_side which) deeds) (at_side (other_side which) old) (at_side (other_side which) new)
 there_none which deeds old new only none =
     subst (λ (ops : List Operation). Did ops (at_side (other_side which) old) (at_side (other_side which) new)) (sym none)
     (subst (λ (d : FlashState). Did [] (at_side (other_side which) old) d) (sym only) (Did-none (at_side (other_side which) old)))

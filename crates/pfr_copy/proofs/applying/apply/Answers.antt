@@ -1,14 +1,47 @@
+use Rattle.std.proofs.Common.{◌/◌, List, length, subst}
 use Rattle.pfr_flash.specs.FlashState.{now}
 use Rattle.pfr_flash.proofs.HoldingLemmas.{now_bytes}
-use Rattle.pfr_strokes.specs.Strokes.{strokes_of}
-use Rattle.pfr_rebuilt.specs.ActiveCopying.{active_page, active_pages, active_rebuilt}
-use Rattle.pfr_copy.proofs.PlanLemmas.{follows_now}
-use Rattle.pfr_copy.proofs.SourcesLaw.{applied_is}
+use Rattle.pfr_rebuilt.specs.ActiveCopying.{active_page, active_pages, is_active_page}
+use Rattle.pfr_copy.proofs.ClauseLaw.{active_is, active_same, marks_by, passes_by, rebuilt_by, resumes_by, strokes_by}
+use Rattle.pfr_copy.proofs.JobLaw.{active_can}
+use Rattle.pfr_strokes.specs.Deeds.{Deed}
+use Rattle.pfr_strokes.specs.Passes.{Passes}
 use Rattle.pfr_copy.proofs.applying.apply.Goals as goal
+
+pub returns-clause-passes : goal.returns-clause-passes
+returns-clause-passes g c =
+    let d = g.F.Flash.device c.args.held.now.flash in
+    let nv = g.F.Flash.device c.args.nv.now in
+    let by = passes_by c.args.kind c.args.capsule.now c.args.layout.now c.args.held.now.bank (record { bank = d; store = nv }) (record { bank = g.F.Flash.device c.copy.new.flash; store = g.F.Flash.device c.copy.new.nv }) (active_page (now d) c.args.capsule.now c.args.layout.now) (is_active_page c.args.kind (now d) c.args.capsule.now c.args.layout.now) (active_pages c.args.kind (now d) c.args.capsule.now c.args.layout.now) (active_is c.args.kind c.requires.kind (now d) c.args.capsule.now c.args.layout.now)
+    c.copy.result c.args.marks c.args.jobs.now _ c.requires.log (rw c.flash.ensures.value at c.copy.ensures.passes) in
+    subst (λ (deeds : List Deed). Passes deeds (record { bank = d; store = nv }) (record { bank = g.F.Flash.device c.copy.new.flash; store = g.F.Flash.device c.copy.new.nv }) c.copy.result) (active_same c.args.marks c.args.kind c.args.held.now.bank (now d) (now nv) c.args.capsule.now c.args.layout.now) by
 
 pub returns-clause-rebuilt : goal.returns-clause-rebuilt
 returns-clause-rebuilt g c =
     let d = g.F.Flash.device c.args.held.now.flash in
-    follows_now (strokes_of (active_page (now d) c.args.capsule.now c.args.layout.now) (active_pages c.args.kind (now d) c.args.capsule.now c.args.layout.now)) d (g.F.Flash.device c.replace_pages.new.flash)
-    (active_rebuilt c.args.kind (now d) c.args.capsule.now c.args.layout.now) c.replace_pages.result
-    (rw c.flash.ensures.value at c.replace_pages.ensures) (applied_is c.args.kind (now d) c.args.capsule.now c.args.layout.now c.requires.can (now_bytes d (g.met.F.Flash.holds_bytes c.args.held.now.flash)))
+    let nv = g.F.Flash.device c.args.nv.now in
+    let by = passes_by c.args.kind c.args.capsule.now c.args.layout.now c.args.held.now.bank (record { bank = d; store = nv }) (record { bank = g.F.Flash.device c.copy.new.flash; store = g.F.Flash.device c.copy.new.nv }) (active_page (now d) c.args.capsule.now c.args.layout.now) (is_active_page c.args.kind (now d) c.args.capsule.now c.args.layout.now) (active_pages c.args.kind (now d) c.args.capsule.now c.args.layout.now) (active_is c.args.kind c.requires.kind (now d) c.args.capsule.now c.args.layout.now)
+    c.copy.result c.args.marks c.args.jobs.now _ c.requires.log (rw c.flash.ensures.value at c.copy.ensures.passes) in
+    rebuilt_by c.args.kind c.args.capsule.now c.args.layout.now c.args.held.now.bank (record { bank = d; store = nv }) (record { bank = g.F.Flash.device c.copy.new.flash; store = g.F.Flash.device c.copy.new.nv }) (active_page (now d) c.args.capsule.now c.args.layout.now) (is_active_page c.args.kind (now d) c.args.capsule.now c.args.layout.now) (active_pages c.args.kind (now d) c.args.capsule.now c.args.layout.now) (active_is c.args.kind c.requires.kind (now d) c.args.capsule.now c.args.layout.now) c.copy.result (active_can c.args.kind c.requires.kind (now d) c.args.capsule.now c.args.layout.now c.requires.can) (now_bytes d (g.met.F.Flash.holds_bytes c.args.held.now.flash)) c.args.marks by
+
+pub returns-clause-strokes : goal.returns-clause-strokes
+returns-clause-strokes g c =
+    let d = g.F.Flash.device c.args.held.now.flash in
+    let nv = g.F.Flash.device c.args.nv.now in
+    let by = passes_by c.args.kind c.args.capsule.now c.args.layout.now c.args.held.now.bank (record { bank = d; store = nv }) (record { bank = g.F.Flash.device c.copy.new.flash; store = g.F.Flash.device c.copy.new.nv }) (active_page (now d) c.args.capsule.now c.args.layout.now) (is_active_page c.args.kind (now d) c.args.capsule.now c.args.layout.now) (active_pages c.args.kind (now d) c.args.capsule.now c.args.layout.now) (active_is c.args.kind c.requires.kind (now d) c.args.capsule.now c.args.layout.now)
+    c.copy.result c.args.marks c.args.jobs.now _ c.requires.log (rw c.flash.ensures.value at c.copy.ensures.passes) in
+    strokes_by c.args.kind c.args.capsule.now c.args.layout.now c.args.held.now.bank (record { bank = d; store = nv }) (record { bank = g.F.Flash.device c.copy.new.flash; store = g.F.Flash.device c.copy.new.nv }) (active_page (now d) c.args.capsule.now c.args.layout.now) (is_active_page c.args.kind (now d) c.args.capsule.now c.args.layout.now) (active_pages c.args.kind (now d) c.args.capsule.now c.args.layout.now) (active_is c.args.kind c.requires.kind (now d) c.args.capsule.now c.args.layout.now) c.copy.result (active_can c.args.kind c.requires.kind (now d) c.args.capsule.now c.args.layout.now c.requires.can) (now_bytes d (g.met.F.Flash.holds_bytes c.args.held.now.flash)) c.args.marks by
+
+pub returns-clause-marked : goal.returns-clause-marked
+returns-clause-marked g c =
+    let d = g.F.Flash.device c.args.held.now.flash in
+    let nv = g.F.Flash.device c.args.nv.now in
+    marks_by c.args.kind c.args.capsule.now c.args.layout.now c.args.held.now.bank (record { bank = d; store = nv }) (record { bank = g.F.Flash.device c.copy.new.flash; store = g.F.Flash.device c.copy.new.nv }) (active_page (now d) c.args.capsule.now c.args.layout.now) (is_active_page c.args.kind (now d) c.args.capsule.now c.args.layout.now) (active_pages c.args.kind (now d) c.args.capsule.now c.args.layout.now) (active_is c.args.kind c.requires.kind (now d) c.args.capsule.now c.args.layout.now) c.copy.result c.args.marks c.args.jobs.now _ (length (now d) / 4096) c.requires.log (rw c.flash.ensures.value at c.copy.ensures.marked)
+
+pub returns-clause-resumes : goal.returns-clause-resumes
+returns-clause-resumes g c =
+    let d = g.F.Flash.device c.args.held.now.flash in
+    let nv = g.F.Flash.device c.args.nv.now in
+    let by = passes_by c.args.kind c.args.capsule.now c.args.layout.now c.args.held.now.bank (record { bank = d; store = nv }) (record { bank = g.F.Flash.device c.copy.new.flash; store = g.F.Flash.device c.copy.new.nv }) (active_page (now d) c.args.capsule.now c.args.layout.now) (is_active_page c.args.kind (now d) c.args.capsule.now c.args.layout.now) (active_pages c.args.kind (now d) c.args.capsule.now c.args.layout.now) (active_is c.args.kind c.requires.kind (now d) c.args.capsule.now c.args.layout.now)
+    c.copy.result c.args.marks c.args.jobs.now _ c.requires.log (rw c.flash.ensures.value at c.copy.ensures.passes) in
+    resumes_by c.args.kind c.args.capsule.now c.args.layout.now c.args.held.now.bank (record { bank = d; store = nv }) (record { bank = g.F.Flash.device c.copy.new.flash; store = g.F.Flash.device c.copy.new.nv }) (active_page (now d) c.args.capsule.now c.args.layout.now) (is_active_page c.args.kind (now d) c.args.capsule.now c.args.layout.now) (active_pages c.args.kind (now d) c.args.capsule.now c.args.layout.now) (active_is c.args.kind c.requires.kind (now d) c.args.capsule.now c.args.layout.now) c.copy.result (active_can c.args.kind c.requires.kind (now d) c.args.capsule.now c.args.layout.now c.requires.can) (now_bytes d (g.met.F.Flash.holds_bytes c.args.held.now.flash)) c.args.marks c.args.jobs.now _ c.requires.log by (rw c.flash.ensures.value at c.copy.ensures.one)

@@ -11,7 +11,7 @@ use Rattle.pfr_capsule.specs.declared.pages.Pages.{Pages}
 use Rattle.pfr_capsule.specs.declared.span.Span.{Span}
 use Rattle.pfr_rebuilt.specs.ActiveCopying.{is_taken, is_kept, is_active_page, active_page}
 use Rattle.pfr_copy.proofs.ContentsLemmas.{if_ok, given_is, text_inside}
-use Rattle.pfr_copy.proofs.contents.new_page.Goals as goal
+use Rattle.pfr_copy.proofs.contents.active_page.Goals as goal
 
 pub text_page-requires-clause-inside : goal.text_page-requires-clause-inside
 text_page-requires-clause-inside g c =
