@@ -7,6 +7,7 @@ pub mod StandLemmas
 pub mod StoreLemmas
 pub mod StoredLemmas
 pub mod LogLemmas
+pub mod PlanLemmas
 pub mod ProvisionLemmas
 pub mod TurnLemmas
 pub mod SoundLemmas

@@ -201,8 +201,8 @@ impl<F: Flash> Desk<F> {
         }
     }
 
-    // Notes something by which no bank stands otherwise, and no latch moves.
-    fn note(&mut self, what: What)
+    /// Notes something by which no bank stands otherwise, and no latch moves.
+    pub fn note(&mut self, what: What)
         requires room { 1 ≤ self.old.world.notes.spare }
         requires text { HasText what }
         requires still { (which : Bank) (s : Standing) → standing_after which what s ≡ s }

@@ -78,8 +78,8 @@ fn raise<F: Flash>(nv: &mut F, fuses: &mut Fuses, bank: Bank, svn: u32) -> Resul
     fuses.raise(nv, bank, svn)
 }
 
-// A call of the store that failed.
-fn store_stop(fail: FlashFail) -> Stop
+/// A call of the store that failed.
+pub fn store_stop(fail: FlashFail) -> Stop
     ensures { result ≡ record { device = Nv; fail = fail } }
 {
     Stop {
@@ -95,6 +95,7 @@ impl<F: Flash> Desk<F> {
         ensures goes { Goes asks_store self.old.world self.new.world result }
         ensures found { IfOk result (λ log. log ≡ log_of (now self.new.world.nv) self.old.bank) }
         ensures stays { Stays 0 self.old self.new result }
+        ensures flash { state_at (device_of self.old.bank) self.new.world ≡ state_at (device_of self.old.bank) self.old.world }
     {
         match JobLog::load(&mut self.board.nv, self.bank) {
             Ok(log) => Ok(log),

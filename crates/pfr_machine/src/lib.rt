@@ -6,6 +6,7 @@ mod board;
 mod bringing;
 mod bus;
 mod desk;
+mod doing;
 mod inner;
 mod jobs;
 mod judging;
