@@ -1,7 +1,7 @@
 -- A capsule that is applied leaves a good recovery area so, however that ended.
 use Rattle.std.proofs.Common.{◌≡◌, ◌∙◌, ℕ, ◌+◌, ◌*◌, ◌/◌, ◌≤◌, ◌<◌, ◌%◌, Bool, true, false, if◌then◌else◌, sym, ap, refl, subst, arith, List, [], ◌∷◌, ◌++◌, length, Option, Result, Ok, Err, ◌⊎◌, inl, inr}
 use Rattle.pfr_flash.specs.Bytes.{AreBytes}
-use Rattle.pfr_flash.specs.FlashState.{FlashState, now, size_of}
+use Rattle.pfr_flash.specs.FlashState.{now, size_of}
 use Rattle.pfr_flash.specs.Layout.{IsBankSize}
 use Rattle.pfr_flash.specs.Operation.{Operation, applied, play}
 use Rattle.pfr_flash.specs.Range.{AllWithin, IsWithin, Leaves, place_of, len_of}
@@ -173,15 +173,24 @@ module _ (kind : JobKind) (capsule : CapsuleState) (layout : Layout) (bank : Ban
 
   all_apart : (marks : Marks) → AllApart layout (current_at (now a.store) bank)
       (marks_deeds marks bank (now a.store) (active_page (now a.bank) capsule layout) (group_pages (length (now a.bank))) (active_pages kind (now a.bank) capsule layout))
-  all_apart Heed = (tt, pages_leave layout (current_at (now a.store) bank) (active_page (now a.bank) capsule layout) (group_pages (length (now a.bank))) (marked_by (mark_plan (now a.store) bank))
-      (written_pages Heed bank (now a.store) (group_pages (length (now a.bank))) (active_pages kind (now a.bank) capsule layout))
-      (λ n one. each_apart n (written_are Heed bank (now a.store) (group_pages (length (now a.bank))) (active_pages kind (now a.bank) capsule layout) n one))
-      (λ n one. mark_apart layout (now a.store) bank (n / group_pages (length (now a.bank)))
-      (small_group (length (now a.bank)) n (active_are n (written_are Heed bank (now a.store) (group_pages (length (now a.bank))) (active_pages kind (now a.bank) capsule layout) n one)).0)))
-  all_apart Ignore = (tt, pages_leave layout (current_at (now a.store) bank) (active_page (now a.bank) capsule layout) (group_pages (length (now a.bank))) unmarked
-      (active_pages kind (now a.bank) capsule layout) (λ n one. each_apart n one) (λ n one. tt))
-  all_apart Without = (tt, pages_leave layout (current_at (now a.store) bank) (active_page (now a.bank) capsule layout) (group_pages (length (now a.bank))) unmarked
-      (active_pages kind (now a.bank) capsule layout) (λ n one. each_apart n one) (λ n one. tt))
+  all_apart Heed = (
+    tt,
+    pages_leave layout (current_at (now a.store) bank) (active_page (now a.bank) capsule layout) (group_pages (length (now a.bank))) (marked_by (mark_plan (now a.store) bank))
+        (written_pages Heed bank (now a.store) (group_pages (length (now a.bank))) (active_pages kind (now a.bank) capsule layout))
+        (λ n one. each_apart n (written_are Heed bank (now a.store) (group_pages (length (now a.bank))) (active_pages kind (now a.bank) capsule layout) n one))
+        (λ n one. mark_apart layout (now a.store) bank (n / group_pages (length (now a.bank)))
+        (small_group (length (now a.bank)) n (active_are n (written_are Heed bank (now a.store) (group_pages (length (now a.bank))) (active_pages kind (now a.bank) capsule layout) n one)).0)),
+  )
+  all_apart Ignore = (
+    tt,
+    pages_leave layout (current_at (now a.store) bank) (active_page (now a.bank) capsule layout) (group_pages (length (now a.bank))) unmarked
+        (active_pages kind (now a.bank) capsule layout) (λ n one. each_apart n one) (λ n one. tt),
+  )
+  all_apart Without = (
+    tt,
+    pages_leave layout (current_at (now a.store) bank) (active_page (now a.bank) capsule layout) (group_pages (length (now a.bank))) unmarked
+        (active_pages kind (now a.bank) capsule layout) (λ n one. each_apart n one) (λ n one. tt),
+  )
 
   by_images : (accepts : Acceptance) (trace : List Deed) → AllApart layout (current_at (now a.store) bank) trace → IsSafe layout bank (now a.bank) (now a.store) accepts
       → now b.bank ≡ play (now a.bank) (side_ops side.Bank trace) → now b.store ≡ play (now a.store) (side_ops side.Store trace) → HasGoodRecovery bank (now b.bank) (now b.store) accepts

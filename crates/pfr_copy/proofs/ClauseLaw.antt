@@ -1,8 +1,8 @@
 -- What is promised of a pass over a job's pages, by what was done.
-use Rattle.std.proofs.Common.{◌≡◌, ◌∙◌, ℕ, ◌/◌, ◌<◌, Bool, true, false, not, if◌then◌else◌, refl, sym, ap, subst, List, [], ◌∷◌, ◌++◌, length, filter, ◌⊎◌, inl, inr, Result, Ok, Err, OnOk}
+use Rattle.std.proofs.Common.{◌≡◌, ◌∙◌, ℕ, ◌/◌, ◌<◌, Bool, true, false, not, if◌then◌else◌, refl, sym, ap, subst, List, [], ◌∷◌, length, filter, ◌⊎◌, inl, inr, Result, Ok, Err, OnOk}
 use Rattle.std.proofs.lemmas.Bool.{false≢true}
 use Rattle.pfr_flash.specs.Bytes.{AreBytes}
-use Rattle.pfr_flash.specs.FlashState.{FlashState, now}
+use Rattle.pfr_flash.specs.FlashState.{now}
 use Rattle.pfr_flash.specs.Operation.{Operation, play}
 use Rattle.pfr_flash.specs.declared.layout.Layout.{Layout}
 use Rattle.pfr_flash.specs.declared.names.Bank.{Bank}
@@ -19,14 +19,13 @@ use Rattle.pfr_strokes.specs.Passes.{Pair, Passes}
 use Rattle.pfr_strokes.specs.Replaced.{replaced}
 use Rattle.pfr_strokes.specs.Strokes.{strokes_of}
 use Rattle.pfr_strokes.specs.declared.side.CopyFail.{CopyFail}
-use Rattle.pfr_strokes.specs.declared.side.CopyFail.TheVariants as fails
 use Rattle.pfr_strokes.specs.declared.side.Side.TheVariants as side
 use Rattle.pfr_strokes.proofs.PassesLemmas.{Did-now}
 use Rattle.pfr_strokes.proofs.PassLaws.{marked_none, pass_strokes}
 use Rattle.pfr_strokes.proofs.ReplacedLaws.{IsOneOf}
 use Rattle.pfr_copy.specs.Applying.{IsActive}
-use Rattle.pfr_copy.specs.Copied.{AddsPlan, CanResume, OpensOne, Resumes, SetsMarks, SparesMarked, Touches, written_pages}
-use Rattle.pfr_copy.specs.Marking.{HasLog, IsLogOpen, active_deeds, job_deeds, marks_deeds, recovery_deeds}
+use Rattle.pfr_copy.specs.Copied.{AddsPlan, OpensOne, Resumes, SetsMarks, SparesMarked, written_pages}
+use Rattle.pfr_copy.specs.Marking.{HasLog, active_deeds, job_deeds, marks_deeds, recovery_deeds}
 use Rattle.pfr_copy.specs.Working.{CanDo, is_job_page, job_page, job_pages}
 use Rattle.pfr_copy.specs.declared.marks.Marks.{Marks}
 use Rattle.pfr_copy.specs.declared.marks.Marks.TheVariants.{Heed, Ignore, Without}

@@ -1,8 +1,8 @@
 -- What holds where the groups below a number were looked at.
-use Rattle.std.proofs.Common.{◌≡◌, ◌∙◌, ℕ, suc, ◌+◌, ◌-◌, ◌*◌, ◌/◌, ◌≤◌, ◌<◌, ◌&&◌, Bool, true, false, not, max, min, refl, sym, ap, subst, arith, List, length, Result, Ok, Err, if◌then◌else◌, []}
+use Rattle.std.proofs.Common.{◌≡◌, ◌∙◌, ℕ, suc, ◌+◌, ◌*◌, ◌/◌, ◌≤◌, ◌<◌, ◌&&◌, Bool, true, false, not, min, refl, sym, ap, subst, arith, List, length, Result, Ok, Err, if◌then◌else◌, []}
 use Rattle.std.proofs.lemmas.Bool.{false≢true}
 use Rattle.pfr_flash.specs.Bytes.{AreBytes}
-use Rattle.pfr_flash.specs.FlashState.{FlashState, now, size_of}
+use Rattle.pfr_flash.specs.FlashState.{now, size_of}
 use Rattle.pfr_flash.specs.Operation.{Operation, play}
 use Rattle.pfr_flash.specs.declared.layout.Layout.{Layout}
 use Rattle.pfr_flash.specs.declared.names.Bank.{Bank}
@@ -14,17 +14,16 @@ use Rattle.pfr_jobs.specs.LogState.{is_marked}
 use Rattle.pfr_jobs.specs.declared.job.JobKind.{JobKind}
 use Rattle.pfr_jobs.specs.declared.job.OpenJob.TheVariants as job
 use Rattle.pfr_rebuilt.specs.Passing.{group_pages, heeding}
-use Rattle.pfr_strokes.specs.Deeds.{Deed, marked_by, pass, side_ops}
-use Rattle.pfr_strokes.specs.Passes.{Pair, at_side, DidAll, Passes}
-use Rattle.pfr_strokes.specs.Replaced.{group_at, group_count, has_pages, pages_below, pages_of_group}
-use Rattle.pfr_strokes.specs.Strokes.{strokes_of}
+use Rattle.pfr_strokes.specs.Deeds.{Deed, marked_by, pass}
+use Rattle.pfr_strokes.specs.Passes.{Pair, DidAll, Passes}
+use Rattle.pfr_strokes.specs.Replaced.{group_at, has_pages, pages_below, pages_of_group}
 use Rattle.pfr_strokes.specs.declared.side.CopyFail.{CopyFail}
 use Rattle.pfr_strokes.specs.declared.side.Side.TheVariants as side
 use Rattle.pfr_strokes.proofs.GroupLaws.{in_group, of_between}
 use Rattle.pfr_strokes.proofs.HeedLaws.{group_same, heeds_all, heeds_none, heeds_on, heeds_past, heeds_stop}
 use Rattle.pfr_strokes.proofs.PassesLemmas.{Did-now}
 use Rattle.pfr_strokes.proofs.PassLaws.{marked_none, pass_strokes}
-use Rattle.pfr_strokes.proofs.ReplacedLaws.{IsOneOf, pages_are}
+use Rattle.pfr_strokes.proofs.ReplacedLaws.{pages_are}
 use Rattle.pfr_strokes.proofs.StretchLaws.{group_store}
 use Rattle.pfr_copy.specs.Working.{CanDo, is_job_page, job_page, job_pages}
 use Rattle.pfr_copy.proofs.JobLaw.{AreJobPages, SameJob, job_stays}

@@ -1,11 +1,11 @@
 -- The pages of a job lie apart from what is read of its capsule, so what they are to hold is the same however many of them were written.
-use Rattle.std.proofs.Common.{◌≡◌, ◌∙◌, ℕ, ◌+◌, ◌-◌, ◌*◌, ◌/◌, ◌≤◌, ◌<◌, ◌%◌, Bool, true, if◌then◌else◌, refl, sym, ap, subst, arith, List, [], ◌∷◌, length, Result, Ok, OnOk, ◌⊎◌, inl, inr}
+use Rattle.std.proofs.Common.{◌≡◌, ◌∙◌, ℕ, ◌+◌, ◌-◌, ◌*◌, ◌/◌, ◌≤◌, ◌<◌, Bool, true, if◌then◌else◌, refl, sym, ap, subst, arith, List, [], ◌∷◌, length, Result, Ok, OnOk, ◌⊎◌, inl, inr}
 use Rattle.std.proofs.lemmas.Bool.Decides.{nat_tests}
 use Rattle.pfr_flash.specs.Bytes.{AreBytes, bytes_at}
 use Rattle.pfr_flash.specs.FlashState.{FlashState, now}
 use Rattle.pfr_flash.specs.Holding.{HoldsBytes}
 use Rattle.pfr_flash.specs.Layout.{IsValidLayout}
-use Rattle.pfr_flash.specs.Operation.{Operation, play}
+use Rattle.pfr_flash.specs.Operation.{play}
 use Rattle.pfr_flash.specs.Plan.{Follows}
 use Rattle.pfr_flash.specs.declared.layout.Layout.{Layout}
 use Rattle.pfr_flash.specs.declared.flash.FlashFail.{FlashFail}

@@ -1,8 +1,7 @@
 -- What marks leave of a bank's log.
-use Rattle.std.proofs.Common.{◌≡◌, ◌∙◌, ℕ, zero, suc, ◌+◌, ◌*◌, ◌≤◌, ◌<◌, ◌==◌, ◌||◌, Bool, true, false, if◌then◌else◌, refl, sym, ap, subst, arith, List, [], length, Option, Some, None, ◌⊎◌, inl, inr}
+use Rattle.std.proofs.Common.{◌≡◌, ◌∙◌, ℕ, zero, suc, ◌+◌, ◌*◌, ◌≤◌, ◌<◌, ◌==◌, ◌||◌, Bool, true, false, if◌then◌else◌, refl, sym, ap, subst, arith, List, [], length, Option, Some, ◌⊎◌, inl, inr}
 use Rattle.std.proofs.lemmas.Bool.{cases_lt}
 use Rattle.std.proofs.lemmas.Bool.Decides.{nat_tests}
-use Rattle.pfr_flash.specs.Bytes.{bytes_at}
 use Rattle.pfr_flash.specs.FuseRow.{IsCleared, fuse_at, is_cleared, with_cleared}
 use Rattle.pfr_flash.specs.Operation.{Operation, play}
 use Rattle.pfr_flash.specs.declared.names.Bank.{Bank}
@@ -11,8 +10,7 @@ use Rattle.pfr_flash.proofs.FuseLemmas.{IsCleared-with_cleared}
 use Rattle.pfr_flash.proofs.PlayLemmas.{length-play}
 use Rattle.pfr_jobs.specs.Log.{current_at, current_page, last_gated, open_by, open_in, open_job}
 use Rattle.pfr_jobs.specs.LogPlans.{mark_by, mark_plan}
-use Rattle.pfr_jobs.specs.LogState.{LogState, is_marked, log_of, marks_in, marks_of}
-use Rattle.pfr_jobs.specs.declared.job.OpenJob.{OpenJob}
+use Rattle.pfr_jobs.specs.LogState.{LogState, is_marked, marks_in, marks_of}
 use Rattle.pfr_jobs.specs.declared.job.OpenJob.TheVariants as job
 use Rattle.pfr_jobs.proofs.CallLaws.{mark_stands, mark_plan_set}
 use Rattle.pfr_jobs.proofs.LogLaws.{LastOf, nothing, found, last_of, current_inside}

@@ -1,8 +1,8 @@
 -- However a copy to the recovery area ended, the bank can be recovered.
-use Rattle.std.proofs.Common.{◌≡◌, ◌∙◌, ℕ, ◌+◌, ◌*◌, ◌/◌, ◌≤◌, ◌<◌, ◌%◌, Bool, true, false, sym, ap, subst, arith, List, [], ◌∷◌, length, Result, Ok}
+use Rattle.std.proofs.Common.{◌≡◌, ◌∙◌, ℕ, ◌/◌, ◌<◌, ◌%◌, true, sym, ap, subst, arith, length, Result}
 use Rattle.std.proofs.Math.Nat.{div-lt_iff_lt-mul}
 use Rattle.pfr_flash.specs.Bytes.{AreBytes}
-use Rattle.pfr_flash.specs.FlashState.{FlashState, now, size_of}
+use Rattle.pfr_flash.specs.FlashState.{now, size_of}
 use Rattle.pfr_flash.specs.Layout.{IsBankSize}
 use Rattle.pfr_flash.specs.declared.layout.Layout.{Layout}
 use Rattle.pfr_flash.specs.declared.names.Bank.{Bank}
@@ -16,7 +16,6 @@ use Rattle.pfr_jobs.specs.LogPlans.{mark_plan}
 use Rattle.pfr_rebuilt.specs.Copying.{holds_text, recovery_page, recovery_pages}
 use Rattle.pfr_rebuilt.specs.Passing.{group_pages}
 use Rattle.pfr_recoverable.specs.Recoverable.{IsRecoverable}
-use Rattle.pfr_recoverable.proofs.CutLaw.{IsAtWork}
 use Rattle.pfr_recoverable.proofs.PassedLaw.{IsAreaPage, mark_deeds, pages_pass, passed_recoverable}
 use Rattle.pfr_recoverable.proofs.PassLaw.{AllPassDeeds}
 use Rattle.pfr_recoverable.proofs.StaysLaw.{fuses_one}

@@ -1,8 +1,8 @@
 -- Wherever a pass that heeds marks ended, the pages that it touched and whose group isn't marked lie in one group.
-use Rattle.std.proofs.Common.{◌≡◌, ◌∙◌, ℕ, suc, ◌+◌, ◌-◌, ◌*◌, ◌/◌, min, ◌≤◌, ◌<◌, ◌&&◌, ◌||◌, Bool, true, false, not, refl, sym, ap, subst, arith, List, ◌++◌, length, append_assoc, Result, Ok, Err, ◌⊎◌, inl, inr}
+use Rattle.std.proofs.Common.{◌≡◌, ◌∙◌, ℕ, ◌+◌, ◌-◌, ◌*◌, ◌/◌, min, ◌<◌, ◌&&◌, ◌||◌, Bool, true, false, not, refl, sym, ap, subst, arith, List, ◌++◌, length, append_assoc, Result, Ok, ◌⊎◌, inl, inr}
 use Rattle.std.proofs.lemmas.Bool.{false≢true}
 use Rattle.pfr_flash.specs.Bytes.{AreBytes}
-use Rattle.pfr_flash.specs.FlashState.{FlashState, now}
+use Rattle.pfr_flash.specs.FlashState.{now}
 use Rattle.pfr_flash.specs.Operation.{Operation}
 use Rattle.pfr_flash.specs.declared.layout.Layout.{Layout}
 use Rattle.pfr_flash.specs.declared.names.Bank.{Bank}
@@ -11,14 +11,11 @@ use Rattle.pfr_jobs.specs.LogPlans.{mark_plan}
 use Rattle.pfr_jobs.specs.LogState.{is_marked}
 use Rattle.pfr_jobs.specs.declared.job.JobKind.{JobKind}
 use Rattle.pfr_rebuilt.specs.Passing.{group_pages}
-use Rattle.pfr_strokes.specs.Deeds.{Deed, marked_by, pass}
+use Rattle.pfr_strokes.specs.Deeds.{marked_by, pass}
 use Rattle.pfr_strokes.specs.Passes.{Pair, Passes}
-use Rattle.pfr_strokes.specs.Replaced.{group_at, group_count, has_pages, pages_of_group}
-use Rattle.pfr_strokes.specs.Strokes.{strokes_of}
+use Rattle.pfr_strokes.specs.Replaced.{group_at, group_count, pages_of_group}
 use Rattle.pfr_strokes.specs.declared.side.CopyFail.{CopyFail}
-use Rattle.pfr_strokes.specs.declared.side.Side.TheVariants as side
 use Rattle.pfr_strokes.proofs.GroupLaws.{below_group, between_only, has_own, in_group, of_between, of_one}
-use Rattle.pfr_strokes.proofs.PassesLemmas.{Did-ops}
 use Rattle.pfr_strokes.proofs.PassLaws.{marked_none, pass_strokes}
 use Rattle.pfr_strokes.proofs.ReplacedLaws.{IsOneOf, pages_are}
 use Rattle.pfr_copy.specs.Copied.{OpensOne, Touches}

@@ -1,19 +1,14 @@
 -- The pages of a job lie apart from the capsule that is applied, so what is read of it later is what was there at first.
-use Rattle.std.proofs.Common.{◌≡◌, ◌∙◌, ℕ, ◌+◌, ◌-◌, ◌*◌, ◌/◌, ◌≤◌, ◌<◌, ◌%◌, ◌&&◌, ◌||◌, not, Bool, true, false, if◌then◌else◌, refl, sym, ap, subst, arith, List, [], ◌∷◌, length, Ok, All, filter, ◌⊎◌, inl, inr}
+use Rattle.std.proofs.Common.{◌≡◌, ◌∙◌, ℕ, ◌+◌, ◌-◌, ◌*◌, ◌/◌, ◌≤◌, ◌<◌, ◌%◌, ◌&&◌, ◌||◌, not, Bool, true, false, if◌then◌else◌, refl, sym, ap, subst, arith, List, [], ◌∷◌, length, All, filter, ◌⊎◌, inl, inr}
 use Rattle.std.specs.List.{list_any}
 use Rattle.std.proofs.lemmas.Bool.{false≢true}
 use Rattle.std.proofs.lemmas.Bool.Decides.{nat_tests}
 use Rattle.std.proofs.lemmas.List.Elements.{All-head, All-tail}
 use Rattle.pfr_flash.specs.Bytes.{AreBytes, bytes_at}
-use Rattle.pfr_flash.specs.FlashState.{FlashState, now}
-use Rattle.pfr_flash.specs.Holding.{HoldsBytes}
-use Rattle.pfr_flash.specs.Plan.{Follows}
 use Rattle.pfr_flash.specs.Layout.{AreApart, IsValidLayout}
 use Rattle.pfr_flash.specs.Operation.{play}
 use Rattle.pfr_flash.specs.declared.layout.Layout.{Layout}
 use Rattle.pfr_flash.proofs.AreBytesLemmas.{AreBytes-bytes_at}
-use Rattle.pfr_flash.proofs.FollowsLemmas.{Follows-now}
-use Rattle.pfr_flash.proofs.HoldingLemmas.{now_bytes}
 use Rattle.pfr_flash.proofs.PartsLemmas.{same_part}
 use Rattle.pfr_flash.proofs.PlayLemmas.{length-play, play-append}
 use Rattle.pfr_flash.proofs.RangeLemmas.{SameOutside-play, bytes_at-outside}
@@ -29,14 +24,14 @@ use Rattle.pfr_capsule.specs.declared.pages.Page.TheVariants.{Keep, Blank, Copy}
 use Rattle.pfr_capsule.proofs.CountLaws.{counted}
 use Rattle.pfr_jobs.specs.declared.job.JobKind.{JobKind}
 use Rattle.pfr_strokes.specs.Strokes.{strokes, strokes_of}
-use Rattle.pfr_strokes.specs.Replaced.{IsPage, pages_below}
+use Rattle.pfr_strokes.specs.Replaced.{IsPage}
 use Rattle.pfr_strokes.proofs.StrokesLaws.{strokes_within}
-use Rattle.pfr_strokes.proofs.ReplacedLaws.{AllCan, IsOneOf, pages_are, strokes_replace}
+use Rattle.pfr_strokes.proofs.ReplacedLaws.{IsOneOf}
 use Rattle.pfr_rebuilt.specs.Copying.{holds_text, text_page}
-use Rattle.pfr_rebuilt.specs.ActiveCopying.{is_taken, is_kept, is_active_page, active_pages, active_page, active_rebuilt}
+use Rattle.pfr_rebuilt.specs.ActiveCopying.{is_taken, is_kept, is_active_page, active_page}
 use Rattle.pfr_rebuilt.proofs.ActiveLaw.{page_gives}
 use Rattle.pfr_rebuilt.proofs.CopiedLaw.{text_fills}
-use Rattle.pfr_copy.specs.Applying.{CanApply, LiesInArea, page_plan}
+use Rattle.pfr_copy.specs.Applying.{CanApply, LiesInArea}
 
 -- ---- what is read of a capsule is the same in both images
 pub record SameSources (image later : List ℕ) (capsule : CapsuleState) : Type 0 where

@@ -1,10 +1,9 @@
 -- What a part of the strokes of pages touches are these pages.
-use Rattle.std.proofs.Common.{◌≡◌, ◌∙◌, ℕ, suc, ◌+◌, ◌*◌, ◌/◌, ◌<◌, ◌≤◌, refl, sym, ap, subst, arith, List, [], ◌∷◌, ◌++◌, length, append_assoc, ◌⊎◌, inl, inr, Result, Ok, Err}
-use Rattle.std.proofs.lemmas.List.{append-nil}
-use Rattle.pfr_flash.specs.FlashState.{FlashState, now}
-use Rattle.pfr_flash.specs.Operation.{Operation, IsTorn, applied, play}
-use Rattle.pfr_flash.specs.Plan.{DoesPart, IsPart}
-use Rattle.pfr_flash.specs.Range.{AllWithin, IsWithin, place_of, len_of}
+use Rattle.std.proofs.Common.{◌≡◌, ◌∙◌, ℕ, ◌*◌, refl, sym, ap, subst, arith, List, [], ◌∷◌, ◌++◌, length, ◌⊎◌, inl, inr, Result, Ok, Err}
+use Rattle.pfr_flash.specs.FlashState.{now}
+use Rattle.pfr_flash.specs.Operation.{Operation, applied}
+use Rattle.pfr_flash.specs.Plan.{IsPart}
+use Rattle.pfr_flash.specs.Range.{AllWithin, IsWithin}
 use Rattle.pfr_flash.proofs.FollowsLemmas.{IsPart-more}
 use Rattle.pfr_flash.proofs.RangeLemmas.{IsTorn-within}
 use Rattle.pfr_strokes.specs.Deeds.{Deed, side_ops}
@@ -14,7 +13,7 @@ use Rattle.pfr_strokes.specs.declared.side.Side.TheVariants as side
 use Rattle.pfr_strokes.specs.declared.side.CopyFail.{CopyFail}
 use Rattle.pfr_strokes.specs.declared.side.CopyFail.TheVariants as fails
 use Rattle.pfr_strokes.proofs.DeedsLaws.{cut_front, cut_part}
-use Rattle.pfr_strokes.proofs.PassesLemmas.{Did-now, Did-ops}
+use Rattle.pfr_strokes.proofs.PassesLemmas.{Did-ops}
 use Rattle.pfr_strokes.proofs.ReplacedLaws.{IsOneOf}
 use Rattle.pfr_strokes.proofs.StrokesLaws.{strokes_within}
 use Rattle.pfr_copy.specs.Copied.{AddsPlan, Touches}

@@ -1,14 +1,14 @@
 -- What a pass does with the marks of a bank's log.
-use Rattle.std.specs.Prelude.{◌≡◌, ◌≢◌, ℕ, ◌/◌, List, length}
+use Rattle.std.specs.Prelude.{◌≡◌, ◌≢◌, ℕ, List, length}
 use Rattle.pfr_flash.specs.declared.layout.Layout.{Layout}
 use Rattle.pfr_flash.specs.declared.names.Bank.{Bank}
 use Rattle.pfr_capsule.specs.CapsuleState.{CapsuleState}
 use Rattle.pfr_jobs.specs.Log.{open_job}
-use Rattle.pfr_jobs.specs.LogState.{LogState, is_marked, log_of}
+use Rattle.pfr_jobs.specs.LogState.{LogState, log_of}
 use Rattle.pfr_jobs.specs.declared.job.JobKind.{JobKind}
 use Rattle.pfr_jobs.specs.declared.job.OpenJob.TheVariants as job
 use Rattle.pfr_strokes.specs.Deeds.{Deed}
-use Rattle.pfr_rebuilt.specs.Passing.{active_heeding, active_ignoring, group_pages, heeding, ignoring, left_pages, recovery_heeding, recovery_ignoring}
+use Rattle.pfr_rebuilt.specs.Passing.{active_heeding, active_ignoring, group_pages, heeding, ignoring, recovery_heeding, recovery_ignoring}
 use Rattle.pfr_copy.specs.Working.{job_page, job_pages}
 use Rattle.pfr_copy.specs.declared.marks.Marks.{Marks}
 use Rattle.pfr_copy.specs.declared.marks.Marks.TheVariants.{Heed, Ignore, Without}

@@ -1,6 +1,6 @@
 -- What is done to the fuses for one bank leaves the other one that can be recovered, and a cancellation leaves a bank so whose capsule
 -- is of other keys.
-use Rattle.std.proofs.Common.{◌≡◌, ◌∙◌, refl, sym, ap, subst, arith, ℕ, ◌+◌, ◌/◌, ◌≤◌, ◌<◌, ◌≢◌, List, [], ◌∷◌, length, ◌⊎◌, inl, inr, Ok}
+use Rattle.std.proofs.Common.{◌≡◌, ◌∙◌, refl, sym, ap, subst, arith, ℕ, ◌+◌, ◌/◌, ◌≤◌, ◌<◌, ◌≢◌, List, [], ◌∷◌, length, ◌⊎◌, inl, inr}
 use Rattle.pfr_flash.specs.FuseRow.{clearing, fuse_byte}
 use Rattle.pfr_flash.specs.Names.{capsule_type, manifest_type}
 use Rattle.pfr_flash.specs.Operation.{Operation, Program, play}
@@ -12,14 +12,13 @@ use Rattle.pfr_engine.specs.Acceptance.{Acceptance}
 use Rattle.pfr_fuses.specs.Changes.{cancellation}
 use Rattle.pfr_fuses.specs.FuseMap.{IsSigning, profile_of, floor_at, row_at}
 use Rattle.pfr_fuses.specs.FusesState.{FusesState}
-use Rattle.pfr_fuses.specs.FusesOf.{fuses_of}
 use Rattle.pfr_fuses.specs.RootSlot.{layout_of}
 use Rattle.pfr_fuses.specs.declared.profile.Profile.TheVariants as profile
 use Rattle.pfr_fuses.specs.declared.root_slot.RootSlot.{RootSlot}
 use Rattle.pfr_fuses.proofs.StaysLemmas.{floor_in_sector, row_in_sector}
 use Rattle.pfr_capsule.specs.CapsuleState.{CapsuleState}
 use Rattle.pfr_capsule.specs.Good.{IsGood}
-use Rattle.pfr_jobs.specs.Log.{log_at, open_job}
+use Rattle.pfr_jobs.specs.Log.{open_job}
 use Rattle.pfr_jobs.specs.declared.job.JobKind.TheVariants.{RecoveryFromStaging}
 use Rattle.pfr_jobs.specs.declared.job.OpenJob.TheVariants.{Job}
 use Rattle.pfr_jobs.proofs.BeginLaw.{log_high}

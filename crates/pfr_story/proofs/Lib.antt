@@ -81,14 +81,5 @@ pub mod JobPower
 pub mod JobRecoveryBegun
 pub mod JobSafetyFuses
 pub mod JobMakes
-pub mod JobSafety
-pub mod JobSafetyPasses
-pub mod JobSafetyOther
-pub mod JobSafetyActive
-pub mod JobSafetyRaise
-pub mod JobSafetyRecovery
-pub mod JobSafetyResumed
-pub mod JobSafetyCancelled
-pub mod JobSafetyLaws
 pub mod JobContentsLaws
 pub mod JobReleases

@@ -1,5 +1,5 @@
 -- A pass that heeds marks, group by group.
-use Rattle.std.proofs.Common.{◌≡◌, ◌∙◌, ℕ, zero, suc, ◌+◌, ◌-◌, ◌*◌, ◌/◌, ◌≤◌, ◌<◌, ◌&&◌, Bool, true, false, not, min, refl, sym, ap, subst, arith, List, [], ◌∷◌, ◌++◌, filter, Result, Ok, Err}
+use Rattle.std.proofs.Common.{◌≡◌, ◌∙◌, ℕ, suc, ◌+◌, ◌-◌, ◌*◌, ◌/◌, ◌≤◌, ◌<◌, ◌&&◌, Bool, true, false, not, min, refl, sym, ap, subst, arith, List, ◌∷◌, ◌++◌, filter, Result, Err}
 use Rattle.std.proofs.lemmas.List.{append-nil}
 use Rattle.pfr_flash.specs.Operation.{Operation}
 use Rattle.pfr_strokes.specs.Replaced.{pages_below, pages_between, group_at, group_count}
@@ -8,8 +8,6 @@ use Rattle.pfr_strokes.specs.Passes.{Pair, at_side, DidAll, Passes}
 use Rattle.pfr_strokes.specs.declared.side.Side.TheVariants.{Bank}
 use Rattle.pfr_strokes.specs.declared.side.CopyFail.{CopyFail}
 use Rattle.pfr_strokes.proofs.PassesLemmas.{Did-none}
-use Rattle.pfr_strokes.proofs.PassLaws.{AllOf}
-use Rattle.pfr_strokes.proofs.ReplacedLaws.{IsOneOf}
 use Rattle.pfr_strokes.proofs.GroupLaws.{below_between, between_only, same_between, none_between, filter_below, before_below, of_between, from_of, from_between, group_next, below_group, in_group, behind_group}
 use Rattle.pfr_strokes.proofs.StretchLaws.{pass_remarked, pass_same, pass_then, pass_stopped}
 

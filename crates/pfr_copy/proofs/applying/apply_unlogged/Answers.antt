@@ -1,4 +1,3 @@
-use Rattle.pfr_flash.specs.FlashState.{now}
 use Rattle.pfr_flash.proofs.HoldingLemmas.{now_bytes}
 use Rattle.pfr_copy.proofs.JobLaw.{unlogged_follows, unlogged_rebuilt}
 use Rattle.pfr_copy.proofs.applying.apply_unlogged.Goals as goal

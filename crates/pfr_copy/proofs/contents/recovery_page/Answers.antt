@@ -1,5 +1,4 @@
 use Rattle.std.proofs.Common.{arith}
-use Rattle.pfr_flash.specs.FlashState.{now}
 use Rattle.pfr_flash.proofs.RangeLemmas.{length-now}
 use Rattle.pfr_copy.proofs.contents.recovery_page.Goals as goal
 

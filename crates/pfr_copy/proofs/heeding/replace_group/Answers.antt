@@ -1,4 +1,4 @@
-use Rattle.std.proofs.Common.{◌≡◌, ◌∙◌, ◌/◌, ℕ, length, ap, sym, arith}
+use Rattle.std.proofs.Common.{◌∙◌, ◌/◌, ℕ, length, ap, sym, arith}
 use Rattle.pfr_flash.specs.FlashState.{now}
 use Rattle.pfr_flash.proofs.RangeLemmas.{length-now}
 use Rattle.pfr_jobs.specs.LogPlans.{mark_plan}

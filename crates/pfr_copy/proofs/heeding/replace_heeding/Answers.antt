@@ -1,13 +1,13 @@
 use Rattle.std.proofs.Common.{◌≡◌, ◌∙◌, ℕ, refl, ap, sym, subst, arith, Err}
 use Rattle.std.proofs.lemmas.Result.{err_from_is_err_and}
-use Rattle.pfr_flash.specs.FlashState.{FlashState, now}
+use Rattle.pfr_flash.specs.FlashState.{now}
 use Rattle.pfr_flash.specs.FuseRow.{is_cleared}
 use Rattle.pfr_flash.specs.Layout.{IsBankSize}
 use Rattle.pfr_flash.specs.declared.names.Bank.{Bank}
 use Rattle.pfr_flash.proofs.HoldingLemmas.{now_bytes}
 use Rattle.pfr_jobs.specs.LogState.{LogState, is_marked, log_of}
 use Rattle.pfr_strokes.specs.declared.side.CopyFail.{CopyFail}
-use Rattle.pfr_copy.proofs.HeedLemmas.{IsHeeded, bank_size, heeded_all, heeded_none, kept_past, heeded_same, kept_on, kept_stop, store_size}
+use Rattle.pfr_copy.proofs.HeedLemmas.{bank_size, heeded_all, heeded_none, kept_past, heeded_same, kept_on, kept_stop, store_size}
 use Rattle.pfr_copy.proofs.ResumeLaw.{one_done, one_failed}
 use Rattle.pfr_copy.proofs.heeding.replace_heeding.Goals as goal
 use Rattle.pfr_copy.proofs.heeding.replace_heeding.Goals.{then-not-marked+in_ok-replace_group, else-not-marked}

@@ -1,4 +1,4 @@
-use Rattle.std.proofs.Common.{◌≡◌, ◌∙◌, ◌/◌, ◌-◌, ◌<◌, length, ap, refl, arith, Err, Ok}
+use Rattle.std.proofs.Common.{◌∙◌, ◌/◌, ◌-◌, ◌<◌, length, ap, refl, arith, Err}
 use Rattle.std.proofs.lemmas.Result.{err_from_is_err_and}
 use Rattle.pfr_flash.specs.FlashState.{now}
 use Rattle.pfr_flash.specs.declared.flash.FlashFail.{FlashFail}
