@@ -283,8 +283,7 @@ provision_grows root story slot = (tt, by_judged (judge_provision (store story) 
         let first : Operation = Program (256 * number) (slot_bytes root) in
         let unset : IsUnset (store (operated device.Nv first story)) =
         subst IsUnset (sym (image_operated device.Nv first story)) (still_unset (store story) number (slot_bytes root) long can.unset) in
-        AllSafe-append Growing (called device.Nv (provision_plan number root)) (Says (λ _. what.Provisioned) ∷ []) story
-        (
+        AllSafe-append Growing (called device.Nv (provision_plan number root)) (Says (λ _. what.Provisioned) ∷ []) story (
           slot_safe (256 * number) (slot_bytes root) story (omega (arith, below, long)) can.unset,
           (slot_safe (256 * number + 255) (0 ∷ []) (operated device.Nv first story) (omega (arith, below)) unset, (tt, tt)),
         ) (tt, tt)

@@ -141,8 +141,7 @@ module _ (accepts : Acceptance) (which : Bank) where
     store_kept op story same leaves at =
         let is : store (operated device.Nv op story) ≡ applied (store story) op = image_operated device.Nv op story in
         let there : SameProvision (store story) (store (operated device.Nv op story)) = subst (λ (image : List ℕ). SameProvision (store story) image) (sym is) (same at.size) in
-        let settles : IsSettled (store story) → IsSettled (store (operated device.Nv op story)) = settled_same (store story) (store (operated device.Nv op story)) there in
-        (
+        let settles : IsSettled (store story) → IsSettled (store (operated device.Nv op story)) = settled_same (store story) (store (operated device.Nv op story)) there in (
           (
             elim at.idle [
               | inl none ↦ open_none (SparesOpen accepts which device.Nv op story) (opens_from which [] story.notes) none

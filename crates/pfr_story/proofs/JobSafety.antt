@@ -200,11 +200,10 @@ module _ (accepts : Acceptance) (b : Bank) where
   pub begun_safe : (ops : List Operation) (story : Story) → NoneBefore (store story) b ops → AllWithin 0x1000 0x6000 ops → length (store story) ≡ 32768 → AllSafe (KeepsRecoverable accepts b) (called device.Nv ops) story
   begun_safe [] story before within size = (tt, tt)
   begun_safe (op ∷ ops) story before within size =
-      let is : store (operated device.Nv op story) ≡ applied (store story) op = image_operated device.Nv op story in
-      (
+      let is : store (operated device.Nv op story) ≡ applied (store story) op = image_operated device.Nv op story in (
         logged_safe op story (calm_good story (none_replacing b (store story) before.0)) size within.0,
         begun_safe ops (operated device.Nv op story) (subst (λ (nv : List ℕ). NoneBefore nv b ops) (sym is) before.1) within.1
-        (ap (λ (nv : List ℕ). length nv) is ∙ length-applied (store story) op ∙ size),
+            (ap (λ (nv : List ℕ). length nv) is ∙ length-applied (store story) op ∙ size),
       )
 
   -- An end of a job, where the recovery area is good if the bank can be recovered.
@@ -216,7 +215,7 @@ module _ (accepts : Acceptance) (b : Bank) where
       by_last _ (nothing none) = (tt, tt)
       by_last _ (found k few gated above) = (
         logged_safe (Program (current_at (store story) b + 64 * k + 63) (0 ∷ [])) story good size
-        (own_logs b (Program (current_at (store story) b + 64 * k + 63) (0 ∷ [])) (record { low = omega arith; high = omega (arith, few, page_inside b (spent_in (selector (store story) b))) })),
+            (own_logs b (Program (current_at (store story) b + 64 * k + 63) (0 ∷ [])) (record { low = omega arith; high = omega (arith, few, page_inside b (spent_in (selector (store story) b))) })),
         (tt, tt),
       )
 

@@ -100,10 +100,10 @@ module _ (accepts : Acceptance) (b : Bank) (story : Story) (size : length (store
   by_profile fuses profile.One was one =
       called_safe (KeepsRecoverable accepts b) device.Nv (λ here. Same fuses here) (λ op here before behind. same_keeps fuses op here before behind) (λ here. tt) (migration fuses) story
       (λ added part.
-          let is = image_did device.Nv added story in (
-            subst (λ (nv : List ℕ). SaysFuses fuses nv) (sym is) (migration_says (store story) fuses added size small was one part),
-            ap (λ (nv : List ℕ). open_job nv b) is ∙ apart_open b (store story) (migration fuses) added size (migration_apart b fuses) part,
-          ))
+      let is = image_did device.Nv added story in (
+        subst (λ (nv : List ℕ). SaysFuses fuses nv) (sym is) (migration_says (store story) fuses added size small was one part),
+        ap (λ (nv : List ℕ). open_job nv b) is ∙ apart_open b (store story) (migration fuses) added size (migration_apart b fuses) part,
+      ))
   by_profile fuses profile.Two was two = (tt, tt)
 
   -- At each cut of a migration a bank that can be recovered can be.

@@ -38,8 +38,7 @@ module _ (accepts : Acceptance) (b : Bank) (fuses : FusesState) where
       → IsActiveNext accepts b fuses kind active capsule story × IsDigest capsule.digest
   next_from kind active capsule story place p g =
       let len : ℕ = (layout_of fuses.provision b).area_len in
-      let digest = good_digest (mine b story) (store story) place len b accepts g.0 in
-      (
+      let digest = good_digest (mine b story) (store story) place len b accepts g.0 in (
         record { jobless = p; regions = regions_good accepts b fuses capsule story place len g p.holds.provisioned },
         subst (λ (c : CapsuleState). IsDigest c.digest) g.1 (record { long = digest.0; bytes = digest.1 }),
       )
@@ -99,7 +98,7 @@ module _ (accepts : Acceptance) (b : Bank) (fuses : FusesState) where
           let begun = begun_staged accepts b fuses given_up told capsule story next in
           let later : Story = after (begun_job b RecoveryFromStaging capsule.digest story) story in
           let work = leads_at _ (IsStaged accepts b fuses capsule.length capsule.digest) (IsReplaced accepts b fuses) (recovery_work given_up told accepts b fuses capsule)
-              (recovery_work_leads accepts b fuses given_up told capsule) later begun.ends in
+          (recovery_work_leads accepts b fuses given_up told capsule) later begun.ends in
           subst (λ (s : Story). IsGoodIn accepts b s) (sym (after-append (begun_job b RecoveryFromStaging capsule.digest story) (recovery_work given_up told accepts b fuses capsule later) story))
           (good_behind accepts b (recovery_work given_up told accepts b fuses capsule later) later work.safe (staged_can accepts b fuses capsule.length capsule.digest later begun.ends) work.ends.jobless.none)
 

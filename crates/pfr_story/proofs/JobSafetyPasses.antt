@@ -171,13 +171,19 @@ module _ (kind : JobKind) (b : Bank) (image nv : List ℕ) (capsule : CapsuleSta
   -- A job on the active image leaves the recovery area.
   pub active_work : AllWork layout.recovery_at layout.area_len (current_at nv b) (active_heeding kind b image nv capsule layout)
   unfolding active_heeding active_pages
-  active_work = (tt, heeding_work layout.recovery_at layout.area_len b nv image (active_page image capsule layout) (λ n. is_active_page kind image capsule layout n)
-      (page_beside kind image capsule layout valid regions) (active_pages kind image capsule layout) (pages_are (is_active_page kind image capsule layout) (length image / 4096)).only)
+  active_work = (
+    tt,
+    heeding_work layout.recovery_at layout.area_len b nv image (active_page image capsule layout) (λ n. is_active_page kind image capsule layout n)
+        (page_beside kind image capsule layout valid regions) (active_pages kind image capsule layout) (pages_are (is_active_page kind image capsule layout) (length image / 4096)).only,
+  )
 
   pub active_over : AllWork layout.recovery_at layout.area_len (current_at nv b) (active_ignoring kind image capsule layout)
   unfolding active_ignoring active_pages
-  active_over = (tt, ignoring_work layout.recovery_at layout.area_len b nv image (active_page image capsule layout) (λ n. is_active_page kind image capsule layout n)
-      (page_beside kind image capsule layout valid regions) (active_pages kind image capsule layout) (pages_are (is_active_page kind image capsule layout) (length image / 4096)).only)
+  active_over = (
+    tt,
+    ignoring_work layout.recovery_at layout.area_len b nv image (active_page image capsule layout) (λ n. is_active_page kind image capsule layout n)
+        (page_beside kind image capsule layout valid regions) (active_pages kind image capsule layout) (pages_are (is_active_page kind image capsule layout) (length image / 4096)).only,
+  )
 
 module _ (b : Bank) (image nv : List ℕ) (count : ℕ) (layout : Layout) (valid : IsValidLayout layout (length image)) (fits : count ≤ layout.area_len) where
   recovery_beside : (page : ℕ) → holds_text layout.recovery_at count page ≡ true → (4096 * page + 4096 ≤ layout.staging_at) ⊎ (layout.staging_at + layout.area_len ≤ 4096 * page)
@@ -196,13 +202,19 @@ module _ (b : Bank) (image nv : List ℕ) (count : ℕ) (layout : Layout) (valid
   -- One on the recovery area leaves the staging area.
   pub recovery_work : AllWork layout.staging_at layout.area_len (current_at nv b) (recovery_heeding b image nv count layout)
   unfolding recovery_heeding recovery_pages
-  recovery_work = (tt, heeding_work layout.staging_at layout.area_len b nv image (recovery_page image layout.staging_at count layout) (λ n. holds_text layout.recovery_at count n)
-      recovery_beside (recovery_pages layout count (length image)) (pages_are (holds_text layout.recovery_at count) (length image / 4096)).only)
+  recovery_work = (
+    tt,
+    heeding_work layout.staging_at layout.area_len b nv image (recovery_page image layout.staging_at count layout) (λ n. holds_text layout.recovery_at count n)
+        recovery_beside (recovery_pages layout count (length image)) (pages_are (holds_text layout.recovery_at count) (length image / 4096)).only,
+  )
 
   pub recovery_over : AllWork layout.staging_at layout.area_len (current_at nv b) (recovery_ignoring image count layout)
   unfolding recovery_ignoring recovery_pages
-  recovery_over = (tt, ignoring_work layout.staging_at layout.area_len b nv image (recovery_page image layout.staging_at count layout) (λ n. holds_text layout.recovery_at count n)
-      recovery_beside (recovery_pages layout count (length image)) (pages_are (holds_text layout.recovery_at count) (length image / 4096)).only)
+  recovery_over = (
+    tt,
+    ignoring_work layout.staging_at layout.area_len b nv image (recovery_page image layout.staging_at count layout) (λ n. holds_text layout.recovery_at count n)
+        recovery_beside (recovery_pages layout count (length image)) (pages_are (holds_text layout.recovery_at count) (length image / 4096)).only,
+  )
 
 -- ---- what a pass keeps
 pub record IsPassed (b : Bank) (from len : ℕ) (old new : Story) : Type 0 where
@@ -305,8 +317,7 @@ module _ (accepts : Acceptance) (b : Bank) (layout : Layout) where
   active_safe [] story c all = tt
   active_safe (deed ∷ deeds) story c all =
       let next : Story = moved_by (deed_move b deed) story in
-      let one : IsPassed b layout.recovery_at layout.area_len story next = one_passed b layout.recovery_at layout.area_len deed story c.size all.0 in
-      (
+      let one : IsPassed b layout.recovery_at layout.area_len story next = one_passed b layout.recovery_at layout.area_len deed story c.size all.0 in (
         one_active deed story c all.0,
         active_safe deeds next (calm_then story next one c) (subst (λ (at : ℕ). AllWork layout.recovery_at layout.area_len at deeds) (sym one.current) all.1),
       )

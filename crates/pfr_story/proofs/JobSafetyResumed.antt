@@ -110,7 +110,7 @@ module _ (accepts : Acceptance) (b : Bank) (fuses : FusesState) where
         })
     work_at RecoveryFromStaging capsule story h judged opened =
         let work = leads_at (KeepsBoth accepts b) (IsStaged accepts b fuses capsule.length capsule.digest) (IsReplaced accepts b fuses) (recovery_work notes.given_up notes.recovery_updated accepts b fuses capsule)
-            (recovery_work_leads accepts b fuses notes.given_up notes.recovery_updated capsule) story (staged_from accepts b fuses capsule story h judged opened) in
+        (recovery_work_leads accepts b fuses notes.given_up notes.recovery_updated capsule) story (staged_from accepts b fuses capsule story h judged opened) in
         record { safe = work.safe; ends = record { now = raised fuses b work.ends.svn; jobless = work.ends.jobless; provision = raised_provision fuses b work.ends.svn } }
 
     by_source_at : (kind : JobKind) (digest : List ℕ) (r : Result CapsuleState CapsuleFail) (story : Story) → judged_source accepts b fuses kind story ≡ r → HoldsJobs b fuses story
@@ -127,8 +127,8 @@ module _ (accepts : Acceptance) (b : Bank) (fuses : FusesState) where
             let here : Story = noted (λ _. notes.resumed kind) story in
             let named : capsule.digest ≡ digest = same_text capsule.digest digest (sym e) in
             let work = work_at kind capsule here (holds_noted b fuses (λ _. notes.resumed kind) story h)
-                (ap (λ (image : List ℕ). judge_area (source_of kind) b image fuses accepts) (image_noted (device_of b) (λ _. notes.resumed kind) story) ∙ judged)
-                (opened ∙ ap (λ (d : List ℕ). job.Job kind d) (sym named)) in
+            (ap (λ (image : List ℕ). judge_area (source_of kind) b image fuses accepts) (image_noted (device_of b) (λ _. notes.resumed kind) story) ∙ judged)
+            (opened ∙ ap (λ (d : List ℕ). job.Job kind d) (sym named)) in
             record { safe = ((tt, tt), work.safe); ends = work.ends }
         by_same false e = given_up_at notes.given_up story (record {
           holds = h;
