@@ -82,7 +82,7 @@ module _ (layout : Layout) (at : ℕ) where
       let same = IsTorn-within image op done t in
       (record { slot = m.slot; group = m.group; few = m.few; small = m.small; place = same.0 ∙ m.place; one = same.1 ∙ m.one }, tt)
 
-  cut_apart : (which : Side) (deeds trace : List Deed) (image : List ℕ) → IsDeedCut which deeds image trace → AllApart layout at deeds → AllApart layout at trace
+  pub cut_apart : (which : Side) (deeds trace : List Deed) (image : List ℕ) → IsDeedCut which deeds image trace → AllApart layout at deeds → AllApart layout at trace
   cut_apart which deeds trace image cut all =
       let split : AllApart layout at (cut.front ++ (cut.next ∷ cut.rest)) = subst (λ (xs : List Deed). AllApart layout at xs) cut.plan all in
       subst (λ (xs : List Deed). AllApart layout at xs) (sym cut.is)
@@ -171,7 +171,7 @@ module _ (kind : JobKind) (capsule : CapsuleState) (layout : Layout) (bank : Ban
         (fills kind (now a.bank) capsule layout can bytes n is.0 is.1).whole,
       )
 
-  all_apart : (marks : Marks) → AllApart layout (current_at (now a.store) bank)
+  pub all_apart : (marks : Marks) → AllApart layout (current_at (now a.store) bank)
       (marks_deeds marks bank (now a.store) (active_page (now a.bank) capsule layout) (group_pages (length (now a.bank))) (active_pages kind (now a.bank) capsule layout))
   all_apart Heed = (
     tt,

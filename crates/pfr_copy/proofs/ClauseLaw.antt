@@ -29,7 +29,7 @@ use Rattle.pfr_copy.specs.Marking.{HasLog, active_deeds, job_deeds, marks_deeds,
 use Rattle.pfr_copy.specs.Working.{CanDo, is_job_page, job_page, job_pages}
 use Rattle.pfr_copy.specs.declared.marks.Marks.{Marks}
 use Rattle.pfr_copy.specs.declared.marks.Marks.TheVariants.{Heed, Ignore, Without}
-use Rattle.pfr_copy.proofs.JobLaw.{job_fills, job_is, job_pages_are}
+use Rattle.pfr_copy.proofs.JobLaw.{AreJobPages, job_fills, job_is, job_pages_are, job_stays}
 use Rattle.pfr_copy.proofs.TouchLaw.{adds_plan, pass_touches}
 
 -- ---- both kinds of job
@@ -148,6 +148,17 @@ module _ (kind : JobKind) (capsule : CapsuleState) (layout : Layout) (bank : Ban
           (subst (λ (f : ℕ → List ℕ). play (now a.bank) (strokes_of f (written_pages marks bank (now a.store) (group_pages (length (now a.bank))) pages)) ≡ replaced (now a.bank) f (written_pages marks bank (now a.store) (group_pages (length (now a.bank))) pages)) is.content_is
           (job_is (now a.bank) capsule layout bytes kind can (written_pages marks bank (now a.store) (group_pages (length (now a.bank))) pages)
           (λ n one. among n (written_are marks bank (now a.store) (group_pages (length (now a.bank))) pages n one)))) passes
+
+    -- at Ok the job can be done again
+    pub again_by : (marks : Marks) → OnOk result (now b.bank ≡ replaced (now a.bank) content (written_pages marks bank (now a.store) (group_pages (length (now a.bank))) pages)) → OnOk result (CanDo kind (now b.bank) layout capsule)
+    again_by marks rebuilt =
+        let chosen : List ℕ = written_pages marks bank (now a.store) (group_pages (length (now a.bank))) pages in
+        let each : AreJobPages kind (now a.bank) capsule layout chosen = λ n one. among n (written_are marks bank (now a.store) (group_pages (length (now a.bank))) pages n one) in
+        on_ok result (now b.bank ≡ replaced (now a.bank) content chosen) (CanDo kind (now b.bank) layout capsule)
+        (λ here. subst (λ (image : List ℕ). CanDo kind image layout capsule)
+        (job_is (now a.bank) capsule layout bytes kind can chosen each
+        ∙ ap (λ (f : ℕ → List ℕ). replaced (now a.bank) f chosen) is.content_is ∙ sym here)
+        (job_stays (now a.bank) capsule layout bytes kind can chosen each).can) rebuilt
 
     pub spares_by : Passes (heeding bank (now a.store) content (group_pages (length (now a.bank))) pages) a b result → SparesMarked bank (group_pages (length (now a.bank))) a b
     spares_by passes ops added n touches =

@@ -13,3 +13,4 @@ pub mod CopyLemmas
 pub mod ClauseLaw
 pub mod RecoverLaw
 pub mod AreaLaw
+pub mod LogLaw

@@ -47,7 +47,7 @@ module _ (capsule : CapsuleState) (layout : Layout) (bank : Bank) (a b : Pair) (
       let inside = recovery_inside (now a.bank) capsule layout can bytes n (area_are n one).1 in
       record { low = inside.0; high = inside.1; whole = (recovery_fills (now a.bank) capsule layout can bytes n).whole }
 
-  all_pass : (marks : Marks) → AllPassDeeds layout (current_at (now a.store) bank)
+  pub all_pass : (marks : Marks) → AllPassDeeds layout (current_at (now a.store) bank)
       (marks_deeds marks bank (now a.store) (recovery_page (now a.bank) layout.staging_at capsule.length layout) (group_pages (length (now a.bank))) (recovery_pages layout capsule.length (length (now a.bank))))
   all_pass Heed = (
     tt,

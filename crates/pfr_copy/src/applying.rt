@@ -1,12 +1,16 @@
 // A capsule is applied to a bank's active image.
-ghost use Rattle.std.specs.Prelude.{◌≡◌, ◌/◌, OnOk, length};
+ghost use Rattle.std.specs.Prelude.{◌≡◌, ◌≢◌, ◌/◌, OnOk, length};
 ghost use Rattle.pfr_flash.specs.FlashState.{now, size_of};
 ghost use Rattle.pfr_flash.specs.Layout.{IsBankSize};
 ghost use Rattle.pfr_flash.specs.Plan.{Follows};
+ghost use Rattle.pfr_flash.specs.Range.{SameOutside};
+ghost use Rattle.pfr_flash.specs.declared.names.Bank.{Bank};
 ghost use Rattle.pfr_copy.specs.Applying.{CanApply, IsActive};
 ghost use Rattle.pfr_copy.specs.Copied.{AddsPlan, Resumes, SetsMarks, written_pages};
 ghost use Rattle.pfr_copy.specs.Marking.{HasLog, LogStays, active_deeds};
 ghost use Rattle.pfr_copy.specs.Recovering.{HasAreaBy};
+ghost use Rattle.pfr_copy.specs.declared.marks.Marks.TheVariants as how;
+ghost use Rattle.pfr_jobs.specs.Log.{log_at, open_job};
 ghost use Rattle.pfr_engine.specs.Acceptance.{Acceptance};
 ghost use Rattle.pfr_rebuilt.specs.ActiveCopying.{active_page, active_pages, active_rebuilt, is_active_page};
 ghost use Rattle.pfr_rebuilt.specs.Passing.{group_pages};
@@ -65,6 +69,11 @@ pub fn apply<F: Flash>(
         size_of (F.device nv.old) ≡ 32768 → HasGoodRecovery held.old.bank (now (F.device held.new.flash)) (now (F.device nv.new)) accepts }
     // It can be resumed by its marks.
     ensures resumes { Resumes marks held.old.bank (group_pages (length (now (F.device held.old.flash)))) (record { bank = F.device held.old.flash; store = F.device nv.old }) (record { bank = F.device held.new.flash; store = F.device nv.new }) }
+    // Where marks aren't heeded the store isn't called. However it ends, the store is as it was outside of the bank's log; and at Ok
+    // each log has open what it had.
+    ensures unused { marks ≢ how.Heed → F.device nv.new ≡ F.device nv.old }
+    ensures logged { SameOutside (log_at held.old.bank) 0x3000 (now (F.device nv.old)) (now (F.device nv.new)) }
+    ensures opened { OnOk result ((b : Bank) → open_job (now (F.device nv.new)) b ≡ open_job (now (F.device nv.old)) b) }
     ensures bank { held.new.bank ≡ held.old.bank }
 {
     copy(held.flash(), nv, jobs, capsule, layout, kind, marks)

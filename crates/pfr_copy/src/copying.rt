@@ -1,5 +1,5 @@
 // The pages of a job are written, whatever is done with marks.
-ghost use Rattle.std.specs.Prelude.{◌≡◌, ◌/◌, OnOk, length};
+ghost use Rattle.std.specs.Prelude.{◌≡◌, ◌≢◌, ◌/◌, OnOk, length};
 ghost use Rattle.pfr_flash.specs.FlashState.{FlashState, now, size_of};
 ghost use Rattle.pfr_flash.specs.Layout.{IsBankSize};
 ghost use Rattle.pfr_flash.specs.Plan.{Follows};
@@ -75,6 +75,7 @@ pub fn copy<F: Flash>(
         OnOk result (SetsMarks marks jobs.old.bank (is_job_page kind image capsule.now layout.now) (group_pages (length image)) (length image / 4096) (now (F.device nv.old)) (now (F.device nv.new))) }
     ensures one { marks ≡ how.Heed → OpensOne jobs.old.bank (group_pages (length (now (F.device flash.old))))
         (record { bank = F.device flash.old; store = F.device nv.old }) (record { bank = F.device flash.new; store = F.device nv.new }) }
+    ensures unused { marks ≢ how.Heed → F.device nv.new ≡ F.device nv.old }
 {
     match marks {
         Marks::Heed => replace_heeding(flash, nv, jobs, capsule, layout, kind),

@@ -1,11 +1,15 @@
 // A capsule is copied from a bank's staging area to its recovery area.
-ghost use Rattle.std.specs.Prelude.{◌≡◌, ◌/◌, OnOk, length};
+ghost use Rattle.std.specs.Prelude.{◌≡◌, ◌≢◌, ◌/◌, OnOk, length};
 ghost use Rattle.pfr_flash.specs.FlashState.{now, size_of};
 ghost use Rattle.pfr_flash.specs.Layout.{IsBankSize};
+ghost use Rattle.pfr_flash.specs.Range.{SameOutside};
+ghost use Rattle.pfr_flash.specs.declared.names.Bank.{Bank};
 ghost use Rattle.pfr_copy.specs.Applying.{CanCopyOver};
 ghost use Rattle.pfr_copy.specs.Copied.{AddsPlan, Resumes, SetsMarks, written_pages};
 ghost use Rattle.pfr_copy.specs.Marking.{HasLog, LogStays, recovery_deeds};
 ghost use Rattle.pfr_copy.specs.Recovering.{HasJobBy};
+ghost use Rattle.pfr_copy.specs.declared.marks.Marks.TheVariants as how;
+ghost use Rattle.pfr_jobs.specs.Log.{log_at, open_job};
 ghost use Rattle.pfr_engine.specs.Acceptance.{Acceptance};
 ghost use Rattle.pfr_rebuilt.specs.Copying.{holds_text, recovery_page, recovery_pages};
 ghost use Rattle.pfr_rebuilt.specs.Passing.{group_pages};
@@ -47,6 +51,8 @@ pub fn copy_recovery<F: Flash>(
     // At Ok the bank holds its image with the pages replaced that the marks left.
     ensures rebuilt { let image = now (F.device held.old.flash) in
         OnOk result (now (F.device held.new.flash) ≡ replaced image (recovery_page image layout.now.staging_at capsule.now.length layout.now) (written_pages marks held.old.bank (now (F.device nv.old)) (group_pages (length image)) (recovery_pages layout.now capsule.now.length (length image)))) }
+    // The capsule can be copied again.
+    ensures again { OnOk result (CanCopyOver (now (F.device held.new.flash)) layout.now capsule.now) }
     // Its new operations are those that write these pages, in rising order: all at Ok, and a front of them at Err.
     ensures strokes { let image = now (F.device held.old.flash) in
         AddsPlan (strokes_of (recovery_page image layout.now.staging_at capsule.now.length layout.now) (written_pages marks held.old.bank (now (F.device nv.old)) (group_pages (length image)) (recovery_pages layout.now capsule.now.length (length image)))) (F.device held.old.flash) (F.device held.new.flash) result }
@@ -58,6 +64,11 @@ pub fn copy_recovery<F: Flash>(
     // However it ends, a bank whose recovery job this is can be recovered.
     ensures recoverable { (accepts : Acceptance) → HasJobBy layout.now held.old.bank (now (F.device held.old.flash)) (now (F.device nv.old)) accepts →
         size_of (F.device nv.old) ≡ 32768 → IsRecoverable held.old.bank (now (F.device held.new.flash)) (now (F.device nv.new)) accepts }
+    // Where marks aren't heeded the store isn't called. However it ends, the store is as it was outside of the bank's log; and at Ok
+    // each log has open what it had.
+    ensures unused { marks ≢ how.Heed → F.device nv.new ≡ F.device nv.old }
+    ensures logged { SameOutside (log_at held.old.bank) 0x3000 (now (F.device nv.old)) (now (F.device nv.new)) }
+    ensures opened { OnOk result ((b : Bank) → open_job (now (F.device nv.new)) b ≡ open_job (now (F.device nv.old)) b) }
     ensures bank { held.new.bank ≡ held.old.bank }
 {
     copy(

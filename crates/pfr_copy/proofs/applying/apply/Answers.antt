@@ -5,6 +5,7 @@ use Rattle.pfr_rebuilt.specs.ActiveCopying.{active_page, active_pages, is_active
 use Rattle.pfr_copy.proofs.AreaLaw.{area_by}
 use Rattle.pfr_copy.proofs.ClauseLaw.{active_is, active_same, marks_by, passes_by, rebuilt_by, resumes_by, strokes_by}
 use Rattle.pfr_copy.proofs.JobLaw.{active_can}
+use Rattle.pfr_copy.proofs.LogLaw.{active_marks, logged_by, opened_by}
 use Rattle.pfr_strokes.specs.Deeds.{Deed}
 use Rattle.pfr_strokes.specs.Passes.{Passes}
 use Rattle.pfr_copy.proofs.applying.apply.Goals as goal
@@ -55,3 +56,21 @@ returns-clause-recoverable g c =
     c.copy.result c.args.marks c.args.jobs.now _ c.requires.log (rw c.flash.ensures.value at c.copy.ensures.passes) in
     area_by c.args.kind c.args.capsule.now c.args.layout.now c.args.held.now.bank (record { bank = d; store = nv }) (record { bank = g.F.Flash.device c.copy.new.flash; store = g.F.Flash.device c.copy.new.nv })
     c.requires.can (now_bytes d (g.met.F.Flash.holds_bytes c.args.held.now.flash)) c.requires.size c.args.marks c.copy.result by
+
+pub returns-clause-logged : goal.returns-clause-logged
+returns-clause-logged g c =
+    let d = g.F.Flash.device c.args.held.now.flash in
+    let nv = g.F.Flash.device c.args.nv.now in
+    let by = passes_by c.args.kind c.args.capsule.now c.args.layout.now c.args.held.now.bank (record { bank = d; store = nv }) (record { bank = g.F.Flash.device c.copy.new.flash; store = g.F.Flash.device c.copy.new.nv }) (active_page (now d) c.args.capsule.now c.args.layout.now) (is_active_page c.args.kind (now d) c.args.capsule.now c.args.layout.now) (active_pages c.args.kind (now d) c.args.capsule.now c.args.layout.now) (active_is c.args.kind c.requires.kind (now d) c.args.capsule.now c.args.layout.now)
+    c.copy.result c.args.marks c.args.jobs.now _ c.requires.log (rw c.flash.ensures.value at c.copy.ensures.passes) in
+    let only = active_marks c.args.kind c.args.capsule.now c.args.layout.now c.args.held.now.bank (record { bank = d; store = nv }) (record { bank = g.F.Flash.device c.copy.new.flash; store = g.F.Flash.device c.copy.new.nv }) c.requires.can (now_bytes d (g.met.F.Flash.holds_bytes c.args.held.now.flash)) c.args.marks in
+    logged_by c.args.held.now.bank (record { bank = d; store = nv }) (record { bank = g.F.Flash.device c.copy.new.flash; store = g.F.Flash.device c.copy.new.nv }) c.args.marks _ only c.copy.ensures.unused c.copy.result by
+
+pub returns-clause-opened : goal.returns-clause-opened
+returns-clause-opened g c =
+    let d = g.F.Flash.device c.args.held.now.flash in
+    let nv = g.F.Flash.device c.args.nv.now in
+    let by = passes_by c.args.kind c.args.capsule.now c.args.layout.now c.args.held.now.bank (record { bank = d; store = nv }) (record { bank = g.F.Flash.device c.copy.new.flash; store = g.F.Flash.device c.copy.new.nv }) (active_page (now d) c.args.capsule.now c.args.layout.now) (is_active_page c.args.kind (now d) c.args.capsule.now c.args.layout.now) (active_pages c.args.kind (now d) c.args.capsule.now c.args.layout.now) (active_is c.args.kind c.requires.kind (now d) c.args.capsule.now c.args.layout.now)
+    c.copy.result c.args.marks c.args.jobs.now _ c.requires.log (rw c.flash.ensures.value at c.copy.ensures.passes) in
+    let only = active_marks c.args.kind c.args.capsule.now c.args.layout.now c.args.held.now.bank (record { bank = d; store = nv }) (record { bank = g.F.Flash.device c.copy.new.flash; store = g.F.Flash.device c.copy.new.nv }) c.requires.can (now_bytes d (g.met.F.Flash.holds_bytes c.args.held.now.flash)) c.args.marks in
+    opened_by c.args.held.now.bank (record { bank = d; store = nv }) (record { bank = g.F.Flash.device c.copy.new.flash; store = g.F.Flash.device c.copy.new.nv }) c.args.marks _ only c.copy.ensures.unused c.copy.result by c.args.jobs.now c.requires.log

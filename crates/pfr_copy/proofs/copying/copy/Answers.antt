@@ -1,4 +1,4 @@
-use Rattle.std.proofs.Common.{◌/◌, length}
+use Rattle.std.proofs.Common.{◌/◌, length, refl}
 use Rattle.pfr_flash.specs.FlashState.{now}
 use Rattle.pfr_rebuilt.specs.Passing.{group_pages}
 use Rattle.pfr_copy.specs.Working.{is_job_page, job_page, job_pages}
@@ -15,4 +15,5 @@ returns-in-Ignore g c =
       stands = ignored_stands c.args.marks c.in-Ignore.is c.args.jobs.now.bank nv c.args.jobs.now c.replace_ignoring.result;
       marked = ignored_marks c.args.marks c.in-Ignore.is c.args.jobs.now.bank (is_job_page c.args.kind image c.args.capsule.now c.args.layout.now) (group_pages (length image)) (length image / 4096) nv c.replace_ignoring.result;
       one = λ heeds. absurd (ignored_none c.args.marks c.in-Ignore.is heeds);
+      unused = λ heeds. refl;
     }
