@@ -1,22 +1,31 @@
 -- A capsule that was judged well can be applied to a desk's bank.
-use Rattle.std.proofs.Common.{◌≡◌, ◌∙◌, ap, sym, subst, List, ℕ, All, inl, inr, None, Ok}
+use Rattle.std.proofs.Common.{◌≡◌, ◌∙◌, ap, sym, subst, List, length, ℕ, ◌+◌, ◌≤◌, All, inl, inr, None, Ok}
+use Rattle.pfr_flash.specs.Bytes.{AreBytes}
 use Rattle.pfr_flash.specs.FlashState.{FlashState, now, size_of}
 use Rattle.pfr_flash.specs.Layout.{IsBankSize, IsValidLayout}
 use Rattle.pfr_flash.specs.declared.layout.Layout.{Layout}
 use Rattle.pfr_flash.specs.declared.names.Bank.{Bank}
 use Rattle.pfr_flash.specs.Reading.{EndsAt}
 use Rattle.pfr_flash.proofs.EndsLemmas.{ends_content}
+use Rattle.pfr_flash.proofs.JudgingLemmas.{passed_none, passed_part}
+use Rattle.pfr_flash.proofs.RangeLemmas.{length-now}
 use Rattle.pfr_engine.specs.Acceptance.{Acceptance}
 use Rattle.pfr_fuses.specs.FusesState.{FusesState}
 use Rattle.pfr_fuses.specs.RootSlot.{layout_of}
 use Rattle.pfr_manifest.specs.Regions.{IsRegion}
-use Rattle.pfr_capsule.specs.CapsuleState.{CapsuleState}
+use Rattle.pfr_capsule.specs.CapsuleState.{CapsuleState, capsule_of}
+use Rattle.pfr_capsule.specs.Judge.{judge_capsule, judge_header, judge_pages}
 use Rattle.pfr_capsule.specs.Lying.{LiesAt}
+use Rattle.pfr_capsule.specs.PageBytes.{incoherent_region}
 use Rattle.pfr_capsule.specs.Pages.{HasIndex}
+use Rattle.pfr_capsule.specs.Signed.{end_of}
+use Rattle.pfr_capsule.specs.SignedJudge.{judge_signed}
+use Rattle.pfr_capsule.specs.declared.fail.CapsuleFail.TheVariants as causes
+use Rattle.pfr_capsule.proofs.GoodLaw.{signed_holds}
 use Rattle.pfr_auth.specs.Areas.{judge_area, place_of}
 use Rattle.pfr_auth.specs.declared.areas.Area.{Area}
 use Rattle.pfr_auth.specs.declared.areas.Area.TheVariants.{Recovery, Staging}
-use Rattle.pfr_copy.specs.Applying.{CanApply, LiesInArea}
+use Rattle.pfr_copy.specs.Applying.{CanApply, CanCopyOver, LiesInArea}
 use Rattle.pfr_copy.proofs.JudgedLaw.{judged_applies}
 use Rattle.pfr_story.specs.Story.{device_of}
 use Rattle.pfr_story.specs.World.{state_at}
@@ -44,3 +53,31 @@ capsule_left b whose seat mine read later other nv latches board layout fuses ac
     (subst (λ (l : Layout). All (IsRegion l (size_of read)) capsule.manifest.regions) laid regions) (lies_in area (now read) here capsule (subst (λ (l : Layout). LiesAt (now read) (place_of l area) l.area_len capsule) laid lies)) in
     let left : now read ≡ now (state_at (device_of b) (desk_world b later other nv latches board)) = sym (ends_content ends) ∙ ap now (sym (state_mine b later other nv latches board)) in
     subst (λ (image : List ℕ). CanApply image here capsule) left can
+
+-- one that was judged in the staging area can be copied to the recovery area
+pub capsule_staged : {F : Type 0} (b : Bank) (mine read later other nv : FlashState) (latches : Latches) (board : Board F) (layout : Layout) (fuses : FusesState) (area : Area) (capsule : CapsuleState)
+    → IsValidLayout (layout_of fuses.provision b) (size_of (state_at (device_of b) (desk_world b mine other nv latches board)))
+    → read ≡ mine → layout ≡ layout_of fuses.provision b → EndsAt None read later → LiesAt (now read) (place_of layout area) layout.area_len capsule → area ≡ Staging
+    → CanCopyOver (now (state_at (device_of b) (desk_world b later other nv latches board))) (layout_of fuses.provision b) capsule
+capsule_staged b mine read later other nv latches board layout fuses area capsule valid same laid ends lies staged =
+    let here : Layout = layout_of fuses.provision b in
+    let at : state_at (device_of b) (desk_world b mine other nv latches board) ≡ read = state_mine b mine other nv latches board ∙ sym same in
+    let left : now read ≡ now (state_at (device_of b) (desk_world b later other nv latches board)) = sym (ends_content ends) ∙ ap now (sym (state_mine b later other nv latches board)) in
+    let there : LiesAt (now read) here.staging_at here.area_len capsule =
+    subst (λ (a : Area). LiesAt (now read) (place_of here a) here.area_len capsule) staged (subst (λ (l : Layout). LiesAt (now read) (place_of l area) l.area_len capsule) laid lies) in
+    let known : IsValidLayout here (length (now read)) = subst (λ (n : ℕ). IsValidLayout here n) (sym (length-now read)) (subst (λ (d : FlashState). IsValidLayout here (size_of d)) at valid) in
+    let can : CanCopyOver (now read) here capsule = record { valid = known; lies = there } in
+    subst (λ (image : List ℕ). CanCopyOver image here capsule) left can
+
+-- the security version number of a manifest that was judged well is at most 127
+pub judged_svn : (area : Area) (b : Bank) (image : List ℕ) (fuses : FusesState) (accepts : Acceptance) (capsule : CapsuleState) → AreBytes image → judge_area area b image fuses accepts ≡ Ok capsule → capsule.manifest.svn ≤ 127
+unfolding judge_capsule
+judged_svn area b image fuses accepts capsule bytes h =
+    let layout : Layout = layout_of fuses.provision b in
+    let place : ℕ = place_of layout area in
+    let a = passed_part (judge_signed image place layout.area_len b layout fuses accepts) _ capsule h in
+    let d = passed_part (judge_header image (end_of a.0.inner) (end_of a.0.capsule)) _ capsule a.2 in
+    let e = passed_part (judge_pages image (end_of a.0.inner + 128) d.0 a.0.manifest.regions) _ capsule d.2 in
+    let f = passed_none causes.Incoherent (incoherent_region image e.0 a.0.manifest.regions) (Ok (capsule_of image place a.0 e.0)) capsule e.2 in
+    let is : capsule_of image place a.0 e.0 ≡ capsule = let last = f.1 in cc in
+    subst (λ (c : CapsuleState). c.manifest.svn ≤ 127) is (signed_holds image place layout.area_len b layout fuses accepts a.0 bytes a.1).spelled.svn

@@ -8,6 +8,7 @@ pub mod StoreLemmas
 pub mod StoredLemmas
 pub mod LogLemmas
 pub mod PlanLemmas
+pub mod PassingLemmas
 pub mod ProvisionLemmas
 pub mod TurnLemmas
 pub mod SoundLemmas

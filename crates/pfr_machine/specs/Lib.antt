@@ -7,3 +7,5 @@ pub mod Watching
 pub mod Provisions
 pub mod Verdicts
 pub mod VerdictsInside
+pub mod Passing
+pub mod Renewing

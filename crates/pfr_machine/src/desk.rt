@@ -7,7 +7,8 @@ ghost use Rattle.pfr_flash.specs.declared.names.Bank.{Bank};
 ghost use Rattle.pfr_auth.specs.Answer.{active_failure};
 ghost use Rattle.pfr_capsule.specs.Answer.{capsule_failure};
 ghost use Rattle.pfr_auth.specs.Areas.{judge_area};
-ghost use Rattle.pfr_copy.specs.Applying.{CanApply, IsActive};
+ghost use Rattle.pfr_auth.specs.declared.areas.Area.TheVariants.{Staging};
+ghost use Rattle.pfr_copy.specs.Applying.{CanApply, CanCopyOver, IsActive};
 ghost use Rattle.pfr_fuses.specs.FusesOf.{fuses_of};
 ghost use Rattle.pfr_fuses.specs.RootSlot.{layout_of};
 ghost use Rattle.pfr_report.specs.Texts.{HasLockText, HasText};
@@ -166,7 +167,12 @@ impl<F: Flash> Desk<F> {
         ensures cause { IfOk result (λ found. IfErr found (IsFound capsule_failure)) }
         ensures can { let layout = layout_of fuses.now.provision self.old.bank in
             IfOk result (λ found. IfOk found (CanApply (now (state_at (device_of self.old.bank) self.new.world)) layout)) }
+        ensures can_copy { let layout = layout_of fuses.now.provision self.old.bank in
+            area ≡ Staging → IfOk result (λ found. IfOk found (CanCopyOver (now (state_at (device_of self.old.bank) self.new.world)) layout)) }
+        ensures svn { IfOk result (λ found. IfOk found (λ c. c.manifest.svn ≤ 127)) }
         ensures stays { Stays 0 self.old self.new result }
+        ensures store { self.new.world.nv ≡ self.old.world.nv }
+        ensures image { now (state_at (device_of self.old.bank) self.new.world) ≡ now (state_at (device_of self.old.bank) self.old.world) }
     {
         let layout = fuses.provision().layout(self.bank);
         match capsule_at(self.held.flash(), area, self.bank, layout, fuses, engine) {

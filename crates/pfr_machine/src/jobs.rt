@@ -94,6 +94,7 @@ impl<F: Flash> Desk<F> {
         requires on { IsAwake self.old.bank self.old.world }
         ensures goes { Goes asks_store self.old.world self.new.world result }
         ensures found { IfOk result (λ log. log ≡ log_of (now self.new.world.nv) self.old.bank) }
+        ensures store { now self.new.world.nv ≡ now self.old.world.nv }
         ensures stays { Stays 0 self.old self.new result }
         ensures flash { state_at (device_of self.old.bank) self.new.world ≡ state_at (device_of self.old.bank) self.old.world }
     {
