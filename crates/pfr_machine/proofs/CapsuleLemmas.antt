@@ -30,7 +30,7 @@ use Rattle.pfr_copy.proofs.JudgedLaw.{judged_applies}
 use Rattle.pfr_story.specs.Story.{device_of}
 use Rattle.pfr_story.specs.World.{state_at}
 use Rattle.pfr_machine.specs.Inside.{IsDesk}
-use Rattle.pfr_machine.specs.Worlds.{Latches, Sitting, desk_world}
+use Rattle.pfr_machine.specs.Worlds.{DeskState, Latches, Sitting, desk_world}
 use Rattle.pfr_machine.specs.declared.board.Board.{Board}
 use Rattle.pfr_machine.proofs.DeskLemmas.{state_mine}
 
@@ -81,3 +81,10 @@ judged_svn area b image fuses accepts capsule bytes h =
     let f = passed_none causes.Incoherent (incoherent_region image e.0 a.0.manifest.regions) (Ok (capsule_of image place a.0 e.0)) capsule e.2 in
     let is : capsule_of image place a.0 e.0 ≡ capsule = let last = f.1 in cc in
     subst (λ (c : CapsuleState). c.manifest.svn ≤ 127) is (signed_holds image place layout.area_len b layout fuses accepts a.0 bytes a.1).spelled.svn
+
+-- behind the judgement the layout is valid still
+pub left_valid : (fuses : FusesState) (old new : DeskState) (capsule : CapsuleState) → new.bank ≡ old.bank → CanApply (now (state_at (device_of old.bank) new.world)) (layout_of fuses.provision old.bank) capsule
+    → IsValidLayout (layout_of fuses.provision new.bank) (size_of (state_at (device_of new.bank) new.world))
+left_valid fuses old new capsule same can =
+    subst (λ (b : Bank). IsValidLayout (layout_of fuses.provision b) (size_of (state_at (device_of b) new.world))) (sym same)
+    (subst (λ (n : ℕ). IsValidLayout (layout_of fuses.provision old.bank) n) (length-now (state_at (device_of old.bank) new.world)) can.valid)

@@ -80,7 +80,7 @@ module _ (next : LogState → Bank → Plan) where
   loaded_stopped b which fail old new h = Stopped-first asks_store (λ story. next (log_of (store story) b) b story) which fail old new h
 
 -- ---- something was noted, and it goes on
-pub noted_goes : {T : Type 0} (what : Bank → What) (said : What) (next : Bank → Plan) (old mid new : DeskState) (r : Result T Stop) → what old.bank ≡ said → mid ≡ record old { world = with_note said old.world }
+pub noted_goes : {T : Type 0} (what : Bank → What) (said : What) (next : Bank → Plan) (old mid new : DeskState) (r : Result T Stop) → said ≡ what old.bank → mid ≡ record old { world = with_note said old.world }
     → Goes (next mid.bank) mid.world new.world r → Goes (then (says (λ _. what old.bank)) (next old.bank)) old.world new.world r
 noted_goes what said next old mid new r is e g =
     goes_behind (says (λ _. what old.bank)) next old mid new r (ap (λ (d : DeskState). d.bank) e) (noted_ran (λ _. what old.bank) said old.world mid.world is (ap (λ (d : DeskState). d.world) e)) g

@@ -15,4 +15,4 @@ returns-in_err-log-clause-goes g c =
 pub returns-clause-goes : goal.returns-clause-goes
 returns-clause-goes g c =
     let next : LogState → Bank → Plan = λ log b. by_open (job_notes b) (g.E.Engine.accepts c.args.engine.now) b c.args.fuses.now log.job in
-    loaded_goes next c.args.self.now c.load_log.new.self c.by_open.new.self c.by_open.result c.in_ok-log.field-0 c.in_ok-log.ensures.goes c.in_ok-log.ensures.stays.bank c.in_ok-log.ensures.found c.by_open.ensures.goes
+    loaded_goes next c.args.self.now c.load_log.new.self c.by_open.new.self c.by_open.result c.in_ok-log.log c.in_ok-log.ensures.goes c.in_ok-log.ensures.stays.bank c.in_ok-log.ensures.found c.by_open.ensures.goes

@@ -6,8 +6,13 @@ use Rattle.pfr_auth.specs.declared.areas.Area.TheVariants.{Staging}
 use Rattle.pfr_story.specs.Plans.{by_staged}
 use Rattle.pfr_story.specs.Story.{Plan}
 use Rattle.pfr_machine.proofs.BringLemmas.{found_ends, found_halted}
+use Rattle.pfr_machine.proofs.CapsuleLemmas.{left_valid}
 use Rattle.pfr_machine.proofs.EndsLemmas.{ends_most}
 use Rattle.pfr_machine.proofs.desk.Desk.update_from_staging.Goals as goal
+
+pub update_and_check-requires-clause-valid : goal.update_and_check-requires-clause-valid
+update_and_check-requires-clause-valid g c =
+    left_valid c.args.fuses.now c.args.self c.judge.new.self c.in-Ok-Ok.capsule c.in-Ok-Ok.ensures.stays.bank (rw c.in-Ok-Ok.field-0-is at c.in-Ok-Ok.ensures.can)
 
 pub returns-in-Ok-Ok : goal.returns-in-Ok-Ok
 returns-in-Ok-Ok g c =

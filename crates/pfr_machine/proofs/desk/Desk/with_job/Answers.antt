@@ -16,4 +16,4 @@ returns-in_err-log-clause-goes g c =
 pub returns-clause-goes : goal.returns-clause-goes
 returns-clause-goes g c =
     let next : LogState → Bank → Plan = λ log b. by_log (is_spent_in log) b c.args.kind c.args.fuses.now c.args.capsule.now c.args.that in
-    loaded_goes next c.args.self.now c.load_log.new.self c.by_log.new.self c.by_log.result c.in_ok-log.field-0 c.in_ok-log.ensures.goes c.in_ok-log.ensures.stays.bank c.in_ok-log.ensures.found c.by_log.ensures.goes
+    loaded_goes next c.args.self.now c.load_log.new.self c.by_log.new.self c.by_log.result c.in_ok-log.log c.in_ok-log.ensures.goes c.in_ok-log.ensures.stays.bank c.in_ok-log.ensures.found c.by_log.ensures.goes
