@@ -1,11 +1,11 @@
 -- What is done in a bank's log, and a raise of its floor, leave of the store.
-use Rattle.std.proofs.Common.{◌≡◌, ◌∙◌, refl, sym, ap, subst, ℕ, ◌+◌, ◌<◌, ◌≤◌, ◌==◌, ◌&&◌, Bool, true, false, List, length, Option, Some, None, Result, Ok, Err, OnOk, arith, ◌⊎◌, inl, inr}
+use Rattle.std.proofs.Common.{◌≡◌, ◌∙◌, refl, sym, ap, ℕ, ◌+◌, ◌<◌, ◌≤◌, ◌==◌, ◌&&◌, false, List, length, Option, Some, None, Result, Ok, Err, OnOk, arith, ◌⊎◌, inl, inr}
 use Rattle.std.proofs.lemmas.Bool.{cases_lt}
 use Rattle.pfr_flash.specs.Bytes.{AreBytes, bytes_at}
 use Rattle.pfr_flash.specs.FlashState.{FlashState, now, size_of}
-use Rattle.pfr_flash.specs.Operation.{Operation, play}
+use Rattle.pfr_flash.specs.Operation.{Operation}
 use Rattle.pfr_flash.specs.Plan.{Follows}
-use Rattle.pfr_flash.specs.Range.{AllWithin, SameOutside}
+use Rattle.pfr_flash.specs.Range.{SameOutside}
 use Rattle.pfr_flash.specs.declared.flash.FlashFail.{FlashFail}
 use Rattle.pfr_flash.specs.declared.names.Bank.{Bank}
 use Rattle.pfr_flash.specs.declared.names.Bank.TheVariants as bank

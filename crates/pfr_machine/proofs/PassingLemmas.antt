@@ -2,7 +2,6 @@
 use Rattle.std.proofs.Common.{◌≡◌, ◌∙◌, refl, sym, ap, subst, arith, ℕ, true, List, length, Result, Ok, Err}
 use Rattle.pfr_flash.specs.FlashState.{FlashState, now, size_of}
 use Rattle.pfr_flash.specs.Range.{SameOutside}
-use Rattle.pfr_flash.specs.declared.flash.FlashFail.TheVariants.{Fault}
 use Rattle.pfr_flash.specs.declared.layout.Layout.{Layout}
 use Rattle.pfr_flash.specs.declared.names.Bank.{Bank}
 use Rattle.pfr_flash.specs.declared.names.Bank.TheVariants as bank
@@ -24,8 +23,7 @@ use Rattle.pfr_copy.specs.declared.marks.Marks.TheVariants.{Heed, Ignore, Withou
 use Rattle.pfr_story.specs.Deeds.{deed_moves}
 use Rattle.pfr_story.specs.Goes.{Goes}
 use Rattle.pfr_story.specs.Plans.{mine, store}
-use Rattle.pfr_story.specs.Story.{device_of}
-use Rattle.pfr_story.specs.World.{World, state_at, story_of}
+use Rattle.pfr_story.specs.World.{World, story_of}
 use Rattle.pfr_story.specs.declared.line.Line.{Line}
 use Rattle.pfr_story.specs.declared.stop.Stop.{Stop}
 use Rattle.pfr_story.proofs.Lift.{Goes-passes, OnlyBoth, at_pair, pair_of}

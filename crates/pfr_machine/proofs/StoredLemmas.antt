@@ -1,5 +1,5 @@
 -- What calls of the store do to a platform, one of whose banks is in work.
-use Rattle.std.proofs.Common.{◌≡◌, ◌∙◌, refl, sym, ap, subst, ℕ, true, List, [], Result, Ok, Err}
+use Rattle.std.proofs.Common.{◌≡◌, ◌∙◌, refl, sym, ap, subst, ℕ, true, List, Result}
 use Rattle.pfr_flash.specs.FlashState.{FlashState, now, size_of}
 use Rattle.pfr_flash.specs.Layout.{IsBankSize}
 use Rattle.pfr_flash.specs.Operation.{Operation}
@@ -13,15 +13,14 @@ use Rattle.pfr_report.specs.declared.note.Note.{Note}
 use Rattle.pfr_story.specs.Goes.{Goes}
 use Rattle.pfr_story.specs.Plans.{store}
 use Rattle.pfr_story.specs.Standing.{standing_of}
-use Rattle.pfr_story.specs.Story.{Plan, called, device_of, other_bank}
-use Rattle.pfr_story.specs.World.{World, state_at, story_of}
-use Rattle.pfr_story.specs.declared.line.Line.{Line}
+use Rattle.pfr_story.specs.Story.{called, device_of, other_bank}
+use Rattle.pfr_story.specs.World.{World, state_at}
 use Rattle.pfr_story.proofs.Lift.{OnlyAt, Goes-follows, at_device}
 use Rattle.pfr_machine.specs.Inside.{IsDesk, KeepsLaid}
-use Rattle.pfr_machine.specs.Worlds.{IsAwake, Latches, Sitting, Stays, StaysAwake, desk_world}
+use Rattle.pfr_machine.specs.Worlds.{Latches, Sitting, desk_world}
 use Rattle.pfr_machine.specs.declared.board.Board.{Board}
-use Rattle.pfr_machine.proofs.DeskLemmas.{Goes-as, awake_at, desk_notes, state_mine, state_other, state_store}
-use Rattle.pfr_machine.proofs.WorldLemmas.{AddsNotes-same, board_stays, seat_stays}
+use Rattle.pfr_machine.proofs.DeskLemmas.{Goes-as, desk_notes, state_mine, state_other, state_store}
+use Rattle.pfr_machine.proofs.WorldLemmas.{board_stays, seat_stays}
 
 -- ---- a bank stays in work while the store works
 fed_stays : (b owner : Bank) (seat : Sitting) (old new : World)
