@@ -14,6 +14,7 @@ case report
 platform tiny
 turn bmc 0x2345 01
 restored bmc @restored
+foresee @restore
 run
   1 power
   1 bmc held
@@ -23,6 +24,7 @@ run
   1 pch held
   1 pch released svn 3
 gives bmc @restored
+gives nv @restore.nv
 
 case made
 copy :examples/tiny/description.toml description
@@ -141,6 +143,8 @@ CHANGES = (
     ("  1 pch released svn 3\ngives bmc", "  1 pch released svn 3 \ngives bmc"),
     ("  1 pch released svn 3\ngives bmc", "  1 pch released svn 3\n  \ngives bmc"),
     ("gives bmc @restored\n", ""),
+    ("gives nv @restore.nv\n", ""),
+    ("foresee @restore\n", "foresee @restore\nturn @restore.nv 0x1000 01\n"),
     ("restored bmc @restored", "cut_restore bmc @restored 58 -"),
     ("run\n  1 power", "code 1\nrun\n  1 power"),
     ("gives nv :examples/tiny/nv", "gives nv :examples/tiny/blank.nv"),

@@ -31,7 +31,7 @@ def verdict(name, image, store, rows):
     active, running = judgement("trusted", "untrusted", judge.judge_image, image, name, store, rows)
     recovery, _ = judgement("good", "bad", judge.judge_capsule, image, layout.recovery_at, name, store, rows)
     staging, staged = judgement("good", "bad", judge.judge_capsule, image, layout.staging_at, name, store, rows)
-    job = jobber.name_of(jobber.job_of(store, name)) if foreseer.JOBS else "none"
+    job = jobber.name_of(jobber.job_of(store, name))
     same = "yes" if running and running == staged else "no"
     lines = [f"floor {judge.floor_of(store, name)}", f"job {job}", f"active {active}", f"recovery {recovery}"]
     return lines + [f"staging {staging}", f"same-manifest {same}"]

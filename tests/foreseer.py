@@ -2,10 +2,8 @@
 
 `foreseen` plays a script over two banks and a store, and gives the report and the bytes that stand there afterwards. The
 judgements are those of judge.py, the frames those of framer.py, the watches those of watcher.py, and what is written in a
-restore and in an update is restorer.py's. Of what goes beyond this nothing is told: it is Unforeseen.
-
-Where JOBS says so, the logs of jobs count, as jobber.py reads them, and certificates as certifier.py does. Else each log counts as
-spent, and no job is ever open.
+restore and in an update is restorer.py's, the logs of jobs jobber.py's, and the certificates certifier.py's. Of what goes beyond
+this nothing is told: it is Unforeseen.
 """
 
 from __future__ import annotations
@@ -24,7 +22,6 @@ from watcher import SPENT, Watch
 
 STORE_ROOM = 65536
 NEVER_READ = 1 << 31
-JOBS = False
 
 Foreseen = namedtuple("Foreseen", "report bmc pch nv")
 
@@ -89,12 +86,11 @@ class Device:
 class Platform:
     """Two banks and a store, and what was noted of them. `rows` are the engine's."""
 
-    def __init__(self, bmc, pch, nv, rows, wear=8, jobs=None):
+    def __init__(self, bmc, pch, nv, rows, wear=8):
         images = {"bmc": bmc, "pch": pch}
         self.devices = {name: Device(name, image, 17 * wear * (len(image) // PAGE)) for name, image in images.items()}
         self.devices["nv"] = Device("nv", nv, STORE_ROOM)
         self.rows = rows
-        self.jobs = JOBS if jobs is None else jobs
         self.seats = {name: Seat("off") for name in maker.BANKS}
         self.watches = {name: Watch(name) for name in maker.BANKS}
         self.item = 0
@@ -269,7 +265,7 @@ class Platform:
         cause = judge.layout_cause(restorer.layout_of(store, name), len(self.devices[name].image))
         if cause:
             return self.lock(name, f"layout {cause}")
-        job = jobber.job_of(store, name) if self.jobs else None
+        job = jobber.job_of(store, name)
         if job:
             self.resume(name, job)
         self.settle(name)
@@ -311,8 +307,6 @@ class Platform:
 
     def renew(self, name, intent):
         """Does an update by what is staged, or refuses it."""
-        if not self.jobs and intent not in restorer.UPDATES:
-            raise Unforeseen(f"an update of the intent {intent}")
         self.know_store()
         cause = self.cancel(name) if intent == "cert" else self.judged(name, "staging_at") or self.bar(name, intent)
         if cause:
@@ -325,7 +319,7 @@ class Platform:
 
     def is_spent(self, name):
         """Whether a work is done without a job."""
-        return not self.jobs or jobber.is_spent(self.stored(), name)
+        return jobber.is_spent(self.stored(), name)
 
     def bar(self, name, intent):
         """Why an update isn't done although its capsule is good, or nothing: the recovery area takes what runs, and by a job alone."""
@@ -415,14 +409,14 @@ def rows_of(engine):
     return set(engine.lower().split("\n"))
 
 
-def platform_of(files, jobs=None):
+def platform_of(files):
     """The platform of some files by name."""
-    return Platform(files["bmc"], files["pch"], files["nv"], rows_of(files["engine"].decode()), jobs=jobs)
+    return Platform(files["bmc"], files["pch"], files["nv"], rows_of(files["engine"].decode()))
 
 
-def foreseen(bmc, pch, nv, engine, script, wear=8, jobs=None):
+def foreseen(bmc, pch, nv, engine, script, wear=8):
     """The report of a script, and the images and the store that it leaves."""
-    platform = Platform(bmc, pch, nv, rows_of(engine), wear, jobs)
+    platform = Platform(bmc, pch, nv, rows_of(engine), wear)
     for line in items_of(script):
         platform.take(line)
     report = "".join(note + "\n" for note in platform.notes).encode()

@@ -312,7 +312,7 @@ def drawn_script(rng):
     """The files of a platform, and a script over them that the model foresees."""
     files, certificates, capsules = drawn_platform(rng)
     shapes = {name: shape_of(files, name) for name in maker.BANKS}
-    platform, lines = foreseer.platform_of(files, jobs=True), []
+    platform, lines = foreseer.platform_of(files), []
     for _ in range(rng.choice((6, 12, 24, 40))):
         name = rng.choice(maker.BANKS)
         if platform.runs(name) and not rng.randrange(12):

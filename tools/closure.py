@@ -30,6 +30,8 @@ from collections import namedtuple
 CRATES = os.path.join(os.path.dirname(FOLDER), "crates")
 DECLARED = ("TheVariants", "TheInside", "TheConstants")
 USE = re.compile(r"use Rattle\.([\w.]+?)(?:\.\{([^}]*)\})?(?: as (\w+))?\s*;?$")
+# A field of a record, whose name may be that of a definition, and isn't that.
+FIELD = re.compile(r"(?m)^(  pub )\S+(?= )")
 DEFINITION = re.compile(r"(?:(?:abbrev|unfoldable|opaque) (?:pub )?|pub )(?:record |data )?([^\s:({]+)")
 TYPE = re.compile(r"^(?:pub(?:\(crate\))? )?(struct|enum|trait) (\w+)")
 FUNCTION = re.compile(r"^\s*pub (?:const )?fn (\w+)")
@@ -166,7 +168,7 @@ class Specs:
         name = name_of_chunk(chunk)
         check_equations(chunk, name, path)
         text = "\n".join(chunk).strip("\n")
-        made = Definition(path, name, text, self.scope, text)
+        made = Definition(path, name, text, self.scope, FIELD.sub(r"\1", text))
         for each in [name] + constructors_of(chunk):
             self.definitions[each] = made
             self.scope.names[each] = (module, each)

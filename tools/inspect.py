@@ -43,7 +43,9 @@ what a capsule holds. Places and sizes of areas are hexadecimal, numbers of byte
   provisioned by slot W|unprovisioned|slots spent
   floor of B: W
   cancelled for TYPE: none|W..
-  job log of B: blank|W bytes that aren't 0xff
+  job log of B: blank|page W, W slots used[, spent], no job|job at slot W
+    job bad|KIND W, of capsule W   its kind and detail, and the digest of its capsule
+    groups marked: none|W..
   fault: ..                        what stands here hasn't the form that it is to have
 
 A region's digest is right or wrong for the image's own bytes, and in a capsule for what its pages give. With --store a root
@@ -67,6 +69,9 @@ ROWS = {
     2: ({"bmc": 0x7000, "pch": 0x7010}, 16, {1: 0x7020, 2: 0x7040, 3: 0x7060, 4: 0x7080}, 32),
 }
 JOB_LOGS = {"bmc": (1, 4), "pch": (4, 7)}
+JOB_KINDS = {1: "active-from-recovery", 2: "active-from-staging", 3: "recovery-from-staging"}
+JOB_DETAILS = {1: ("1", "2", "3"), 2: ("0", "1"), 3: ("0",)}
+SLOT = 64
 
 Layout = namedtuple("Layout", "manifest_at manifest_len recovery_at staging_at area_len")
 Head = namedtuple("Head", "at form length content_length type digest256 digest384")
@@ -437,14 +442,35 @@ def provisioned_line(store):
     return "unprovisioned" if any(store.is_blank(slot) for slot in range(8)) else "slots spent"
 
 
+def open_job_lines(slot):
+    """The job of an open slot: its kind and detail, its capsule, and the groups that are marked."""
+    kind, detail = slot[1], str(slot[2])
+    marked = [str(group) for group in range(128) if not slot[36 + group // 8] >> group % 8 & 1]
+    known = detail in JOB_DETAILS.get(kind, ())
+    job = "%s %s, of capsule %s" % (JOB_KINDS[kind], detail, slot[4:36].hex()) if known else "bad"
+    return ["job %s" % job, "groups marked: %s" % (" ".join(marked) or "none")]
+
+
+def log_lines(bank, log):
+    """A bank's log: its current page, how many slots of it are used, and what the last one whose gate is set has open."""
+    if log.count(0xFF) == len(log):
+        return ["job log of %s: blank" % bank]
+    selector = log[2 * PAGE :]
+    number = (PAGE - selector.count(0xFF)) % 2
+    page = log[number * PAGE : (number + 1) * PAGE]
+    slots = [page[at : at + SLOT] for at in range(0, PAGE, SLOT)]
+    used = max((at + 1 for at, slot in enumerate(slots) if slot.count(0xFF) < SLOT), default=0)
+    spent = ", spent" if used == len(slots) and 0xFF not in selector else ""
+    gated = [at for at, slot in enumerate(slots) if slot[0] != 0xFF]
+    is_open = gated and slots[gated[-1]][63] == 0xFF
+    told = "job at slot %d" % gated[-1] if is_open else "no job"
+    first = "job log of %s: page %d, %d slots used%s, %s" % (bank, number, used, spent, told)
+    return [first] + (inside(open_job_lines(slots[gated[-1]])) if is_open else [])
+
+
 def job_lines(store):
-    """The job logs. Nothing reads or writes them yet: when something does, their jobs are to be told here."""
-    lines = []
-    for bank, (first, last) in JOB_LOGS.items():
-        log = store.data[first * PAGE : last * PAGE]
-        written = len(log) - log.count(0xFF)
-        lines.append("job log of %s: %s" % (bank, "%d bytes that aren't 0xff" % written if written else "blank"))
-    return lines
+    logs = ((bank, store.data[first * PAGE : last * PAGE]) for bank, (first, last) in JOB_LOGS.items())
+    return [line for bank, log in logs for line in log_lines(bank, log)]
 
 
 def store_lines(data):

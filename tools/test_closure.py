@@ -78,6 +78,7 @@ class Plain:
             pieces = {}
             for piece in re.split(r"(?m)^(?=abbrev|unfoldable|pub record|pub data|infix)", text)[1:]:
                 name = re.match(r"(?:(?:abbrev|unfoldable) pub|pub record|pub data|infixl \d+) (\S+)", piece).group(1)
+                piece = re.sub(r"\n  pub \S+", "\n  pub", piece)
                 pieces[name] = (name, piece + pieces.get(name, ("", ""))[1])
                 if piece.startswith("pub data"):
                     pieces.update({each: (name, piece) for each in re.findall(r"(?m)^  (\w+) :", piece)})

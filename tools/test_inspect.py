@@ -227,7 +227,36 @@ class Made(unittest.TestCase):
         lines = lines_of(store)[1]
         for line in ("profile 1", "slot 7: gate open", "slots spent", "floor of bmc: 8", "cancelled for bmc-capsule: 0"):
             self.assertIn(line, lines)
-        self.assertEqual(lines[-2:], ["job log of bmc: blank", "job log of pch: 2 bytes that aren't 0xff"])
+        self.assertEqual(lines[-2:], ["job log of bmc: blank", "job log of pch: page 0, 0 slots used, no job"])
+
+    def test_logs_of_jobs(self):
+        slot = b"\0\x03\0\0" + bytes(range(32)) + b"\xfe\x7f" + maker.blank(26)
+        done = b"\0\x01\x02\0" + bytes(32) + bytes(16) + bytes(12)
+        store = maker.place(maker.blank(maker.STORE), 0x1000, done + slot)
+        store = maker.place(store, 0x4000, done)
+        lines = lines_of(store)[1]
+        digest = bytes(range(32)).hex()
+        wanted = [
+            "job log of bmc: page 0, 2 slots used, job at slot 1",
+            "  job recovery-from-staging 0, of capsule " + digest,
+            "  groups marked: 0 15",
+            "job log of pch: page 0, 1 slots used, no job",
+        ]
+        self.assertEqual(lines[-4:], wanted)
+
+    def test_other_pages_and_bad_jobs(self):
+        bad = b"\0\x02\x02\0" + bytes(32) + maker.blank(28)
+        store = maker.place(maker.blank(maker.STORE), 0x3000, b"\0")
+        store = maker.place(store, 0x2000 + 63 * 64, bad)
+        store = maker.place(store, 0x4000, bytes(4096))
+        store = maker.place(store, 0x6000, bytes(4096))
+        wanted = [
+            "job log of bmc: page 1, 64 slots used, job at slot 63",
+            "  job bad",
+            "  groups marked: none",
+            "job log of pch: page 0, 64 slots used, spent, no job",
+        ]
+        self.assertEqual(lines_of(store)[1][-4:], wanted)
 
 
 class BadlyFormed(unittest.TestCase):

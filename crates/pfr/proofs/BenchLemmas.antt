@@ -17,6 +17,7 @@ use Rattle.pfr_report.specs.declared.note.What.TheVariants.{Locked}
 use Rattle.pfr_story.specs.Story.{Story, device_of}
 use Rattle.pfr_story.specs.World.{World, story_of, state_at, added}
 use Rattle.pfr_story.specs.Run.{Did}
+use Rattle.pfr_story.specs.Keeping.{HasTrustedSpans}
 use Rattle.pfr_story.specs.Spans.{ReleasedSpans}
 use Rattle.pfr_story.specs.Promises.{FaultsAreNoted, ReleasesTrusted, LocksHaveCauses, FaultsHaveCauses}
 use Rattle.pfr_story.specs.Guards.{Guards}
@@ -29,7 +30,11 @@ use Rattle.pfr_story.proofs.JudgedLaws.{Turn-judges}
 use Rattle.pfr_story.proofs.NoteLaws.{Turn-distrusts, Turn-restores}
 use Rattle.pfr_story.proofs.FaultLaws.{Turn-told}
 use Rattle.pfr_story.proofs.BringLaws.{Turn-brings, Turn-powers}
+use Rattle.pfr_story.proofs.CancelLaws.{Turn-cancels}
+use Rattle.pfr_story.proofs.IdleLaws.{Turn-idle}
 use Rattle.pfr_story.proofs.RecoveryLaws.{Turn-recoverable}
+use Rattle.pfr_story.proofs.RecoveryUpdateLaws.{Turn-updates_recovery}
+use Rattle.pfr_story.proofs.TakesUpLaws.{Turn-takes_up}
 use Rattle.pfr_story.proofs.RiseLaws.{Turn-counted}
 use Rattle.pfr_story.proofs.UpdateLaws.{Turn-updates}
 use Rattle.pfr_story.proofs.RunLaws.{IsFresh, IsLater, Reached-spans, Reached-releases, Reached-causes, Reached-faults, Reached-told, armed_story, failed_armed}
@@ -119,7 +124,7 @@ run_with : (bench : Bench) (has : HasRun bench) (Goes : Item → World → World
     → (items : List Item) → IsRun items bench → IsRunWith Goes items bench
 run_with bench has Goes did items run = record {
   end = run.end;
-  reached = Reached-with (acceptance bench.engine) bench.script.tears Goes (fresh_of bench) has.sizes.nv did items (fresh_of bench) run.end
+  reached = Reached-with (acceptance bench.engine) bench.script.tears Goes (fresh_of bench) has.sizes.bmc has.sizes.pch has.sizes.nv did items (fresh_of bench) run.end
       (fresh_underway (acceptance bench.engine) (fresh_of bench) (fresh_start bench has)) (held_at bench run.end run.left) run.reached;
   left = run.left;
 }
@@ -148,29 +153,33 @@ later_sizes first w sizes later = record {
   nv = ap (λ (start : List ℕ). length start) later.precedes.nv.start ∙ sizes.nv;
 }
 
-did_brings : (accepts : Acceptance) (tears : List (List ℕ)) (i : Item) (old new : World) → HasSizes old → TrustedRunning accepts old → HaveBytes new → Did accepts tears i old new → BringsUpIn accepts i old new
-did_brings accepts tears (item.Event e) old new sizes trusted held t = record {
-  calm = Turn-brings accepts e old new t held;
-  powers = Turn-powers accepts e old new t held sizes.bmc sizes.pch;
-  distrusts = Turn-distrusts accepts e old new t;
-  restores = Turn-restores accepts e old new t held;
-  judges = Turn-judges accepts e old new t trusted;
+did_brings : (accepts : Acceptance) (tears : List (List ℕ)) (i : Item) (old new : World) → HasSizes old → TrustedRunning accepts old → ((which : Bank) → HasTrustedSpans accepts which (story_of old)) → HaveBytes new → Did accepts tears i old new → BringsUpIn accepts i old new
+did_brings accepts tears (item.Event e) old new sizes trusted spans held t = record {
+  takes_up = Turn-takes_up accepts e old new sizes.nv t held sizes.bmc sizes.pch;
+  updates_recovery = Turn-updates_recovery accepts e old new t held sizes.bmc sizes.pch sizes.nv trusted (λ which. (spans which).idle) (λ which. (spans which).settled);
+  cancels = Turn-cancels accepts e old new t sizes.nv trusted;
+  no_job = λ which. Turn-idle accepts which e old new t held sizes.bmc sizes.pch sizes.nv spans;
+  calm = Turn-brings accepts e old new sizes.nv t held sizes.bmc sizes.pch;
+  powers = Turn-powers accepts e old new sizes.nv t held sizes.bmc sizes.pch;
+  distrusts = Turn-distrusts accepts e old new sizes.nv t;
+  restores = Turn-restores accepts e old new sizes.nv t held;
+  judges = Turn-judges accepts e old new sizes.nv t trusted;
   filters = Turn-filters accepts e old new t trusted;
-  updates = Turn-updates accepts e old new t held sizes.bmc sizes.pch trusted;
-  expires = Turn-expires accepts e old new t held sizes.bmc sizes.pch trusted;
+  updates = Turn-updates accepts e old new t held sizes.bmc sizes.pch sizes.nv trusted (λ which. (spans which).idle);
+  expires = Turn-expires accepts e old new t held sizes.bmc sizes.pch sizes.nv trusted (λ which. (spans which).idle);
   boots = Turn-boots accepts e old new t;
   guards = Turn-guards accepts e old new t;
-  counted = Turn-counted accepts e old new t;
-  recoverable = Turn-recoverable accepts e old new t held sizes.bmc sizes.pch sizes.nv;
+  counted = Turn-counted accepts e old new sizes.nv t;
+  recoverable = Turn-recoverable accepts e old new t held sizes.bmc sizes.pch sizes.nv spans;
 }
-did_brings accepts tears (item.Arm arm) old new sizes trusted held is = tt
+did_brings accepts tears (item.Arm arm) old new sizes trusted spans held is = tt
 
 brings_up : (bench : Bench) → HasRun bench → BringsBanksUp bench
 brings_up bench has =
     let accepts = acceptance bench.engine in
     run_with bench has (BringsUpIn accepts)
     (λ i old new underway held did. did_brings accepts bench.script.tears i old new (later_sizes (fresh_of bench) old has.sizes underway.later)
-    (underway_trusted accepts (fresh_of bench) old underway) held did)
+    (underway_trusted accepts (fresh_of bench) old underway) underway.trusted held did)
 
 -- ---- of each bench
 of_each : (P : Bench → Type 0) → ((bench : Bench) → HasRun bench → P bench) → (option : Option Bench) → IfSome option HasRun → IfSome option P

@@ -4,10 +4,11 @@ use Rattle.pfr_flash.specs.declared.names.Bank.{Bank}
 use Rattle.pfr_engine.specs.Acceptance.{Acceptance}
 use Rattle.pfr_engine.specs.Accepting.{acceptance}
 use Rattle.pfr_fuses.specs.Growth.{NeverGoesBack, KeepsProvision}
-use Rattle.pfr_recoverable.specs.Recoverable.{HasGoodRecovery}
+use Rattle.pfr_recoverable.specs.Recoverable.{IsRecoverable}
 use Rattle.pfr_script.specs.declared.event.Event.{Event}
 use Rattle.pfr_script.specs.declared.item.Item.{Item}
 use Rattle.pfr_script.specs.declared.item.Item.TheVariants as item
+use Rattle.pfr_story.specs.JobPromises.{Cancels, RecoveryUpdates, TakesJobsUp}
 use Rattle.pfr_story.specs.World.{NoneFailed, World, story_of}
 use Rattle.pfr_story.specs.Run.{Did, Reached}
 use Rattle.pfr_story.specs.Spans.{ReleasedSpans}
@@ -15,7 +16,7 @@ use Rattle.pfr_story.specs.Bringing.{BringsUpCalm, PowerReleases}
 use Rattle.pfr_story.specs.Filtering.{FiltersSo}
 use Rattle.pfr_story.specs.Guarding.{Boots, Expires, GuardsFollow}
 use Rattle.pfr_story.specs.Recovery.{CountsRise, StaysRecoverable}
-use Rattle.pfr_story.specs.Promises.{FaultsAreNoted, ReleasesTrusted, LocksHaveCauses, FaultsHaveCauses, DistrustsWithCause, JudgesAtPower, RestoresGood}
+use Rattle.pfr_story.specs.Promises.{FaultsAreNoted, ReleasesTrusted, LocksHaveCauses, FaultsHaveCauses, DistrustsWithCause, JudgesAtPower, RestoresGood, RunningHasNoJob}
 use Rattle.pfr_story.specs.Updating.{Updates}
 use Rattle.pfr.specs.Benches.{fresh_of, end_of, StandsAs, IsRun}
 use Rattle.pfr.specs.declared.finished.Bench.{Bench}
@@ -44,25 +45,29 @@ StaysProvisioned bench = KeepsProvision (fresh_of bench).nv bench.nv.device
 
 -- What an event does to banks.
 pub record BringsUpSo (accepts : Acceptance) (event : Event) (old new : World) : Type 0 where
-  -- A power-on brings each up by the contents where it is held, unless a call failed while it was in work, and releases each that has a
-  -- good capsule in its recovery area.
+  -- A power-on takes the jobs up that are open, brings each bank up by the contents then, unless a call failed while it was in work, and
+  -- releases each that can be recovered.
+  pub takes_up : TakesJobsUp event accepts old new
   pub calm : BringsUpCalm event accepts old new
-  pub powers : PowerReleases (λ bank image nv. HasGoodRecovery bank image nv accepts) event old new
-  -- None is called untrusted or restored without cause, and at no other event is one judged anew.
+  pub powers : PowerReleases (λ bank image nv. IsRecoverable bank image nv accepts) event old new
+  -- None is called untrusted or restored without cause, and where no fuses change none is judged anew at another event.
   pub distrusts : DistrustsWithCause accepts old new
   pub restores : RestoresGood accepts old new
   pub judges : JudgesAtPower event old new
   -- Frames of a bank that runs are judged by what it is trusted by, and updates before anything is written.
   pub filters : FiltersSo event accepts old new
   pub updates : Updates event accepts old new
+  pub updates_recovery : RecoveryUpdates event accepts old new
+  pub cancels : Cancels event accepts old new
+  pub no_job : RunningHasNoJob new
   -- A watch that expires restores or locks its bank, stages that are passed are noted, and all that guards banks follows the event and
   -- the notes.
   pub expires : Expires event accepts old new
   pub boots : Boots event old new
   pub guards : GuardsFollow event old new
-  -- The counts of the notes rise; and a good capsule stays, from each moment to the next.
+  -- The counts of the notes rise; and a bank that can be recovered can be still, from each moment to the next.
   pub counted : CountsRise old new
-  pub recoverable : StaysRecoverable (λ bank image nv. HasGoodRecovery bank image nv accepts) old new
+  pub recoverable : StaysRecoverable (λ bank image nv. IsRecoverable bank image nv accepts) old new
 
 abbrev pub BringsUpIn : Acceptance → Item → World → World → Type 0
 BringsUpIn accepts (item.Event event) old new = BringsUpSo accepts event old new

@@ -168,20 +168,3 @@ active_can kind active image capsule layout can = (active_job kind active image 
 
 pub job_pages_are : (kind : JobKind) (image : List ℕ) (capsule : CapsuleState) (layout : Layout) → AreJobPages kind image capsule layout (job_pages kind image capsule layout)
 job_pages_are kind image capsule layout n one = (pages_are (is_job_page kind image capsule layout) (length image / 4096)).only n one
-
-module _ (kind : JobKind) (active : IsActive kind) (capsule : CapsuleState) (layout : Layout) (a b : FlashState) (result : Result (Unit {0}) FlashFail) where
-  pub unlogged_follows : Follows (strokes_of (job_page kind (now a) capsule layout) (job_pages kind (now a) capsule layout)) a b result
-      → Follows (strokes_of (active_page (now a) capsule layout) (active_pages kind (now a) capsule layout)) a b result
-  unlogged_follows h =
-      let same = active_job kind active (now a) capsule layout in
-      subst (λ (pages : List ℕ). Follows (strokes_of (active_page (now a) capsule layout) pages) a b result) same.2
-      (subst (λ (content : ℕ → List ℕ). Follows (strokes_of content (job_pages kind (now a) capsule layout)) a b result) same.1 h)
-
-  pub unlogged_rebuilt : CanApply (now a) layout capsule → AreBytes (now a) → Follows (strokes_of (job_page kind (now a) capsule layout) (job_pages kind (now a) capsule layout)) a b result
-      → OnOk result (now b ≡ active_rebuilt kind (now a) capsule layout)
-  unlogged_rebuilt can bytes h =
-      let same = active_job kind active (now a) capsule layout in
-      follows_now (strokes_of (job_page kind (now a) capsule layout) (job_pages kind (now a) capsule layout)) a b (active_rebuilt kind (now a) capsule layout) result h
-      (job_is (now a) capsule layout bytes kind (same.0 can) (job_pages kind (now a) capsule layout) (job_pages_are kind (now a) capsule layout)
-      ∙ ap (λ (content : ℕ → List ℕ). replaced (now a) content (job_pages kind (now a) capsule layout)) same.1
-      ∙ ap (λ (pages : List ℕ). replaced (now a) (active_page (now a) capsule layout) pages) same.2)

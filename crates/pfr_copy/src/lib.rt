@@ -10,6 +10,6 @@ mod pages;
 mod recovering;
 mod taking;
 
-pub use applying::{apply, apply_unlogged};
+pub use applying::apply;
 pub use marks::Marks;
 pub use recovering::copy_recovery;

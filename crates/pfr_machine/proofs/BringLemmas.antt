@@ -6,6 +6,7 @@ use Rattle.pfr_flash.specs.Holding.{HoldsBytes}
 use Rattle.pfr_flash.specs.Layout.{IsBankSize, IsValidLayout}
 use Rattle.pfr_flash.specs.declared.layout.Layout.{Layout}
 use Rattle.pfr_flash.specs.declared.names.Bank.{Bank}
+use Rattle.pfr_flash.specs.declared.names.Bank.TheVariants as bank
 use Rattle.pfr_flash.proofs.HoldingLemmas.{now_bytes}
 use Rattle.pfr_engine.specs.Acceptance.{Acceptance}
 use Rattle.pfr_fuses.specs.FusesState.{FusesState}
@@ -17,19 +18,33 @@ use Rattle.pfr_capsule.specs.declared.fail.CapsuleFail.{CapsuleFail}
 use Rattle.pfr_auth.specs.Areas.{judge_area}
 use Rattle.pfr_auth.specs.declared.areas.Area.{Area}
 use Rattle.pfr_auth.specs.declared.fail.ActiveFail.{ActiveFail}
-use Rattle.pfr_jobs.specs.declared.job.JobKind.TheVariants.{ActiveFromStaging}
+use Rattle.pfr_jobs.specs.Log.{open_job}
+use Rattle.pfr_jobs.specs.LogPlans.{IsKind}
+use Rattle.pfr_jobs.specs.declared.job.JobKind.TheVariants.{ActiveFromRecovery, ActiveFromStaging}
+use Rattle.pfr_jobs.specs.declared.job.OpenJob.TheVariants as job
+use Rattle.pfr_report.specs.declared.note.LockWhy.{LockWhy}
 use Rattle.pfr_report.specs.declared.note.What.TheVariants.{Updated}
-use Rattle.pfr_story.specs.Story.{Story, Plan, after, then, device_of}
-use Rattle.pfr_story.specs.World.{World, story_of, state_at}
+use Rattle.pfr_fuses.specs.declared.root_slot.RootSlot.{RootSlot}
+use Rattle.pfr_story.specs.Story.{Story, Move, Plan, after, then, device_of}
+use Rattle.pfr_story.specs.World.{World, AllMoved, story_of, state_at}
 use Rattle.pfr_story.specs.Goes.{Ran, Goes}
-use Rattle.pfr_story.specs.Plans.{mine, asks, judged_active, judged_recovery, judged_staging, restored, updated, by_second, checked_again, by_active, tail}
+use Rattle.pfr_story.specs.Plans.{mine, store, asks, judged_active, judged_recovery, judged_staging, ready_of, restored, by_second, checked_again, checked_then, by_fuses, by_active, by_ready, tail}
+use Rattle.pfr_story.specs.UpdatePlans.{updated}
+use Rattle.pfr_story.specs.JobPlans.{job_notes, resumed}
 use Rattle.pfr_story.specs.declared.stop.Stop.{Stop}
-use Rattle.pfr_story.proofs.AnewLaws.{anew_judged}
-use Rattle.pfr_story.proofs.RestoreLaws.{found_staged, not_staging, restored_judged}
+use Rattle.pfr_flash.proofs.RangeLemmas.{length-now}
+use Rattle.pfr_story.proofs.BringRules.{ready_is}
+use Rattle.pfr_story.proofs.JobRestores.{anew_judged, restored_judged}
+use Rattle.pfr_story.proofs.RestoreLaws.{found_staged, not_staging}
 use Rattle.pfr_machine.specs.Worlds.{DeskState, Stays}
 use Rattle.pfr_machine.specs.Ready.{HaltsIn, EndsSeated, DistrustedBy}
 use Rattle.pfr_machine.specs.declared.desk.Halt.{Halt}
 use Rattle.pfr_machine.proofs.EndsLemmas.{ends_as, ends_most, ends_then, halts_called, halts_first, image_now, size_now}
+
+-- a device keeps its size
+size_stays : (b : Bank) (old new : World) → AllMoved old new → size_of (state_at (device_of b) new) ≡ size_of (state_at (device_of b) old)
+size_stays bank.Bmc old new m = ap (λ (bytes : List ℕ). length bytes) m.bmc.start
+size_stays bank.Pch old new m = ap (λ (bytes : List ℕ). length bytes) m.pch.start
 
 -- ---- the first check of the active image
 module _ (accepts : Acceptance) (fuses : FusesState) where
@@ -48,6 +63,14 @@ module _ (accepts : Acceptance) (fuses : FusesState) where
   -- ---- the second, behind a restore
   pub again_halted : (old : DeskState) (stop : Stop) (new : DeskState) → HaltsIn (asks old.bank) 0 old stop new → HaltsIn (checked_again accepts old.bank fuses) 1 old stop new
   again_halted old stop new h = halts_first (asks old.bank) (λ story. by_second old.bank (judged_active accepts old.bank fuses story) story) 0 1 old stop new (omega arith) h
+
+  -- ---- it is checked by the fuses as they are then
+  pub then_ends : {F : Type 0} (old : DeskState) (r : Result World (Halt F)) → fuses_of (now old.world.nv) ≡ Ok fuses → IsValidLayout (layout_of fuses.provision old.bank) (size_of (state_at (device_of old.bank) old.world))
+      → EndsSeated (tail accepts old.bank fuses) 3 old r → EndsSeated (checked_then accepts old.bank) 3 old r
+  then_ends old r found valid e =
+      let here = subst (λ (n : ℕ). IsValidLayout (layout_of fuses.provision old.bank) n) (sym (size_now old.bank old.world)) valid in
+      ends_as (tail accepts old.bank fuses) (checked_then accepts old.bank) 3 old r
+      (ap (λ (ready : Result FusesState LockWhy). by_fuses accepts old.bank ready (story_of old.world)) (sym (ready_is old.bank fuses (story_of old.world) found here))) e
 
   -- ---- it is made anew, and checked again
   pub anew_ends : {T F : Type 0} (anew : Plan) (old mid : DeskState) (answer : Result T Stop) (r : Result World (Halt F)) → Ran (anew (story_of old.world)) old.world mid.world → Stays 1 old mid answer
@@ -69,7 +92,10 @@ module _ (accepts : Acceptance) (fuses : FusesState) where
 
   -- of a bank whose layout is valid, behind a capsule that was judged well
   module _ (capsule : CapsuleState) (old mid : DeskState) (found : fuses_of (now old.world.nv) ≡ Ok fuses) (valid : IsValidLayout (layout_of fuses.provision old.bank) (size_of (state_at (device_of old.bank) old.world)))
-      (size : IsBankSize (size_of (state_at (device_of old.bank) old.world))) (holds : HoldsBytes (state_at (device_of old.bank) old.world)) where
+      (size : IsBankSize (size_of (state_at (device_of old.bank) old.world))) (holds : HoldsBytes (state_at (device_of old.bank) old.world)) (fed : size_of old.world.nv ≡ 32768) (none : open_job (now old.world.nv) old.bank ≡ job.None) where
+    here_fed : length (store (story_of old.world)) ≡ 32768
+    here_fed = length-now old.world.nv ∙ fed
+
     here_valid : IsValidLayout (layout_of fuses.provision old.bank) (length (mine old.bank (story_of old.world)))
     here_valid = subst (λ (n : ℕ). IsValidLayout (layout_of fuses.provision old.bank) n) (sym (size_now old.bank old.world)) valid
 
@@ -79,11 +105,11 @@ module _ (accepts : Acceptance) (fuses : FusesState) where
     here_bytes : AreBytes (mine old.bank (story_of old.world))
     here_bytes = subst (λ (bytes : List ℕ). AreBytes bytes) (sym (image_now old.bank old.world)) (now_bytes (state_at (device_of old.bank) old.world) holds)
 
-    pub restored_trusted : (level : ℕ) → judged_recovery accepts old.bank fuses (story_of old.world) ≡ Ok capsule → Ran (restored old.bank level fuses capsule (story_of old.world)) old.world mid.world → mid.bank ≡ old.bank
+    pub restored_trusted : (level : ℕ) → IsKind (ActiveFromRecovery level) → judged_recovery accepts old.bank fuses (story_of old.world) ≡ Ok capsule → Ran (restored old.bank level fuses capsule (story_of old.world)) old.world mid.world → mid.bank ≡ old.bank
         → IsOk (judged_active accepts mid.bank fuses (story_of mid.world))
-    restored_trusted level judged p same =
+    restored_trusted level some judged p same =
         judged_anew (restored old.bank level fuses capsule) capsule.manifest old mid
-        (restored_judged accepts old.bank level fuses capsule (story_of old.world) (record { provisioned = found; layout = here_valid; size = here_size; bytes = here_bytes; judged = judged })) p same
+        (restored_judged accepts old.bank level fuses capsule (story_of old.world) (record { provisioned = found; layout = here_valid; size = here_size; bytes = here_bytes; judged = judged }) here_fed none some) p same
 
     pub updated_trusted : (dynamic : Bool) → judged_staging accepts old.bank fuses (story_of old.world) ≡ Ok capsule → Ran (updated old.bank dynamic fuses capsule (story_of old.world)) old.world mid.world → mid.bank ≡ old.bank
         → IsOk (judged_active accepts mid.bank fuses (story_of mid.world))
@@ -91,7 +117,7 @@ module _ (accepts : Acceptance) (fuses : FusesState) where
         let layout : Layout = layout_of fuses.provision old.bank in
         let good = found_staged accepts old.bank fuses capsule (story_of old.world) found here_valid here_bytes judged in
         judged_anew (updated old.bank dynamic fuses capsule) capsule.manifest old mid
-        (anew_judged accepts old.bank (ActiveFromStaging dynamic) (not_staging dynamic) (Updated old.bank dynamic capsule.manifest.svn) (story_of old.world) fuses capsule (record {
+        (anew_judged accepts old.bank (ActiveFromStaging dynamic) (not_staging dynamic) fuses capsule (Updated old.bank dynamic capsule.manifest.svn) (story_of old.world) (record {
           place = layout.staging_at;
           len = layout.area_len;
           good = good.0;
@@ -100,7 +126,26 @@ module _ (accepts : Acceptance) (fuses : FusesState) where
           inside = here_valid.inside.staging;
           size = here_size;
           bytes = here_bytes;
-        })) p same
+        }) here_fed none tt) p same
+
+  -- ---- a job that is open is taken up first
+  -- the layout is valid still
+  pub valid_behind : (later : FusesState) (moves : List Move) (old mid : DeskState) → Ran moves old.world mid.world → mid.bank ≡ old.bank → later.provision ≡ fuses.provision
+      → IsValidLayout (layout_of fuses.provision old.bank) (size_of (state_at (device_of old.bank) old.world)) → IsValidLayout (layout_of later.provision mid.bank) (size_of (state_at (device_of mid.bank) mid.world))
+  valid_behind later moves old mid p same provision valid =
+      subst (λ (b : Bank). IsValidLayout (layout_of later.provision b) (size_of (state_at (device_of b) mid.world))) (sym same)
+      (subst (λ (n : ℕ). IsValidLayout (layout_of later.provision old.bank) n) (sym (size_stays old.bank old.world mid.world p.moved))
+      (subst (λ (x : RootSlot). IsValidLayout (layout_of x old.bank) (size_of (state_at (device_of old.bank) old.world))) (sym provision) valid))
+
+  pub resumed_ends : {T F : Type 0} (old mid : DeskState) (answer : Result T Stop) (r : Result World (Halt F)) → Ran (resumed (job_notes old.bank) accepts old.bank fuses (story_of old.world)) old.world mid.world
+      → Stays 2 old mid answer → EndsSeated (checked_then accepts mid.bank) 3 mid r → EndsSeated (by_ready accepts old.bank (Ok fuses)) 5 old r
+  resumed_ends old mid answer r p s e =
+      ends_then (resumed (job_notes old.bank) accepts old.bank fuses) (checked_then accepts old.bank) 2 3 old mid answer r p s (subst (λ (b : Bank). EndsSeated (checked_then accepts b) 3 mid r) s.bank e)
+
+  pub resumed_halted : {T : Type 0} (old : DeskState) (stop : Stop) (new : DeskState) → Goes {T = T} (resumed (job_notes old.bank) accepts old.bank fuses) old.world new.world (Err stop) → Stays {T = T} 2 old new (Err stop)
+      → HaltsIn (by_ready accepts old.bank (Ok fuses)) 5 old stop new
+  resumed_halted old stop new g s =
+      halts_first (resumed (job_notes old.bank) accepts old.bank fuses) (checked_then accepts old.bank) 2 5 old stop new (omega arith) (halts_called (resumed (job_notes old.bank) accepts old.bank fuses) 2 old stop new g s)
 
   -- ---- the capsule in an area was judged
   abbrev judged_in : Area → Bank → Story → Result CapsuleState CapsuleFail

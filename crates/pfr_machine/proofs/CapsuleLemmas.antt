@@ -12,7 +12,9 @@ use Rattle.pfr_flash.proofs.RangeLemmas.{length-now}
 use Rattle.pfr_engine.specs.Acceptance.{Acceptance}
 use Rattle.pfr_fuses.specs.FusesState.{FusesState}
 use Rattle.pfr_fuses.specs.RootSlot.{layout_of}
+use Rattle.pfr_manifest.specs.Manifest.{IsManifestOf}
 use Rattle.pfr_manifest.specs.Regions.{IsRegion}
+use Rattle.pfr_manifest.specs.Spelling.{manifest_bytes}
 use Rattle.pfr_capsule.specs.CapsuleState.{CapsuleState, capsule_of}
 use Rattle.pfr_capsule.specs.Judge.{judge_capsule, judge_header, judge_pages}
 use Rattle.pfr_capsule.specs.Lying.{LiesAt}
@@ -69,10 +71,11 @@ capsule_staged b mine read later other nv latches board layout fuses area capsul
     let can : CanCopyOver (now read) here capsule = record { valid = known; lies = there } in
     subst (λ (image : List ℕ). CanCopyOver image here capsule) left can
 
--- the security version number of a manifest that was judged well is at most 127
-pub judged_svn : (area : Area) (b : Bank) (image : List ℕ) (fuses : FusesState) (accepts : Acceptance) (capsule : CapsuleState) → AreBytes image → judge_area area b image fuses accepts ≡ Ok capsule → capsule.manifest.svn ≤ 127
+-- the manifest of one that was judged well is spelled by its bytes
+pub judged_spelled : (area : Area) (b : Bank) (image : List ℕ) (fuses : FusesState) (accepts : Acceptance) (capsule : CapsuleState) → AreBytes image → judge_area area b image fuses accepts ≡ Ok capsule
+    → IsManifestOf (manifest_bytes capsule.manifest) capsule.manifest (layout_of fuses.provision b) (length image)
 unfolding judge_capsule
-judged_svn area b image fuses accepts capsule bytes h =
+judged_spelled area b image fuses accepts capsule bytes h =
     let layout : Layout = layout_of fuses.provision b in
     let place : ℕ = place_of layout area in
     let a = passed_part (judge_signed image place layout.area_len b layout fuses accepts) _ capsule h in
@@ -80,7 +83,13 @@ judged_svn area b image fuses accepts capsule bytes h =
     let e = passed_part (judge_pages image (end_of a.0.inner + 128) d.0 a.0.manifest.regions) _ capsule d.2 in
     let f = passed_none causes.Incoherent (incoherent_region image e.0 a.0.manifest.regions) (Ok (capsule_of image place a.0 e.0)) capsule e.2 in
     let is : capsule_of image place a.0 e.0 ≡ capsule = let last = f.1 in cc in
-    subst (λ (c : CapsuleState). c.manifest.svn ≤ 127) is (signed_holds image place layout.area_len b layout fuses accepts a.0 bytes a.1).spelled.svn
+    let signed = signed_holds image place layout.area_len b layout fuses accepts a.0 bytes a.1 in
+    subst (λ (c : CapsuleState). IsManifestOf (manifest_bytes c.manifest) c.manifest layout (length image)) is
+    (subst (λ (text : List ℕ). IsManifestOf text a.0.manifest layout (length image)) signed.spelled.spelled signed.spelled)
+
+-- so its security version number is at most 127
+pub judged_svn : (area : Area) (b : Bank) (image : List ℕ) (fuses : FusesState) (accepts : Acceptance) (capsule : CapsuleState) → AreBytes image → judge_area area b image fuses accepts ≡ Ok capsule → capsule.manifest.svn ≤ 127
+judged_svn area b image fuses accepts capsule bytes h = (judged_spelled area b image fuses accepts capsule bytes h).svn
 
 -- behind the judgement the layout is valid still
 pub left_valid : (fuses : FusesState) (old new : DeskState) (capsule : CapsuleState) → new.bank ≡ old.bank → CanApply (now (state_at (device_of old.bank) new.world)) (layout_of fuses.provision old.bank) capsule

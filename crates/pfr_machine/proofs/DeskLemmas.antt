@@ -28,7 +28,6 @@ use Rattle.pfr_story.specs.Standing.{Standing, standing_after, standing_by, stan
 use Rattle.pfr_story.specs.Story.{Move, Plan, called, device_of, image_at, other_bank}
 use Rattle.pfr_story.specs.World.{World, state_at, story_of}
 use Rattle.pfr_story.specs.Goes.{Goes, Ran, Stopped}
-use Rattle.pfr_story.specs.Plans.{copied, job_ops}
 use Rattle.pfr_story.specs.declared.line.Line.{Line}
 use Rattle.pfr_story.specs.declared.line.Line.TheVariants as line
 use Rattle.pfr_story.specs.declared.stop.Stop.{Stop}
@@ -258,19 +257,6 @@ read_on failed old new h on = (ends_reads h).powered ∙ on
 pub Goes-as : {T : Type 0} (a b : Plan) (old new : World) (r : Result T Stop) → a (story_of old) ≡ b (story_of old) → Goes a old new r → Goes b old new r
 Goes-as a b old new (Ok x) e h = subst (λ (moves : List Move). Ran moves old new) e h
 Goes-as a b old new (Err stop) e h = subst (λ (moves : List Move). Stopped moves stop.device stop.fail old new) e h
-
-module _ {F : Type 0} (b : Bank) (mine later other nv : FlashState) (latches : Latches) (board : Board F) (kind : JobKind) (fuses : FusesState) (capsule : CapsuleState) (layout : Layout) (on : mine.powered ≡ true)
-    (is : layout ≡ layout_of fuses.provision b) where
-  same_plan : called (device_of b) (job_ops kind (now mine) capsule layout) ≡ copied b kind fuses capsule (story_of (desk_world b mine other nv latches board))
-  same_plan =
-      ap (λ (image : List ℕ). called (device_of b) (job_ops kind image capsule layout)) (sym (image_mine b mine other nv latches board))
-      ∙ ap (λ (l : Layout). called (device_of b) (job_ops kind (image_at (device_of b) (story_of (desk_world b mine other nv latches board))) capsule l)) is
-
-  pub copied_goes : (r : Result (Unit {0}) FlashFail) → Follows (job_ops kind (now mine) capsule layout) mine later r
-      → Goes (copied b kind fuses capsule) (desk_world b mine other nv latches board) (desk_world b later other nv latches board) (at_device (device_of b) r)
-  copied_goes r h =
-      Goes-as (λ _. called (device_of b) (job_ops kind (now mine) capsule layout)) (copied b kind fuses capsule) (desk_world b mine other nv latches board) (desk_world b later other nv latches board) (at_device (device_of b) r)
-      same_plan (mine_follows b mine later other nv latches board on (job_ops kind (now mine) capsule layout) r h)
 
 -- ---- who stands how
 line_stands : (how : Line) (s : Standing) → how ≢ line.Off → s ≡ standing_by how → s ≢ standing.Off

@@ -17,7 +17,10 @@ pub mod CheckLemmas
 pub mod EndsLemmas
 pub mod BringLemmas
 pub mod WorkLemmas
+pub mod UpdateLemmas
+pub mod ClearLemmas
 pub mod BusLemmas
 pub mod StretchLemmas
 pub mod WatchLemmas
+pub mod RestLemmas
 mod VerdictLaw

@@ -9,9 +9,11 @@ use Rattle.pfr_flash.specs.Range.{SameOutside}
 use Rattle.pfr_flash.specs.declared.flash.FlashFail.{FlashFail}
 use Rattle.pfr_flash.specs.declared.names.Bank.{Bank}
 use Rattle.pfr_flash.specs.declared.names.Bank.TheVariants as bank
+use Rattle.pfr_flash.specs.declared.names.ContentType.{ContentType}
+use Rattle.pfr_flash.specs.declared.names.ContentType.TheVariants.{Controller, PchManifest, PchCapsule, BmcManifest, BmcCapsule, PchManifestCancel, PchCapsuleCancel, BmcManifestCancel, BmcCapsuleCancel}
 use Rattle.pfr_flash.proofs.FollowsLemmas.{Follows-now, Follows-outside}
 use Rattle.pfr_flash.proofs.RangeLemmas.{SameOutside-wider, bytes_at-outside, length-now}
-use Rattle.pfr_fuses.specs.FuseMap.{floor_at}
+use Rattle.pfr_fuses.specs.FuseMap.{IsSigning, floor_at, row_at}
 use Rattle.pfr_fuses.specs.FusesOf.{fuses_of}
 use Rattle.pfr_fuses.specs.declared.profile.Profile.TheVariants.{Two}
 use Rattle.pfr_fuses.proofs.StaysLemmas.{fuses_of-same}
@@ -116,9 +118,21 @@ floor_low : (c : Bank) → 0x7000 ≤ floor_at Two c
 floor_low bank.Bmc = omega arith
 floor_low bank.Pch = omega arith
 
-module _ (c b : Bank) (old new : List ℕ) (size : length old ≡ 32768) (same : length new ≡ length old) (outside : SameOutside (floor_at Two c) 16 old new) where
+row_low : (type : ContentType) → IsSigning type → 0x7000 ≤ row_at Two type
+row_low PchManifest signing = omega arith
+row_low PchCapsule signing = omega arith
+row_low BmcManifest signing = omega arith
+row_low BmcCapsule signing = omega arith
+row_low Controller signing = absurd signing
+row_low PchManifestCancel signing = absurd signing
+row_low PchCapsuleCancel signing = absurd signing
+row_low BmcManifestCancel signing = absurd signing
+row_low BmcCapsuleCancel signing = absurd signing
+
+-- nothing below sector 7 is touched
+module _ (place long : ℕ) (above : 0x7000 ≤ place) (b : Bank) (old new : List ℕ) (size : length old ≡ 32768) (same : length new ≡ length old) (outside : SameOutside place long old new) where
   part_same : (at : ℕ) → at + 4096 ≤ log_at b + 0x3000 → bytes_at new at 4096 ≡ bytes_at old at 4096
-  part_same at low = bytes_at-outside (floor_at Two c) 16 old new at 4096 outside same (inl (omega (arith, low, log_high b, floor_low c))) (omega (arith, low, log_inside b, size))
+  part_same at low = bytes_at-outside place long old new at 4096 outside same (inl (omega (arith, low, log_high b, above))) (omega (arith, low, log_inside b, size))
 
   selector_stays : selector new b ≡ selector old b
   selector_stays = part_same (log_at b + 0x2000) (omega arith)
@@ -126,8 +140,15 @@ module _ (c b : Bank) (old new : List ℕ) (size : length old ≡ 32768) (same :
   page_stays : current_page new b ≡ current_page old b
   page_stays = ap (λ (s : List ℕ). bytes_at new (page_by b (spent_in s)) 4096) selector_stays ∙ part_same (current_at old b) (omega (arith, page_inside b (spent_in (selector old b))))
 
-  pub raised_logs : log_of new b ≡ log_of old b
+  log_stays : log_of new b ≡ log_of old b
   unfolding open_job marks_of log_by
-  raised_logs =
+  log_stays =
       ap (λ (s : List ℕ). log_by b (page_by b (spent_in s)) s (current_page new b)) selector_stays
       ∙ ap (λ (p : List ℕ). log_by b (current_at old b) (selector old b) p) page_stays
+
+pub raised_logs : (c b : Bank) (old new : List ℕ) → length old ≡ 32768 → length new ≡ length old → SameOutside (floor_at Two c) 16 old new → log_of new b ≡ log_of old b
+raised_logs c b old new size same outside = log_stays (floor_at Two c) 16 (floor_low c) b old new size same outside
+
+-- and so does a key that is cancelled
+pub cancelled_logs : (type : ContentType) (b : Bank) (old new : List ℕ) → IsSigning type → length old ≡ 32768 → length new ≡ length old → SameOutside (row_at Two type) 32 old new → log_of new b ≡ log_of old b
+cancelled_logs type b old new signing size same outside = log_stays (row_at Two type) 32 (row_low type signing) b old new size same outside

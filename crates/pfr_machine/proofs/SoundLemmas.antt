@@ -7,7 +7,10 @@ use Rattle.pfr_engine.specs.Acceptance.{Acceptance}
 use Rattle.pfr_auth.specs.Trusted.{IsTrusted}
 use Rattle.pfr_script.specs.declared.event.Event.{Event}
 use Rattle.pfr_report.specs.declared.note.Note.{Note}
+use Rattle.pfr_jobs.specs.Log.{open_job}
+use Rattle.pfr_jobs.specs.declared.job.OpenJob.TheVariants as job
 use Rattle.pfr_story.specs.Course.{Follows}
+use Rattle.pfr_story.specs.Keeping.{HasTrustedSpans, IsSettled}
 use Rattle.pfr_story.specs.Promises.{Runs}
 use Rattle.pfr_story.specs.Standing.{standing_of, standing_by, Running}
 use Rattle.pfr_story.specs.Story.{device_of}
@@ -30,7 +33,7 @@ still_sound old next b accepts e new h f l devices sizes =
     let t : Turn accepts e old new = turned old next b accepts e new f in
     record {
       whole = still_whole old next b accepts e new h.whole f l;
-      trusted = λ which. Turn-trusted_spans accepts which e old new t (have_bytes new devices) (sizes_before accepts e old new t sizes).nv (h.trusted which);
+      trusted = λ which. let s = sizes_before accepts e old new t sizes in Turn-trusted_spans accepts which e old new t (have_bytes new devices) s.bmc s.pch s.nv h.trusted;
     }
 
 -- a bank that runs is trusted where an item was begun
@@ -43,6 +46,15 @@ begun_trusted old next b accepts h which runs =
         → IsTrusted (now (state_at (device_of which) (record (next_item old) { notes = next.notes }))) (now old.nv) which accepts
     of_begun bank.Bmc t = t
     of_begun bank.Pch t = t
+
+-- while a bank runs the store is settled, and no job of it is open
+pub begun_settled : (old next : World) → Begun old next → (accepts : Acceptance) → IsSound accepts old → (which : Bank) → Runs which next → IsSettled (now next.nv)
+begun_settled old next b accepts h which runs =
+    subst (λ (w : World). IsSettled (now w.nv)) (sym b.is) ((h.trusted which).settled (ap (λ (list : List Note). standing_of which list) (sym b.list) ∙ runs))
+
+pub begun_idle : (old next : World) → Begun old next → (accepts : Acceptance) → IsSound accepts old → (which : Bank) → Runs which next → open_job (now next.nv) which ≡ job.None
+begun_idle old next b accepts h which runs =
+    subst (λ (w : World). open_job (now w.nv) which ≡ job.None) (sym b.is) ((h.trusted which).idle (ap (λ (list : List Note). standing_of which list) (sym b.list) ∙ runs))
 
 -- a bank that runs is trusted now
 module _ {E : Type 0} (accepts : E → Acceptance) (which : Bank) where
@@ -65,3 +77,7 @@ module _ {E : Type 0} (accepts : E → Acceptance) (which : Bank) where
       subst (λ (q : PlatformState E). Runs which q.world → IsTrusted (now (state_at (device_of which) q.world)) (now q.world.nv) which (accepts q.engine)) view
       (λ runs. trusted_now (accepts engine) which w (h.trusted which) runs)
   known_trusted p None engine view h = absurd h
+
+  pub known_spans : (p : PlatformState E) (o : Option World) (engine : E) → record { world = world_in o; engine = engine } ≡ p → IsThere (accepts engine) o → HasTrustedSpans (accepts p.engine) which (story_of p.world)
+  known_spans p (Some w) engine view h = subst (λ (q : PlatformState E). HasTrustedSpans (accepts q.engine) which (story_of q.world)) view (h.trusted which)
+  known_spans p None engine view h = absurd h

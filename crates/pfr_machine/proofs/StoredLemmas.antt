@@ -63,7 +63,7 @@ module _ {F : Type 0} (b : Bank) (mine other nv later : FlashState) (latches : L
       by_bank bank.Pch = record { others = (refl, refl); item = refl; notes = refl; guards = refl }
 
   -- by what the store's bytes say
-  stored_goes : {A : Type 0} (ops : List ℕ → List Operation) (r : Result A FlashFail) → Follows (ops (now nv)) nv later r
+  pub stored_goes : {A : Type 0} (ops : List ℕ → List Operation) (r : Result A FlashFail) → Follows (ops (now nv)) nv later r
       → Goes (λ story. called device.Nv (ops (store story))) (desk_world b mine other nv latches board) (desk_world b mine other later latches (record board { nv = held })) (at_device device.Nv r)
   stored_goes ops r h =
       let old = state_store b mine other nv latches board in

@@ -51,18 +51,18 @@ second_lost first second old mid new a p q = Steps-next first (second ∷ []) ol
 
 -- where the second bank's work leads, once the first one was brought up
 pub both_brought : {F : Type 0} (first second : Stretch) (old mid : World) (r : Result World (Dark F)) → first.goes_on ≡ true → second.goes_on ≡ true
-    → CrossesOrFaults first old mid × BroughtUp bank.Bmc 6 old mid → Brings second bank.Pch 6 mid r → BringsBoth (first ∷ second ∷ []) 12 old r
+    → CrossesOrFaults first old mid × BroughtUp bank.Bmc 7 old mid → Brings second bank.Pch 7 mid r → BringsBoth (first ∷ second ∷ []) 14 old r
 both_brought first second old mid (Ok new) a b p q = (
   both_steps first second old mid new a b p.0 q.0,
   record {
     bmc = λ e. p.1.mine (sym q.1.other ∙ e);
     pch = q.1.mine;
-    notes = AddsNotes-then 6 6 old.notes mid.notes new.notes p.1.notes q.1.notes;
+    notes = AddsNotes-then 7 7 old.notes mid.notes new.notes p.1.notes q.1.notes;
     nv = q.1.nv;
   },
 )
 both_brought first second old mid (Err dark) a b p q =
-    (second_lost first second old mid dark.inner a p.0 q.0, q.1, AddsNotes-then 6 6 old.notes mid.notes dark.inner.notes p.1.notes q.2)
+    (second_lost first second old mid dark.inner a p.0 q.0, q.1, AddsNotes-then 7 7 old.notes mid.notes dark.inner.notes p.1.notes q.2)
 
 -- ---- the power comes on
 stopped_as : (moves : List Move) (which : Device) (found end : FlashFail) (old new : World) → found ≡ end → Stopped moves which found old new → Stopped moves which end old new

@@ -33,9 +33,13 @@ use Rattle.pfr_auth.specs.declared.areas.Area.TheVariants.{Recovery, Staging}
 use Rattle.pfr_auth.specs.declared.fail.ActiveFail.{ActiveFail}
 use Rattle.pfr_auth.proofs.TrustedLaw.{stands_whole, trusted_found}
 use Rattle.pfr_report.specs.declared.verdict.BankVerdict.{BankVerdict}
-use Rattle.pfr_report.specs.declared.verdict.Standing.TheVariants.{Ready}
-use Rattle.pfr_machine.specs.Verdicts.{EndsEither, HasGood, HasSameManifest, HasTrusted, IsVerdict, ready, ready_if, share_manifest, spell_same, svn_of_capsule, svn_of_image, verdict_of, verdict_with}
-use Rattle.pfr_machine.specs.VerdictsInside.{AreOne, IsBorneOut, IsGoodIn, IsSound, tells}
+use Rattle.pfr_jobs.specs.Log.{open_job}
+use Rattle.pfr_jobs.specs.LogState.{LogState, log_of}
+use Rattle.pfr_jobs.specs.declared.job.OpenJob.{OpenJob}
+use Rattle.pfr_report.specs.declared.verdict.Standing.{Standing}
+use Rattle.pfr_report.specs.declared.verdict.Standing.TheVariants.{Ready, Unprovisioned, SlotsSpent, LayoutBad}
+use Rattle.pfr_machine.specs.Verdicts.{EndsEither, HasGood, HasSameManifest, HasTrusted, IsVerdict, images_of, job_told, ready, ready_if, share_manifest, spell_same, svn_of_capsule, svn_of_image, verdict_of, verdict_with}
+use Rattle.pfr_machine.specs.VerdictsInside.{AreOne, IsBorneOut, IsGoodIn, IsSound, TellsImages, tells}
 use Rattle.pfr_machine.proofs.JudgeLemmas.{stands_bank}
 
 -- ---- whether two manifests have one text
@@ -128,8 +132,8 @@ module _ (bank : Bank) (image nv : List ℕ) (accepts : Acceptance) (fuses : Fus
 
 -- ---- what is so is told
 module _ (bank : Bank) (image nv : List ℕ) (accepts : Acceptance) where
-  trusted_told : (svn : ℕ) → HasTrusted svn bank image nv accepts → (verdict_of bank image nv accepts).active ≡ Ok svn
-  unfolding verdict_of
+  trusted_told : (svn : ℕ) → HasTrusted svn bank image nv accepts → (images_of bank image nv accepts).active ≡ Ok svn
+  unfolding images_of
   trusted_told svn h =
       let t = h.trusted in
       let valid = valid_judged (layout_of t.fuses.provision bank) (length image) t.layout in
@@ -142,15 +146,15 @@ module _ (bank : Bank) (image nv : List ℕ) (accepts : Acceptance) where
       let e : g.fuses ≡ fuses = cc in
       subst (λ (f : FusesState). judge_layout (layout_of f.provision bank) (length image) ≡ Ok tt) e (valid_judged (layout_of g.fuses.provision bank) (length image) g.layout)
 
-  recovery_told : (svn : ℕ) → HasGood Recovery svn bank image nv accepts → (verdict_of bank image nv accepts).recovery ≡ Ok svn
-  unfolding verdict_of
+  recovery_told : (svn : ℕ) → HasGood Recovery svn bank image nv accepts → (images_of bank image nv accepts).recovery ≡ Ok svn
+  unfolding images_of
   recovery_told svn h =
       let valid = valid_for _ _ h.fuses h.provisioned h.good in
       let judged = good_found image nv _ _ bank accepts h.fuses (stands_bank nv h.fuses bank h.provisioned) h.good in
       rw (h.provisioned, valid, judged) (ap (λ (x : ℕ). Ok x) h.numbered)
 
-  staging_told : (svn : ℕ) → HasGood Staging svn bank image nv accepts → (verdict_of bank image nv accepts).staging ≡ Ok svn
-  unfolding verdict_of
+  staging_told : (svn : ℕ) → HasGood Staging svn bank image nv accepts → (images_of bank image nv accepts).staging ≡ Ok svn
+  unfolding images_of
   staging_told svn h =
       let valid = valid_for _ _ h.fuses h.provisioned h.good in
       let judged = good_found image nv _ _ bank accepts h.fuses (stands_bank nv h.fuses bank h.provisioned) h.good in
@@ -161,26 +165,33 @@ module _ (bank : Bank) (image nv : List ℕ) (accepts : Acceptance) where
       let e : h.staged.parts.manifest ≡ h.staged.capsule.manifest = ap (λ (c : CapsuleState). c.manifest) (sym h.staged.found) in
       sym h.trusted.spelled.spelled ∙ h.same ∙ h.staged.signed.spelled.spelled ∙ ap manifest_bytes e
 
-  same_manifest_told : HasSameManifest bank image nv accepts → IsTrue (verdict_of bank image nv accepts).same_manifest
-  unfolding verdict_of
+  same_manifest_told : HasSameManifest bank image nv accepts → IsTrue (images_of bank image nv accepts).same_manifest
+  unfolding images_of
   same_manifest_told h =
       let valid = valid_for _ _ h.fuses h.provisioned h.staged in
       let active = trusted_found image nv bank accepts h.fuses (stands_whole nv h.fuses bank h.provisioned) h.trusted in
       let staged = good_found image nv _ _ bank accepts h.fuses (stands_bank nv h.fuses bank h.provisioned) h.staged in
       rw (h.provisioned, valid, active, staged, one_text h) (nat_list_eq_equiv.refl (manifest_bytes h.staged.capsule.manifest))
 
-  exact_verdict : (v : BankVerdict) → v ≡ verdict_of bank image nv accepts → IsSound v bank image nv accepts → IsVerdict v bank image nv accepts
-  exact_verdict v e s = record {
+  exact_images : (v : BankVerdict) → v ≡ images_of bank image nv accepts → IsSound v bank image nv accepts → TellsImages v bank image nv accepts
+  exact_images v e s = record {
     active = λ svn. ((λ told. rw told at s.active), (λ h. ap (λ (x : BankVerdict). x.active) e ∙ trusted_told svn h));
     recovery = λ svn. ((λ told. rw told at s.recovery), (λ h. ap (λ (x : BankVerdict). x.recovery) e ∙ recovery_told svn h));
     staging = λ svn. ((λ told. rw told at s.staging), (λ h. ap (λ (x : BankVerdict). x.staging) e ∙ staging_told svn h));
     same_manifest = (s.same_manifest, λ h. ap (λ (x : BankVerdict). x.same_manifest) e ∙ same_manifest_told h);
   }
 
+  -- ---- what the log has open is told besides
+  job_verdict : (opened : OpenJob) → opened ≡ open_job nv bank → (s : Standing) (v : BankVerdict) → s ≡ v.standing → TellsImages v bank image nv accepts → IsVerdict (job_told s opened v) bank image nv accepts
+  job_verdict opened e Ready v standing t = record { active = t.active; recovery = t.recovery; staging = t.staging; same_manifest = t.same_manifest; job = λ ready. e }
+  job_verdict opened e Unprovisioned v standing t = record { active = t.active; recovery = t.recovery; staging = t.staging; same_manifest = t.same_manifest; job = λ ready. absurd cc }
+  job_verdict opened e SlotsSpent v standing t = record { active = t.active; recovery = t.recovery; staging = t.staging; same_manifest = t.same_manifest; job = λ ready. absurd cc }
+  job_verdict opened e (LayoutBad rule) v standing t = record { active = t.active; recovery = t.recovery; staging = t.staging; same_manifest = t.same_manifest; job = λ ready. absurd cc }
+
   -- ---- of a store of which this was found
   module _ (found : Result FusesState FuseFail) (is : found ≡ fuses_of nv) where
-    by_store : (v : BankVerdict) → (fuses_of nv ≡ found → v ≡ verdict_with bank image accepts found) → v ≡ verdict_of bank image nv accepts
-    unfolding verdict_of
+    by_store : (v : BankVerdict) → (fuses_of nv ≡ found → v ≡ verdict_with bank image accepts found) → v ≡ images_of bank image nv accepts
+    unfolding images_of
     by_store v told = told (sym is) ∙ ap (λ (f : Result FusesState FuseFail). verdict_with bank image accepts f) is
 
     abbrev IsBy : BankVerdict → Type 0
@@ -189,13 +200,16 @@ module _ (bank : Bank) (image nv : List ℕ) (accepts : Acceptance) where
     abbrev IsSoundBy : BankVerdict → Type 0
     IsSoundBy v = (store : List ℕ) → fuses_of store ≡ found → IsSound v bank image store accepts
 
-    pub verdict_is : (r : Result BankVerdict FlashFail) → IfOk r IsBy → IfOk r (λ v. v ≡ verdict_of bank image nv accepts)
-    verdict_is (Ok v) told = by_store v (told nv)
-    verdict_is (Err fail) told = tt
+    -- with what the log has open
+    module _ (opened : OpenJob) (log : opened ≡ open_job nv bank) where
+      pub told_is : (v told : BankVerdict) → told ≡ job_told v.standing opened v → IsBy v → told ≡ verdict_of bank image nv accepts
+      told_is v told e by =
+          e ∙ ap (λ (j : OpenJob). job_told v.standing j v) log ∙ ap (λ (x : BankVerdict). job_told x.standing (open_job nv bank) x) (by_store v (by nv))
 
-    pub verdict_means : (r : Result BankVerdict FlashFail) → IfOk r IsBy → IfOk r IsSoundBy → IfOk r (λ v. IsVerdict v bank image nv accepts)
-    verdict_means (Ok v) told sound = exact_verdict v (by_store v (told nv)) (sound nv (sym is))
-    verdict_means (Err fail) told sound = tt
+      pub told_means : (v told : BankVerdict) → told ≡ job_told v.standing opened v → IsBy v → IsSoundBy v → IsVerdict told bank image nv accepts
+      told_means v told e by sound =
+          subst (λ (x : BankVerdict). IsVerdict x bank image nv accepts) (sym (e ∙ ap (λ (j : OpenJob). job_told v.standing j v) log))
+          (job_verdict (open_job nv bank) refl v.standing v refl (exact_images v (by_store v (by nv)) (sound nv (sym is))))
 
   -- ---- the floor of a bank that is ready
   floor_by : (judged : Result (Unit {0}) LayoutRule) (v : BankVerdict) → IsFloor nv bank v.floor → (ready_if judged v).standing ≡ Ready → IsFloor nv bank (ready_if judged v).floor
@@ -209,16 +223,21 @@ module _ (bank : Bank) (image nv : List ℕ) (accepts : Acceptance) where
   floor_with (Err fuse.SlotsSpent) long is standing = cc
   floor_with (Err _) long is standing = cc
 
-  floor_told : (v : BankVerdict) → length nv ≡ 32768 → v ≡ verdict_of bank image nv accepts → v.standing ≡ Ready → IsFloor nv bank v.floor
-  unfolding verdict_of
-  floor_told v long e standing = rw e (floor_with (fuses_of nv) long refl (rw e at standing))
+  floor_of_images : length nv ≡ 32768 → (images_of bank image nv accepts).standing ≡ Ready → IsFloor nv bank (images_of bank image nv accepts).floor
+  unfolding images_of
+  floor_of_images long standing = floor_with (fuses_of nv) long refl standing
 
-  pub verdict_floor : (r : Result BankVerdict FlashFail) → length nv ≡ 32768 → IfOk r (λ v. v ≡ verdict_of bank image nv accepts) → IfOk r (λ v. v.standing ≡ Ready → IsFloor nv bank v.floor)
-  verdict_floor (Ok v) long e = floor_told v long e
-  verdict_floor (Err fail) long e = tt
+  job_floor : (opened : OpenJob) (s : Standing) (v : BankVerdict) → (v.standing ≡ Ready → IsFloor nv bank v.floor) → (job_told s opened v).standing ≡ Ready → IsFloor nv bank (job_told s opened v).floor
+  job_floor opened Ready v floor ready = floor ready
+  job_floor opened Unprovisioned v floor ready = floor ready
+  job_floor opened SlotsSpent v floor ready = floor ready
+  job_floor opened (LayoutBad rule) v floor ready = floor ready
 
--- the store was read, and then the bank's flash
-pub ends_either : {A : Type 0} (r : Result A FlashFail) (bank bank_after nv nv_after : FlashState) → EndsAt None nv nv_after
-    → EndsAt (failed_by (λ fail. Some fail) r) bank bank_after → EndsEither r bank bank_after nv nv_after
-ends_either (Ok x) bank bank_after nv nv_after first second = (second, first)
-ends_either (Err fail) bank bank_after nv nv_after first second = inr (first, second)
+  pub floor_told : (told : BankVerdict) → length nv ≡ 32768 → told ≡ verdict_of bank image nv accepts → told.standing ≡ Ready → IsFloor nv bank told.floor
+  floor_told told long e =
+      subst (λ (x : BankVerdict). x.standing ≡ Ready → IsFloor nv bank x.floor) (sym e)
+      (job_floor (open_job nv bank) (images_of bank image nv accepts).standing (images_of bank image nv accepts) (floor_of_images long))
+
+-- what a log that was loaded has open is that of the store as it was before its reads
+pub job_by : (opened : OpenJob) (log : LogState) (bank : Bank) (nv later : List ℕ) → opened ≡ log.job → log ≡ log_of later bank → later ≡ nv → opened ≡ open_job nv bank
+job_by opened log bank nv later e found same = e ∙ ap (λ (l : LogState). l.job) found ∙ ap (λ (bytes : List ℕ). open_job bytes bank) same

@@ -51,69 +51,69 @@ module _ (accepts : Acceptance) (b : Bank) (level : ℕ) (old mid : World) (is :
   up_behind : (most : ℕ) (new : World) → BroughtUp b most mid new → BroughtUp b (1 + most) old new
   up_behind most new u = record { mine = u.mine; other = u.other ∙ stands (other_bank b); notes = AddsNotes-then 1 most old.notes mid.notes new.notes adds u.notes; nv = u.nv }
 
-  pub recovers : {F : Type 0} → nat_lt level 4 ≡ true → (r : Result World (Dark F)) → Brings (work_stretch accepts b (Recover level)) b 6 mid r → Brings (expiry_stretch accepts b) b 7 old r
+  pub recovers : {F : Type 0} → nat_lt level 4 ≡ true → (r : Result World (Dark F)) → Brings (work_stretch accepts b (Recover level)) b 7 mid r → Brings (expiry_stretch accepts b) b 8 old r
   recovers few (Ok new) h = (
     brought_behind (work_stretch accepts b (Recover level)) (expiry_stretch accepts b) (Says (λ _. Expired b level) ∷ []) old mid told (plan_is true few) (λ device. refl) new h.0,
-    up_behind 6 new h.1,
+    up_behind 7 new h.1,
   )
   recovers few (Err dark) h = (
     lost_behind (work_stretch accepts b (Recover level)) (expiry_stretch accepts b) (Says (λ _. Expired b level) ∷ []) old mid told (plan_is true few) (λ device. refl) dark.inner h.0,
     h.1,
-    AddsNotes-then 1 6 old.notes mid.notes dark.inner.notes adds h.2,
+    AddsNotes-then 1 7 old.notes mid.notes dark.inner.notes adds h.2,
   )
 
   -- the last one
   pub spent : (held : DeskState) (new : World) → nat_lt level 4 ≡ false → held.bank ≡ b → standing_by held.other ≡ standing_of (other_bank b) mid.notes.list → Ran (Says (Held b) ∷ []) mid held.world
-      → AddsNotes 1 mid.notes held.world.notes → Ran (Says (Locked held.bank WatchdogSpent) ∷ []) held.world new → LeavesSeated 1 held new → CrossesOrFaults (expiry_stretch accepts b) old new × BroughtUp b 7 old new
+      → AddsNotes 1 mid.notes held.world.notes → Ran (Says (Locked held.bank WatchdogSpent) ∷ []) held.world new → LeavesSeated 1 held new → CrossesOrFaults (expiry_stretch accepts b) old new × BroughtUp b 8 old new
   spent held new many own beside p notes q l =
       let locked : Ran (Says (Locked b WatchdogSpent) ∷ []) held.world new = subst (λ (x : Bank). Ran (Says (Locked x WatchdogSpent) ∷ []) held.world new) own q in
       let moves : List Move = Says (Held b) ∷ Says (Locked b WatchdogSpent) ∷ [] in
       let both : Ran moves mid new = Ran-append (Says (Held b) ∷ []) (Says (Locked b WatchdogSpent) ∷ []) mid held.world new p locked in
       let whole : Ran (Says (λ _. Expired b level) ∷ moves) old new = Ran-append (Says (λ _. Expired b level) ∷ []) moves old mid new told both in (
         inl (subst (λ (m : List Move). Ran m old new) (sym (plan_is false many)) whole),
-        up_behind 6 new (record {
+        up_behind 7 new (record {
           mine = subst (λ (x : Bank). standing_of x new.notes.list ≢ Off) own l.mine;
           other = ap (λ (x : Bank). standing_of (other_bank x) new.notes.list) (sym own) ∙ (l.other ∙ beside);
-          notes = AddsNotes-most 2 6 mid.notes new.notes (AddsNotes-then 1 1 mid.notes held.world.notes new.notes notes l.notes) (omega arith);
+          notes = AddsNotes-most 2 7 mid.notes new.notes (AddsNotes-then 1 1 mid.notes held.world.notes new.notes notes l.notes) (omega arith);
           nv = l.nv;
         }),
       )
 
 -- ---- the banks whose watches expired
-brought_both : (old mid new : World) → AreUp old → BroughtUp bank.Bmc 7 old mid → BroughtUp bank.Pch 7 mid new → AreBrought 14 old new
+brought_both : (old mid new : World) → AreUp old → BroughtUp bank.Bmc 8 old mid → BroughtUp bank.Pch 8 mid new → AreBrought 16 old new
 brought_both old mid new up u v =
-    let on = both_up bank.Pch 7 mid new (both_up bank.Bmc 7 old mid up u) v in
-    record { bmc = on bank.Bmc; pch = on bank.Pch; notes = AddsNotes-then 7 7 old.notes mid.notes new.notes u.notes v.notes; nv = v.nv }
+    let on = both_up bank.Pch 8 mid new (both_up bank.Bmc 8 old mid up u) v in
+    record { bmc = on bank.Bmc; pch = on bank.Pch; notes = AddsNotes-then 8 8 old.notes mid.notes new.notes u.notes v.notes; nv = v.nv }
 
-brought_one : (b : Bank) (old new : World) → AreUp old → BroughtUp b 7 old new → AreBrought 14 old new
+brought_one : (b : Bank) (old new : World) → AreUp old → BroughtUp b 8 old new → AreBrought 16 old new
 brought_one b old new up u =
-    let on = both_up b 7 old new up u in record { bmc = on bank.Bmc; pch = on bank.Pch; notes = AddsNotes-most 7 14 old.notes new.notes u.notes (omega arith); nv = u.nv }
+    let on = both_up b 8 old new up u in record { bmc = on bank.Bmc; pch = on bank.Pch; notes = AddsNotes-most 8 16 old.notes new.notes u.notes (omega arith); nv = u.nv }
 
 module _ (F : Type 0) (accepts : Acceptance) where
   abbrev expiry_at : Bank → Stretch
   expiry_at b = expiry_stretch accepts b
 
   -- where the BMC's didn't
-  second_alone : (next : Bool) (old : World) (r : Result World (Dark F)) → (next ≡ true → AreUp old) → BringsDue next (expiry_at bank.Pch) bank.Pch 7 old r → ExpiresDue accepts false next 14 old r
+  second_alone : (next : Bool) (old : World) (r : Result World (Dark F)) → (next ≡ true → AreUp old) → BringsDue next (expiry_at bank.Pch) bank.Pch 8 old r → ExpiresDue accepts false next 16 old r
   second_alone true old (Ok new) up h = (one_brought (expiry_at bank.Pch) old new h.0, inr (refl, brought_one bank.Pch old new (up refl) h.1))
-  second_alone true old (Err dark) up h = (one_lost (expiry_at bank.Pch) old dark.inner h.0, h.1, AddsNotes-most 7 14 old.notes dark.inner.notes h.2 (omega arith), refl)
+  second_alone true old (Err dark) up h = (one_lost (expiry_at bank.Pch) old dark.inner h.0, h.1, AddsNotes-most 8 16 old.notes dark.inner.notes h.2 (omega arith), refl)
   second_alone false old r up h =
-      subst (λ (x : Result World (Dark F)). ExpiresDue accepts false false 14 old x) (sym h) (Ran-refl old, inl (refl, refl))
+      subst (λ (x : Result World (Dark F)). ExpiresDue accepts false false 16 old x) (sym h) (Ran-refl old, inl (refl, refl))
 
   -- where it did
-  second_then : (next : Bool) (old mid : World) (r : Result World (Dark F)) → AreUp old → CrossesOrFaults (expiry_at bank.Bmc) old mid × BroughtUp bank.Bmc 7 old mid → BringsDue next (expiry_at bank.Pch) bank.Pch 7 mid r
-      → ExpiresDue accepts true next 14 old r
+  second_then : (next : Bool) (old mid : World) (r : Result World (Dark F)) → AreUp old → CrossesOrFaults (expiry_at bank.Bmc) old mid × BroughtUp bank.Bmc 8 old mid → BringsDue next (expiry_at bank.Pch) bank.Pch 8 mid r
+      → ExpiresDue accepts true next 16 old r
   second_then true old mid (Ok new) up h k = (both_steps (expiry_at bank.Bmc) (expiry_at bank.Pch) old mid new refl refl h.0 k.0, inr (refl, brought_both old mid new up h.1 k.1))
   second_then true old mid (Err dark) up h k =
-      (second_lost (expiry_at bank.Bmc) (expiry_at bank.Pch) old mid dark.inner refl h.0 k.0, k.1, AddsNotes-then 7 7 old.notes mid.notes dark.inner.notes h.1.notes k.2, refl)
+      (second_lost (expiry_at bank.Bmc) (expiry_at bank.Pch) old mid dark.inner refl h.0 k.0, k.1, AddsNotes-then 8 8 old.notes mid.notes dark.inner.notes h.1.notes k.2, refl)
   second_then false old mid r up h k =
-      subst (λ (x : Result World (Dark F)). ExpiresDue accepts true false 14 old x) (sym k) (one_brought (expiry_at bank.Bmc) old mid h.0, inr (refl, brought_one bank.Bmc old mid up h.1))
+      subst (λ (x : Result World (Dark F)). ExpiresDue accepts true false 16 old x) (sym k) (one_brought (expiry_at bank.Bmc) old mid h.0, inr (refl, brought_one bank.Bmc old mid up h.1))
 
-  pub due_both : (due next : Bool) (old mid : World) (r : Result World (Dark F)) → (due ≡ true → AreUp old) → (next ≡ true → AreUp old) → BringsDue {F = F} due (expiry_at bank.Bmc) bank.Bmc 7 old (Ok mid)
-      → BringsDue next (expiry_at bank.Pch) bank.Pch 7 mid r → ExpiresDue accepts due next 14 old r
+  pub due_both : (due next : Bool) (old mid : World) (r : Result World (Dark F)) → (due ≡ true → AreUp old) → (next ≡ true → AreUp old) → BringsDue {F = F} due (expiry_at bank.Bmc) bank.Bmc 8 old (Ok mid)
+      → BringsDue next (expiry_at bank.Pch) bank.Pch 8 mid r → ExpiresDue accepts due next 16 old r
   due_both true next old mid r some other h k = second_then next old mid r (some refl) h k
   due_both false next old mid r some other h k =
-      let same : mid ≡ old = cc in second_alone next old r other (subst (λ (w : World). BringsDue next (expiry_at bank.Pch) bank.Pch 7 w r) same k)
+      let same : mid ≡ old = cc in second_alone next old r other (subst (λ (w : World). BringsDue next (expiry_at bank.Pch) bank.Pch 8 w r) same k)
 
 -- ---- ticks
 -- a bank whose watch expires runs
@@ -126,6 +126,9 @@ running_so Off e = absurd (let never : false ≡ true = e in cc)
 running_so IsHeld e = absurd (let never : false ≡ true = e in cc)
 running_so IsLocked e = absurd (let never : false ≡ true = e in cc)
 running_so Running e = refl
+
+pub due_runs : (b : Bank) (n : ℕ) (old : World) → is_due b n (story_of old) ≡ true → standing_of b old.notes.list ≡ Running
+due_runs b n old e = running_so (standing_of b old.notes.list) (and_first (is_running (standing_of b old.notes.list)) (expires (guard_at b old.guards).watch n) e)
 
 pub due_up : (b : Bank) (n : ℕ) (old : World) → IsWhole old → is_due b n (story_of old) ≡ true → AreUp old
 due_up b n old h e = neither_off b old h (running_so (standing_of b old.notes.list) (and_first (is_running (standing_of b old.notes.list)) (expires (guard_at b old.guards).watch n) e))

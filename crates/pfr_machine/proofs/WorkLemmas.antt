@@ -48,28 +48,28 @@ ready_found b device other nv latches board desk size found r {how} view s f is 
 work_locked : (accepts : Acceptance) (b : Bank) (work : Work) (why : LockWhy) (story : Story) → by_work accepts b work (Err why) story ≡ Says (Locked b why) ∷ []
 work_locked accepts b BringUp why story = refl
 work_locked accepts b (Recover level) why story = refl
-work_locked accepts b (Update dynamic) why story = refl
+work_locked accepts b (Update intent) why story = refl
 
 module _ (accepts : Acceptance) (work : Work) (old : DeskState) where
   pub readied : {F : Type 0} (found : Result FusesState LockWhy) (r : Result World (Halt F)) → ready_of old.bank (story_of old.world) ≡ found
-      → EndsSeated (by_work accepts old.bank work found) 4 old r → EndsSeated (by_fuses accepts work old.bank) 4 old r
-  readied found r is e = ends_as (by_work accepts old.bank work found) (by_fuses accepts work old.bank) 4 old r (ap (λ (x : Result FusesState LockWhy). by_work accepts old.bank work x (story_of old.world)) (sym is)) e
+      → EndsSeated (by_work accepts old.bank work found) 5 old r → EndsSeated (by_fuses accepts work old.bank) 5 old r
+  readied found r is e = ends_as (by_work accepts old.bank work found) (by_fuses accepts work old.bank) 5 old r (ap (λ (x : Result FusesState LockWhy). by_work accepts old.bank work x (story_of old.world)) (sym is)) e
 
   pub readied_locked : (why : LockWhy) (new : World) → ready_of old.bank (story_of old.world) ≡ Err why → Ran (Says (Locked old.bank why) ∷ []) old.world new → LeavesSeated 1 old new
-      → DoneSeated (by_fuses accepts work old.bank) 4 old new
+      → DoneSeated (by_fuses accepts work old.bank) 5 old new
   readied_locked why new is ran leaves =
-      ends_as {F = Unit {0}} (says (Locked old.bank why)) (by_fuses accepts work old.bank) 4 old (Ok new)
+      ends_as {F = Unit {0}} (says (Locked old.bank why)) (by_fuses accepts work old.bank) 5 old (Ok new)
       (sym (work_locked accepts old.bank work why (story_of old.world)) ∙ ap (λ (x : Result FusesState LockWhy). by_work accepts old.bank work x (story_of old.world)) (sym is))
-      (ran, leaves_most 1 4 old new (omega arith) leaves)
+      (ran, leaves_most 1 5 old new (omega arith) leaves)
 
   pub loaded_ends : {T F : Type 0} (mid : DeskState) (answer : Result T Stop) (r : Result World (Halt F)) → Ran (asks_store (story_of old.world)) old.world mid.world → Stays 0 old mid answer
-      → EndsSeated (by_fuses accepts work mid.bank) 4 mid r → EndsSeated (then asks_store (by_fuses accepts work old.bank)) 4 old r
+      → EndsSeated (by_fuses accepts work mid.bank) 5 mid r → EndsSeated (then asks_store (by_fuses accepts work old.bank)) 5 old r
   loaded_ends mid answer r p s e =
-      ends_then asks_store (by_fuses accepts work old.bank) 0 4 old mid answer r p s (subst (λ (b : Bank). EndsSeated (by_fuses accepts work b) 4 mid r) s.bank e)
+      ends_then asks_store (by_fuses accepts work old.bank) 0 5 old mid answer r p s (subst (λ (b : Bank). EndsSeated (by_fuses accepts work b) 5 mid r) s.bank e)
 
   pub loaded_halted : {T : Type 0} (stop : Stop) (new : DeskState) → Goes {T = T} asks_store old.world new.world (Err stop) → Stays {T = T} 0 old new (Err stop)
-      → HaltsIn (then asks_store (by_fuses accepts work old.bank)) 4 old stop new
-  loaded_halted stop new g s = halts_first asks_store (by_fuses accepts work old.bank) 0 4 old stop new (omega arith) (halts_called asks_store 0 old stop new g s)
+      → HaltsIn (then asks_store (by_fuses accepts work old.bank)) 5 old stop new
+  loaded_halted stop new g s = halts_first asks_store (by_fuses accepts work old.bank) 0 5 old stop new (omega arith) (halts_called asks_store 0 old stop new g s)
 
 -- ---- the whole: it is held first
 module _ (accepts : Acceptance) (which : Bank) (work : Work) (old : World) (held : DeskState) (b : held.bank ≡ which) (o : standing_by held.other ≡ standing_of (other_bank which) old.notes.list)
@@ -87,17 +87,17 @@ module _ (accepts : Acceptance) (which : Bank) (work : Work) (old : World) (held
     nv = l.nv;
   }
 
-  brought_most : (m : ℕ) (new : World) → m ≤ 6 → BroughtUp which m old new → BroughtUp which 6 old new
-  brought_most m new le u = record { mine = u.mine; other = u.other; notes = AddsNotes-most m 6 old.notes new.notes u.notes le; nv = u.nv }
+  brought_most : (m : ℕ) (new : World) → m ≤ 7 → BroughtUp which m old new → BroughtUp which 7 old new
+  brought_most m new le u = record { mine = u.mine; other = u.other; notes = AddsNotes-most m 7 old.notes new.notes u.notes le; nv = u.nv }
 
-  pub brought_ok : (new : World) → DoneSeated (then asks_store (by_fuses accepts work held.bank)) 4 held new
-      → CrossesOrFaults (work_stretch accepts which work) old new × BroughtUp which 6 old new
+  pub brought_ok : (new : World) → DoneSeated (then asks_store (by_fuses accepts work held.bank)) 5 held new
+      → CrossesOrFaults (work_stretch accepts which work) old new × BroughtUp which 7 old new
   brought_ok new e = (
     inl (brought_ran new (subst (λ (x : Bank). Ran (then asks_store (by_fuses accepts work x) (story_of held.world)) held.world new) b e.0)),
-    brought_most 5 new (omega arith) (leaves_up 1 held new b refl n 4 e.1),
+    brought_most 6 new (omega arith) (leaves_up 1 held new b refl n 5 e.1),
   )
 
-  brought_stopped : (stop : Stop) (desk : DeskState) → HaltsIn (then asks_store (by_fuses accepts work held.bank)) 4 held stop desk
+  brought_stopped : (stop : Stop) (desk : DeskState) → HaltsIn (then asks_store (by_fuses accepts work held.bank)) 5 held stop desk
       → Stopped ((work_stretch accepts which work).plan (story_of old)) stop.device stop.fail old desk.world
   brought_stopped stop desk h =
       let next : Plan = then asks_store (by_fuses accepts work which) in
@@ -105,10 +105,10 @@ module _ (accepts : Acceptance) (which : Bank) (work : Work) (old : World) (held
       (subst (λ (x : Bank). Stopped (then asks_store (by_fuses accepts work x) (story_of held.world)) stop.device stop.fail held.world desk.world) b h.stopped)
 
   -- it ends with a lock, or the power went
-  pub brought_halted : {F : Type 0} (halt : Halt F) (r : Result World (Dark F)) → HaltsIn (then asks_store (by_fuses accepts work held.bank)) 4 held halt.stop halt.desk
-      → Ended halt r → Brings (work_stretch accepts which work) which 6 old r
+  pub brought_halted : {F : Type 0} (halt : Halt F) (r : Result World (Dark F)) → HaltsIn (then asks_store (by_fuses accepts work held.bank)) 5 held halt.stop halt.desk
+      → Ended halt r → Brings (work_stretch accepts which work) which 7 old r
   brought_halted halt (Ok new) h e =
-      let notes = AddsNotes-then 1 4 old.notes held.world.notes halt.desk.world.notes n h.stays.notes in
+      let notes = AddsNotes-then 1 5 old.notes held.world.notes halt.desk.world.notes n h.stays.notes in
       let same : halt.desk.bank ≡ which = h.stays.bank ∙ b in (
         inr (record {
           which = halt.stop.device;
@@ -116,10 +116,10 @@ module _ (accepts : Acceptance) (which : Bank) (work : Work) (old : World) (held
           stopped = subst (λ (fail : FlashFail). Stopped ((work_stretch accepts which work).plan (story_of old)) halt.stop.device fail old halt.desk.world) e.0 (brought_stopped halt.stop halt.desk h);
           noted = subst (λ (x : Bank). Ran (Says (Locked x (fault_of halt.stop.device)) ∷ []) halt.desk.world new) same e.1;
         }),
-        brought_most 6 new (omega arith) (leaves_up 5 halt.desk new same h.stays.other notes 1 e.2),
+        brought_most 7 new (omega arith) (leaves_up 6 halt.desk new same h.stays.other notes 1 e.2),
       )
   brought_halted halt (Err dark) h e =
-      let notes = AddsNotes-then 1 4 old.notes held.world.notes halt.desk.world.notes n h.stays.notes in (
+      let notes = AddsNotes-then 1 5 old.notes held.world.notes halt.desk.world.notes n h.stays.notes in (
         record {
           which = halt.stop.device;
           at = halt.desk.world;
@@ -127,5 +127,5 @@ module _ (accepts : Acceptance) (which : Bank) (work : Work) (old : World) (held
           noted = e.1;
         },
         e.2,
-        AddsNotes-most 6 6 old.notes dark.inner.notes (AddsNotes-then 5 1 old.notes halt.desk.world.notes dark.inner.notes notes e.3) (omega arith),
+        AddsNotes-most 7 7 old.notes dark.inner.notes (AddsNotes-then 6 1 old.notes halt.desk.world.notes dark.inner.notes notes e.3) (omega arith),
       )

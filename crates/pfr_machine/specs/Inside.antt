@@ -9,6 +9,9 @@ use Rattle.pfr_engine.specs.Acceptance.{Acceptance}
 use Rattle.pfr_fuses.specs.FusesState.{FusesState}
 use Rattle.pfr_fuses.specs.FusesOf.{fuses_of}
 use Rattle.pfr_fuses.specs.RootSlot.{layout_of}
+use Rattle.pfr_fuses.specs.declared.profile.Profile.TheVariants.{Two}
+use Rattle.pfr_jobs.specs.Log.{open_job}
+use Rattle.pfr_jobs.specs.declared.job.OpenJob.TheVariants as job
 use Rattle.pfr_report.specs.Texts.{AllText}
 use Rattle.pfr_story.specs.Guards.{first_guards}
 use Rattle.pfr_story.specs.Keeping.{HasTrustedSpans}
@@ -86,6 +89,14 @@ pub record IsWhole (w : World) : Type 0 where
   pub apart : standing_of Pch w.notes.list ≡ standing.Off → standing_of Bmc w.notes.list ≡ standing.Off
   pub on : standing_of Bmc w.notes.list ≢ standing.Off → w.nv.powered ≡ true
   pub few : length w.notes.list ≤ 64 * w.item
+
+-- a store that provisions the platform was migrated to profile 2
+abbrev pub IsMigrated : List ℕ → Type 0
+IsMigrated nv = (fuses : FusesState) → fuses_of nv ≡ Ok fuses → fuses.profile ≡ Two
+
+-- it was, and no job of this bank is open
+abbrev pub IsAtRest : Bank → List ℕ → Type 0
+IsAtRest which nv = IsMigrated nv × (open_job nv which ≡ job.None)
 
 -- ---- the platform as a whole
 

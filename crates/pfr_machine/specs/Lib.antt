@@ -9,3 +9,4 @@ pub mod Verdicts
 pub mod VerdictsInside
 pub mod Passing
 pub mod Renewing
+pub mod Cancelling

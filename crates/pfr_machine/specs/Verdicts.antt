@@ -28,6 +28,8 @@ use Rattle.pfr_auth.specs.declared.areas.Area.{Area}
 use Rattle.pfr_auth.specs.declared.areas.Area.TheVariants.{Recovery, Staging}
 use Rattle.pfr_auth.specs.declared.fail.ActiveFail.{ActiveFail}
 use Rattle.pfr_auth.specs.declared.fail.ActiveFail.TheVariants as active
+use Rattle.pfr_jobs.specs.Log.{open_job}
+use Rattle.pfr_jobs.specs.declared.job.OpenJob.{OpenJob}
 use Rattle.pfr_jobs.specs.declared.job.OpenJob.TheVariants as job
 use Rattle.pfr_report.specs.declared.verdict.BankVerdict.{BankVerdict}
 use Rattle.pfr_report.specs.declared.verdict.Standing.{Standing}
@@ -63,7 +65,7 @@ untold standing = record {
   same_manifest = false;
 }
 
--- of one that is ready, what is judged of its images; the logs of jobs are not read
+-- of one that is ready, what is judged of its images
 abbrev pub told : ℕ → Result Manifest ActiveFail → Result CapsuleState CapsuleFail → Result CapsuleState CapsuleFail → BankVerdict
 told floor image recovery staging = record {
   standing = Ready;
@@ -90,9 +92,18 @@ verdict_with bank image accepts (Ok fuses) = ready_if (judge_layout (layout_of f
 verdict_with bank image accepts (Err fuse.SlotsSpent) = untold SlotsSpent
 verdict_with bank image accepts (Err cause) = untold Unprovisioned
 
+-- a bank's images, by what the store holds
+unfoldable pub images_of : Bank → List ℕ → List ℕ → Acceptance → BankVerdict
+images_of bank image nv accepts = verdict_with bank image accepts (fuses_of nv)
+
+-- of a bank that is ready, what its log has open is told too
+abbrev pub job_told : Standing → OpenJob → BankVerdict → BankVerdict
+job_told Ready opened verdict = record verdict { job = opened }
+job_told standing opened verdict = verdict
+
 -- The verdict of a bank, by its image and what the store holds.
-unfoldable pub verdict_of : Bank → List ℕ → List ℕ → Acceptance → BankVerdict
-verdict_of bank image nv accepts = verdict_with bank image accepts (fuses_of nv)
+abbrev pub verdict_of : Bank → List ℕ → List ℕ → Acceptance → BankVerdict
+verdict_of bank image nv accepts = job_told (images_of bank image nv accepts).standing (open_job nv bank) (images_of bank image nv accepts)
 
 -- ---- what a verdict says
 
@@ -122,6 +133,7 @@ pub record IsVerdict (verdict : BankVerdict) (bank : Bank) (image nv : List ℕ)
   pub recovery : (svn : ℕ) → ((verdict.recovery ≡ Ok svn) ↔ HasGood Recovery svn bank image nv accepts)
   pub staging : (svn : ℕ) → ((verdict.staging ≡ Ok svn) ↔ HasGood Staging svn bank image nv accepts)
   pub same_manifest : IsTrue verdict.same_manifest ↔ HasSameManifest bank image nv accepts
+  pub job : verdict.standing ≡ Ready → verdict.job ≡ open_job nv bank
 
 -- what a verdict does to both devices: it reads, and where it fails one read of one device did, and no other
 abbrev pub EndsEither : {A : Type 0} → Result A FlashFail → (bank bank_after nv nv_after : FlashState) → Type 0

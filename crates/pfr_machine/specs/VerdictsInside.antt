@@ -1,5 +1,5 @@
 -- How a verdict comes to be.
-use Rattle.std.specs.Prelude.{◌≡◌, ℕ, List, Bool, IsTrue, Result, Ok, IfOk}
+use Rattle.std.specs.Prelude.{◌↔◌, ◌≡◌, ℕ, List, Bool, IsTrue, Result, Ok, IfOk}
 use Rattle.pfr_flash.specs.declared.names.Bank.{Bank}
 use Rattle.pfr_engine.specs.Acceptance.{Acceptance}
 use Rattle.pfr_manifest.specs.declared.manifest.Manifest.{Manifest}
@@ -57,3 +57,10 @@ pub record IsSound (verdict : BankVerdict) (bank : Bank) (image nv : List ℕ) (
   pub recovery : IfOk verdict.recovery (λ svn. HasGood Recovery svn bank image nv accepts)
   pub staging : IfOk verdict.staging (λ svn. HasGood Staging svn bank image nv accepts)
   pub same_manifest : IsTrue verdict.same_manifest → HasSameManifest bank image nv accepts
+
+-- and it tells of the images exactly what is so
+pub record TellsImages (verdict : BankVerdict) (bank : Bank) (image nv : List ℕ) (accepts : Acceptance) : Type 0 where
+  pub active : (svn : ℕ) → ((verdict.active ≡ Ok svn) ↔ HasTrusted svn bank image nv accepts)
+  pub recovery : (svn : ℕ) → ((verdict.recovery ≡ Ok svn) ↔ HasGood Recovery svn bank image nv accepts)
+  pub staging : (svn : ℕ) → ((verdict.staging ≡ Ok svn) ↔ HasGood Staging svn bank image nv accepts)
+  pub same_manifest : IsTrue verdict.same_manifest ↔ HasSameManifest bank image nv accepts

@@ -1,4 +1,9 @@
 // How a bank is brought up.
+ghost use Rattle.pfr_jobs.specs.Log.{open_job};
+ghost use Rattle.pfr_jobs.specs.declared.job.OpenJob.TheVariants as job;
+ghost use Rattle.pfr_jobs.specs.LogPlans.{IsKind};
+ghost use Rattle.pfr_jobs.specs.declared.job.JobKind.TheVariants.{ActiveFromRecovery};
+ghost use Rattle.pfr_fuses.specs.declared.profile.Profile.TheVariants.{Two};
 ghost use Rattle.std.specs.Prelude.{◌≡◌, ◌≤◌, Ok, Err, IsOk};
 ghost use Rattle.pfr_flash.specs.Answer.{IsFound};
 ghost use Rattle.pfr_flash.specs.FlashState.{now, size_of};
@@ -8,7 +13,7 @@ ghost use Rattle.pfr_auth.specs.Answer.{active_failure};
 ghost use Rattle.pfr_copy.specs.Applying.{CanApply};
 ghost use Rattle.pfr_fuses.specs.FusesOf.{fuses_of};
 ghost use Rattle.pfr_fuses.specs.RootSlot.{layout_of};
-ghost use Rattle.pfr_story.specs.Plans.{by_active, checked_again, judged_active, judged_recovery, recovered, restored, tail};
+ghost use Rattle.pfr_story.specs.Plans.{by_active, by_ready, checked_again, judged_active, judged_recovery, recovered, restored, tail};
 ghost use Rattle.pfr_story.specs.Story.{then, device_of};
 ghost use Rattle.pfr_story.specs.World.{state_at, story_of};
 ghost use Rattle.pfr_machine.specs.Worlds.{IsAwake};
@@ -28,6 +33,7 @@ impl<F: Flash> Desk<F> {
     pub fn known(&self)
         ensures size { IsBankSize (size_of (state_at (device_of self.now.bank) self.now.world)) }
         ensures bytes { HoldsBytes (state_at (device_of self.now.bank) self.now.world) }
+        ensures store { size_of self.now.world.nv ≡ 32768 }
     {
         let _held = &self.held;
     }
@@ -59,12 +65,14 @@ impl<F: Flash> Desk<F> {
     ) -> Result<Inner<F>, Halt<F>>
         requires room { 2 ≤ self.world.notes.spare }
         requires on { IsAwake self.bank self.world }
+        requires none { open_job (now self.world.nv) self.bank ≡ job.None }
         requires found { fuses_of (now self.world.nv) ≡ Ok fuses.now }
         requires valid { let layout = layout_of fuses.now.provision self.bank in
             IsValidLayout layout (size_of (state_at (device_of self.bank) self.world)) }
         requires good { judged_recovery (E.accepts engine.now) self.bank fuses.now (story_of self.world) ≡ Ok capsule.now }
         requires can { let layout = layout_of fuses.now.provision self.bank in
             CanApply (now (state_at (device_of self.bank) self.world)) layout capsule.now }
+        requires level { IsKind (ActiveFromRecovery level) }
         ensures { let again = checked_again (E.accepts engine.now) self.bank fuses.now in
             EndsSeated (then (restored self.bank level fuses.now capsule.now) again) 2 self result }
     {
@@ -84,6 +92,7 @@ impl<F: Flash> Desk<F> {
     ) -> Result<Inner<F>, Halt<F>>
         requires room { 2 ≤ self.world.notes.spare }
         requires on { IsAwake self.bank self.world }
+        requires none { open_job (now self.world.nv) self.bank ≡ job.None }
         requires found { fuses_of (now self.world.nv) ≡ Ok fuses.now }
         requires valid { let layout = layout_of fuses.now.provision self.bank in
             IsValidLayout layout (size_of (state_at (device_of self.bank) self.world)) }
@@ -106,6 +115,7 @@ impl<F: Flash> Desk<F> {
     ) -> Result<Inner<F>, Halt<F>>
         requires room { 3 ≤ self.world.notes.spare }
         requires on { IsAwake self.bank self.world }
+        requires none { open_job (now self.world.nv) self.bank ≡ job.None }
         requires found { fuses_of (now self.world.nv) ≡ Ok fuses.now }
         requires valid { let layout = layout_of fuses.now.provision self.bank in
             IsValidLayout layout (size_of (state_at (device_of self.bank) self.world)) }
@@ -120,6 +130,7 @@ impl<F: Flash> Desk<F> {
     pub fn tail<E: Engine>(self, fuses: &Fuses, engine: &E) -> Result<Inner<F>, Halt<F>>
         requires room { 3 ≤ self.world.notes.spare }
         requires on { IsAwake self.bank self.world }
+        requires none { open_job (now self.world.nv) self.bank ≡ job.None }
         requires found { fuses_of (now self.world.nv) ≡ Ok fuses.now }
         requires valid { let layout = layout_of fuses.now.provision self.bank in
             IsValidLayout layout (size_of (state_at (device_of self.bank) self.world)) }
@@ -129,6 +140,26 @@ impl<F: Flash> Desk<F> {
             Ok(Found::Released(inner)) => Ok(inner),
             Ok(Found::Distrusted(desk, why)) => desk.distrust_and_recover(why, fuses, engine),
             Err(halt) => Err(halt),
+        }
+    }
+
+    /// Takes the job up that is open, or gives it up, and checks the bank.
+    pub fn bring_up<E: Engine>(
+        mut self,
+        mut fuses: Fuses,
+        engine: &E,
+    ) -> Result<Inner<F>, Halt<F>>
+        requires room { 5 ≤ self.world.notes.spare }
+        requires on { IsAwake self.bank self.world }
+        requires found { fuses_of (now self.world.nv) ≡ Ok fuses }
+        requires two { fuses.profile ≡ Two }
+        requires valid { let layout = layout_of fuses.provision self.bank in
+            IsValidLayout layout (size_of (state_at (device_of self.bank) self.world)) }
+        ensures { EndsSeated (by_ready (E.accepts engine.now) self.bank (Ok fuses)) 5 self result }
+    {
+        match self.resume(&mut fuses, engine) {
+            Ok(()) => self.tail(&fuses, engine),
+            Err(stop) => Err(Halt { stop, desk: self }),
         }
     }
 }

@@ -8,7 +8,7 @@ ghost use Rattle.pfr_auth.specs.Answer.{active_failure};
 ghost use Rattle.pfr_capsule.specs.Answer.{capsule_failure};
 ghost use Rattle.pfr_auth.specs.Areas.{judge_area};
 ghost use Rattle.pfr_auth.specs.declared.areas.Area.TheVariants.{Staging};
-ghost use Rattle.pfr_copy.specs.Applying.{CanApply, CanCopyOver, IsActive};
+ghost use Rattle.pfr_copy.specs.Applying.{CanApply, CanCopyOver};
 ghost use Rattle.pfr_fuses.specs.FusesOf.{fuses_of};
 ghost use Rattle.pfr_fuses.specs.RootSlot.{layout_of};
 ghost use Rattle.pfr_report.specs.Texts.{HasLockText, HasText};
@@ -16,7 +16,12 @@ ghost use Rattle.pfr_report.specs.declared.note.What.TheVariants.{Released, Refu
 ghost use Rattle.pfr_report.specs.declared.note.Refusal.TheVariants.{Capsule as Staged};
 ghost use Rattle.pfr_story.specs.Goes.{Goes, Ran};
 ghost use Rattle.pfr_story.specs.Guards.{latch_after};
-ghost use Rattle.pfr_story.specs.Plans.{asks, asks_store, copied, mine, restored, updated};
+ghost use Rattle.pfr_story.specs.Plans.{asks, asks_store, mine, restored};
+ghost use Rattle.pfr_story.specs.UpdatePlans.{updated};
+ghost use Rattle.pfr_jobs.specs.Log.{open_job};
+ghost use Rattle.pfr_jobs.specs.LogPlans.{IsKind};
+ghost use Rattle.pfr_jobs.specs.declared.job.JobKind.TheVariants.{ActiveFromRecovery};
+ghost use Rattle.pfr_jobs.specs.declared.job.OpenJob.TheVariants as job;
 ghost use Rattle.pfr_story.specs.Standing.{Standing, standing_after};
 ghost use Rattle.pfr_story.specs.Story.{Says, device_of};
 ghost use Rattle.pfr_story.specs.World.{IsDark, counts_in, state_at, story_of};
@@ -33,7 +38,6 @@ use pfr_auth::{ActiveFail, Area, capsule_at};
 use pfr_bank::{Checked, Held, Unchecked};
 use pfr_capsule::{Capsule, CapsuleFail};
 use pfr_chain::Engine;
-use pfr_copy::apply_unlogged;
 use pfr_flash::{Bank, Counts, Device, Flash, FlashFail};
 use pfr_fuses::{FuseFail, Fuses};
 use pfr_jobs::JobKind;
@@ -187,26 +191,6 @@ impl<F: Flash> Desk<F> {
         }
     }
 
-    // Applies a capsule to the active image, by a job.
-    fn copy(&mut self, fuses: &Fuses, capsule: &Capsule, kind: JobKind) -> Result<(), Stop>
-        requires on { IsAwake self.old.bank self.old.world }
-        requires can { CanApply (now (state_at (device_of self.old.bank) self.old.world))
-            (layout_of fuses.now.provision self.old.bank) capsule.now }
-        requires kind { IsActive kind }
-        ensures goes { Goes (copied self.old.bank kind fuses.now capsule.now) self.old.world self.new.world result }
-        ensures stays { Stays 0 self.old self.new result }
-        ensures store { self.new.world.nv ≡ self.old.world.nv }
-    {
-        let layout = fuses.provision().layout(self.bank);
-        match apply_unlogged(&mut self.held, capsule, layout, kind) {
-            Ok(()) => Ok(()),
-            Err(fail) => Err(Stop {
-                device: device_of(self.bank),
-                fail,
-            }),
-        }
-    }
-
     /// Notes something by which no bank stands otherwise, and no latch moves.
     pub fn note(&mut self, what: What)
         requires room { 1 ≤ self.old.world.notes.spare }
@@ -222,18 +206,17 @@ impl<F: Flash> Desk<F> {
     pub fn restore(&mut self, fuses: &Fuses, capsule: &Capsule, level: u8) -> Result<(), Stop>
         requires room { 1 ≤ self.old.world.notes.spare }
         requires on { IsAwake self.old.bank self.old.world }
+        requires none { open_job (now self.old.world.nv) self.old.bank ≡ job.None }
         requires can { CanApply (now (state_at (device_of self.old.bank) self.old.world))
             (layout_of fuses.now.provision self.old.bank) capsule.now }
+        requires level { IsKind (ActiveFromRecovery level) }
         ensures goes { Goes (restored self.old.bank level fuses.now capsule.now) self.old.world self.new.world result }
+        ensures fuses { fuses_of (now self.new.world.nv) ≡ fuses_of (now self.old.world.nv) }
         ensures stays { Stays 1 self.old self.new result }
-        ensures store { self.new.world.nv ≡ self.old.world.nv }
     {
-        self.copy(fuses, capsule, JobKind::ActiveFromRecovery { level })?;
-        self.note(What::Restored {
-            bank: self.bank,
-            level,
-        });
-        Ok(())
+        let kind = JobKind::ActiveFromRecovery { level };
+        let bank = self.bank;
+        self.with_job(fuses, capsule, kind, What::Restored { bank, level })
     }
 
     /// Updates the active image from the capsule in the staging area: with all of its regions where `dynamic`, else with the
@@ -241,19 +224,16 @@ impl<F: Flash> Desk<F> {
     pub fn update(&mut self, fuses: &Fuses, capsule: &Capsule, dynamic: bool) -> Result<(), Stop>
         requires room { 1 ≤ self.old.world.notes.spare }
         requires on { IsAwake self.old.bank self.old.world }
+        requires none { open_job (now self.old.world.nv) self.old.bank ≡ job.None }
         requires can { CanApply (now (state_at (device_of self.old.bank) self.old.world))
             (layout_of fuses.now.provision self.old.bank) capsule.now }
         ensures goes { Goes (updated self.old.bank dynamic fuses.now capsule.now) self.old.world self.new.world result }
+        ensures fuses { fuses_of (now self.new.world.nv) ≡ fuses_of (now self.old.world.nv) }
         ensures stays { Stays 1 self.old self.new result }
-        ensures store { self.new.world.nv ≡ self.old.world.nv }
     {
-        self.copy(fuses, capsule, JobKind::ActiveFromStaging { dynamic })?;
-        self.note(What::Updated {
-            bank: self.bank,
-            dynamic,
-            svn: capsule.manifest().svn,
-        });
-        Ok(())
+        let kind = JobKind::ActiveFromStaging { dynamic };
+        let (bank, svn) = (self.bank, capsule.manifest().svn);
+        self.with_job(fuses, capsule, kind, What::Updated { bank, dynamic, svn })
     }
 
     /// Notes that what is in the staging area is no good image.

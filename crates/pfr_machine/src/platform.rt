@@ -5,14 +5,16 @@ ghost use Rattle.pfr_flash.specs.FlashState.{now, size_of};
 ghost use Rattle.pfr_flash.specs.Layout.{IsBankSize};
 ghost use Rattle.pfr_flash.specs.declared.names.Bank.{Bank};
 ghost use Rattle.pfr_fuses.specs.Growth.{NeverGoesBack, KeepsProvision};
-ghost use Rattle.pfr_recoverable.specs.Recoverable.{HasGoodRecovery};
+ghost use Rattle.pfr_recoverable.specs.Recoverable.{IsRecoverable};
 ghost use Rattle.pfr_report.specs.Texts.{AllText};
 ghost use Rattle.pfr_story.specs.Bringing.{BringsUpCalm, PowerReleases};
 ghost use Rattle.pfr_story.specs.Course.{Calm};
 ghost use Rattle.pfr_story.specs.Filtering.{FiltersSo};
 ghost use Rattle.pfr_story.specs.Guarding.{Boots, Expires, GuardsFollow};
 ghost use Rattle.pfr_story.specs.Guards.{first_guards};
-ghost use Rattle.pfr_story.specs.Promises.{ReleasesTrusted, LocksHaveCauses, RestoresGood, ProvisionsSo, FaultsAreNoted, FaultsHaveCauses, LossesAreNoted, LostEnds, LostIsDark, NotesOff, StaysQuiet, CallsNone, HasPower, DistrustsWithCause, NotesBelong, AreOff, IsKnownSlot, JudgesAtPower, Runs};
+ghost use Rattle.pfr_story.specs.JobPromises.{Cancels, ChangesFuses, MarksAreHeeded, RecoveryUpdates, TakesJobsUp};
+ghost use Rattle.pfr_story.specs.Keeping.{HasTrustedSpans};
+ghost use Rattle.pfr_story.specs.Promises.{ReleasesTrusted, LocksHaveCauses, RestoresGood, ProvisionsSo, FaultsAreNoted, FaultsHaveCauses, LossesAreNoted, LostEnds, LostIsDark, NotesOff, StaysQuiet, CallsNone, HasPower, DistrustsWithCause, NotesBelong, AreOff, IsKnownSlot, JudgesAtPower, Runs, RunningHasNoJob};
 ghost use Rattle.pfr_story.specs.Recovery.{CountsRise, StaysRecoverable};
 ghost use Rattle.pfr_story.specs.Run.{armed, takes_arm};
 ghost use Rattle.pfr_story.specs.Spans.{ReleasedSpans};
@@ -119,12 +121,22 @@ impl<F: Flash, E: Engine + Drop> Platform<F, E> {
         ensures distrusts { OnOk result (DistrustsWithCause (E.accepts self.old.engine) self.old.world self.new.world) }
         ensures restores { OnOk result (RestoresGood (E.accepts self.old.engine) self.old.world self.new.world) }
         ensures brings_up { OnOk result (BringsUpCalm event.now (E.accepts self.old.engine) self.old.world self.new.world) }
+        // A job that is open at a power-on is taken up where it can be, and else given up.
+        ensures takes_up { OnOk result (TakesJobsUp event.now (E.accepts self.old.engine) self.old.world self.new.world) }
+        // Behind that it begins with the pages whose groups weren't marked.
+        ensures heeds { OnOk result (MarksAreHeeded event.now (E.accepts self.old.engine) self.old.world self.new.world) }
+        // An update of the recovery area is judged before anything is written; behind it the staged capsule stands there.
+        ensures updates_recovery { OnOk result (RecoveryUpdates event.now (E.accepts self.old.engine) self.old.world self.new.world) }
+        // A key is cancelled exactly where a certificate for it stands in the staging area and the recovery area doesn't need it.
+        ensures cancels { OnOk result (Cancels event.now (E.accepts self.old.engine) self.old.world self.new.world) }
+        // Behind an update of the recovery area the floor is that of its capsule at least, and a key that was cancelled stays so.
+        ensures changes { OnOk result (ChangesFuses self.old.world self.new.world) }
         ensures provisions { OnOk result (ProvisionsSo event.now self.old.world self.new.world) }
-        // At no event but a power-on is a bank called untrusted, or locked for its contents.
+        // But at a power-on, and where an update changes fuses, no bank is called untrusted, or locked for its contents.
         ensures judges { OnOk result (JudgesAtPower event.now self.old.world self.new.world) }
         // Frames on the buses of a bank that runs are judged by what it is trusted by.
         ensures filters { OnOk result (FiltersSo event.now (E.accepts self.old.engine) self.old.world self.new.world) }
-        // An update of a bank that runs is judged before anything is written.
+        // An update of the active image of a bank that runs is judged before anything is written.
         ensures updates { OnOk result (Updates event.now (E.accepts self.old.engine) self.old.world self.new.world) }
         // A bank whose watch expires is restored or locked, a stage that is passed is noted, and what guards the banks is moved by
         // the ticks of the event and by the notes alone.
@@ -137,14 +149,16 @@ impl<F: Flash, E: Engine + Drop> Platform<F, E> {
         // its trust rests on, or one of its recovery area.
         ensures spans { OnOk result ((which : Bank) → ReleasedSpans (E.accepts self.old.engine) which (story_of self.new.world)) }
 
-        // A bank with a good capsule in its recovery area has one after each note and at the end, whatever was cut or torn; and a
-        // power-on in which no call fails releases it.
+        // A bank that can be recovered can be after each note and at the end, whatever was cut or torn; and a power-on in which no
+        // call fails releases it.
         ensures recoverable { OnOk result
-            (StaysRecoverable (λ bank image nv. HasGoodRecovery bank image nv (E.accepts self.old.engine))
+            (StaysRecoverable (λ bank image nv. IsRecoverable bank image nv (E.accepts self.old.engine))
             self.old.world self.new.world) }
         ensures powers { OnOk result
-            (PowerReleases (λ bank image nv. HasGoodRecovery bank image nv (E.accepts self.old.engine))
+            (PowerReleases (λ bank image nv. IsRecoverable bank image nv (E.accepts self.old.engine))
             event.now self.old.world self.new.world) }
+        // No job of a bank that runs is open.
+        ensures no_job { OnOk result (RunningHasNoJob self.new.world) }
 
         // A fault is noted only where it was counted, and a loss of power exactly where it was.
         ensures faults { OnOk result (FaultsHaveCauses self.old.world self.new.world) }
@@ -183,7 +197,7 @@ impl<F: Flash, E: Engine + Drop> Platform<F, E> {
         ensures texts { AllText self.now.world.notes.list }
         ensures sizes { HasSizes self.now.world }
         ensures on { HasPower self.now.world }
-        ensures spans { (which : Bank) → ReleasedSpans (E.accepts self.now.engine) which (story_of self.now.world) }
+        ensures spans { (which : Bank) → HasTrustedSpans (E.accepts self.now.engine) which (story_of self.now.world) }
         ensures trusted { (which : Bank) → Runs which self.now.world →
             IsTrusted (now (state_at (device_of which) self.now.world)) (now self.now.world.nv) which (E.accepts self.now.engine) }
     {

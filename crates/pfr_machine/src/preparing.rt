@@ -1,5 +1,5 @@
 // The fuses are read at a power-on, and migrated.
-ghost use Rattle.std.specs.Prelude.{◌≡◌, true, Some, Ok, IfOk};
+ghost use Rattle.std.specs.Prelude.{◌≡◌, true, Some, Ok, IfOk, OnOk};
 ghost use Rattle.pfr_flash.specs.FlashState.{now, size_of};
 ghost use Rattle.pfr_flash.specs.Plan.{Follows};
 ghost use Rattle.pfr_flash.specs.Reading.{EndsAt, failed_by};
@@ -8,7 +8,7 @@ ghost use Rattle.pfr_fuses.specs.FusesOf.{fuses_of};
 ghost use Rattle.pfr_story.specs.Goes.{Goes};
 ghost use Rattle.pfr_story.specs.Plans.{asks_store, migrated, migration_by, migration_in, store};
 ghost use Rattle.pfr_story.specs.Story.{called};
-ghost use Rattle.pfr_machine.specs.Inside.{KeepsLaid};
+ghost use Rattle.pfr_machine.specs.Inside.{IsMigrated, KeepsLaid};
 ghost use Rattle.pfr_machine.specs.Ready.{StaysSeated};
 ghost use Rattle.pfr_machine.specs.Worlds.{with_state};
 
@@ -100,8 +100,10 @@ impl<F: Flash> Inner<F> {
     pub fn prepare(&mut self) -> Result<(), Stop>
         requires on { self.old.nv.powered ≡ true }
         ensures goes { Goes migrated self.old self.new result }
+        ensures settled { OnOk result (IsMigrated (now self.new.nv)) }
         ensures stays { StaysSeated 0 self.old self.new result }
     {
+        self.known();
         let found = self.load()?;
         self.migrate(found)
     }

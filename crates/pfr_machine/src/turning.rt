@@ -1,4 +1,8 @@
 // What is done at each event.
+ghost use Rattle.pfr_jobs.specs.Log.{open_job};
+ghost use Rattle.pfr_jobs.specs.declared.job.OpenJob.TheVariants as job;
+ghost use Rattle.pfr_machine.specs.Inside.{IsMigrated};
+ghost use Rattle.pfr_story.specs.Keeping.{IsSettled};
 ghost use Rattle.std.specs.Prelude.{◌≡◌, ◌≢◌, ◌⊎◌, ◌*◌, ◌<◌, ◌≤◌, ◌∷◌, [], length, true, false, OnOk, OnErr};
 ghost use Rattle.pfr_auth.specs.Trusted.{IsTrusted};
 ghost use Rattle.pfr_flash.specs.FlashState.{now};
@@ -51,10 +55,12 @@ impl<F: Flash> Inner<F> {
 
     // Brings up the BMC's bank, and then the PCH's.
     fn bring_up_both<E: Engine>(self, engine: &E) -> Result<Inner<F>, Dark<F>>
-        requires room { 12 ≤ self.notes.spare }
+        requires room { 14 ≤ self.notes.spare }
+        requires settled { IsMigrated (now self.nv) }
         ensures { BringsBoth (bank_stretch (E.accepts engine.now) Bmc ∷ bank_stretch (E.accepts engine.now) Pch ∷ [])
-            12 self result }
+            14 self result }
     {
+        self.known();
         self.work(Bank::Bmc, Work::BringUp, engine)?
             .work(Bank::Pch, Work::BringUp, engine)
     }
@@ -74,10 +80,10 @@ impl<F: Flash> Inner<F> {
 
     // Reads and migrates the fuses, and brings up both banks.
     fn wake<E: Engine>(mut self, engine: &E) -> Inner<F>
-        requires room { 12 ≤ self.notes.spare }
+        requires room { 14 ≤ self.notes.spare }
         requires on { self.nv.powered ≡ true }
         ensures steps { Steps (power_course (E.accepts engine.now)).stretches self result }
-        ensures leaves { LeavesWhole 12 self result }
+        ensures leaves { LeavesWhole 14 self result }
         ensures dark { standing_of Bmc result.notes.list ≡ Off → IsDark result }
     {
         match self.prepare() {
@@ -163,6 +169,8 @@ impl<F: Flash> Inner<F> {
     fn take<E: Engine>(self, event: &Event, engine: &E) -> Inner<F>
         requires room { 64 ≤ self.notes.spare }
         requires whole { IsWhole self }
+        requires settled { (which : Bank) → Runs which self → IsSettled (now self.nv) }
+        requires idle { (which : Bank) → Runs which self → open_job (now self.nv) which ≡ job.None }
         requires trusted { (which : Bank) → Runs which self →
             IsTrusted (now (state_at (device_of which) self)) (now self.nv) which (E.accepts engine.now) }
         requires taken { is_idle event.now (story_of self) ≡ false }
@@ -188,6 +196,8 @@ impl<F: Flash> Inner<F> {
     pub fn turn<E: Engine>(mut self, event: &Event, engine: &E) -> Inner<F>
         requires room { 64 ≤ self.notes.spare }
         requires whole { IsWhole self }
+        requires settled { (which : Bank) → Runs which self → IsSettled (now self.nv) }
+        requires idle { (which : Bank) → Runs which self → open_job (now self.nv) which ≡ job.None }
         requires trusted { (which : Bank) → Runs which self →
             IsTrusted (now (state_at (device_of which) self)) (now self.nv) which (E.accepts engine.now) }
         ensures follows { Follows (course (E.accepts engine.now) event.now (story_of self)) (clocked event.now self) result }

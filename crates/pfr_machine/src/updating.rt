@@ -1,4 +1,7 @@
 // How the active image of a bank is updated.
+ghost use Rattle.pfr_jobs.specs.Log.{open_job};
+ghost use Rattle.pfr_jobs.specs.declared.job.OpenJob.TheVariants as job;
+ghost use Rattle.pfr_fuses.specs.declared.profile.Profile.TheVariants.{Two};
 ghost use Rattle.std.specs.Prelude.{◌≡◌, ◌≤◌, Ok};
 ghost use Rattle.pfr_capsule.specs.Answer.{capsule_failure};
 ghost use Rattle.pfr_copy.specs.Applying.{CanApply};
@@ -11,13 +14,14 @@ ghost use Rattle.pfr_fuses.specs.RootSlot.{layout_of};
 ghost use Rattle.pfr_report.specs.declared.note.Refusal.TheVariants.{Capsule as Staged};
 ghost use Rattle.pfr_report.specs.declared.note.What.TheVariants.{Refused};
 ghost use Rattle.pfr_story.specs.Course.{Follows};
-ghost use Rattle.pfr_story.specs.Plans.{checked_again, is_dynamic, judged_staging, tail, updated, updated_with};
+ghost use Rattle.pfr_story.specs.Plans.{checked_again, judged_staging, tail};
 ghost use Rattle.pfr_story.specs.Promises.{Runs};
 ghost use Rattle.pfr_story.specs.Standing.{standing_of, Off};
 ghost use Rattle.pfr_story.specs.Story.{then, says, device_of};
 ghost use Rattle.pfr_story.specs.Turn.{update_course};
 ghost use Rattle.pfr_story.specs.World.{IsDark, state_at, story_of};
-ghost use Rattle.pfr_machine.specs.Inside.{IsWhole};
+ghost use Rattle.pfr_story.specs.UpdatePlans.{active_updated, by_intent, updated};
+ghost use Rattle.pfr_machine.specs.Inside.{IsAtRest, IsWhole};
 ghost use Rattle.pfr_machine.specs.Ready.{EndsSeated, LeavesWhole};
 ghost use Rattle.pfr_machine.specs.Worlds.{IsAwake};
 
@@ -31,16 +35,6 @@ use pfr_flash::{Bank, Flash};
 use pfr_fuses::Fuses;
 use pfr_script::Intent;
 
-// Whether an update replaces what changes while the image runs.
-fn is_dynamic(intent: Intent) -> bool
-    ensures { result ≡ is_dynamic intent }
-{
-    match intent {
-        Intent::Active => false,
-        Intent::Full => true,
-    }
-}
-
 impl<F: Flash> Desk<F> {
     // Updates the bank from a good capsule, and releases it.
     fn update_and_check<E: Engine>(
@@ -52,6 +46,7 @@ impl<F: Flash> Desk<F> {
     ) -> Result<Inner<F>, Halt<F>>
         requires room { 2 ≤ self.world.notes.spare }
         requires on { IsAwake self.bank self.world }
+        requires none { open_job (now self.world.nv) self.bank ≡ job.None }
         requires found { fuses_of (now self.world.nv) ≡ Ok fuses.now }
         requires valid { let layout = layout_of fuses.now.provision self.bank in
             IsValidLayout layout (size_of (state_at (device_of self.bank) self.world)) }
@@ -77,6 +72,7 @@ impl<F: Flash> Desk<F> {
     ) -> Result<Inner<F>, Halt<F>>
         requires room { 4 ≤ self.world.notes.spare }
         requires on { IsAwake self.bank self.world }
+        requires none { open_job (now self.world.nv) self.bank ≡ job.None }
         requires found { fuses_of (now self.world.nv) ≡ Ok fuses.now }
         requires valid { let layout = layout_of fuses.now.provision self.bank in
             IsValidLayout layout (size_of (state_at (device_of self.bank) self.world)) }
@@ -97,15 +93,42 @@ impl<F: Flash> Desk<F> {
     ) -> Result<Inner<F>, Halt<F>>
         requires room { 4 ≤ self.world.notes.spare }
         requires on { IsAwake self.bank self.world }
+        requires none { open_job (now self.world.nv) self.bank ≡ job.None }
         requires found { fuses_of (now self.world.nv) ≡ Ok fuses.now }
         requires valid { let layout = layout_of fuses.now.provision self.bank in
             IsValidLayout layout (size_of (state_at (device_of self.bank) self.world)) }
-        ensures { EndsSeated (updated_with (E.accepts engine.now) self.bank dynamic (Ok fuses.now)) 4 self result }
+        ensures { EndsSeated (active_updated (E.accepts engine.now) self.bank dynamic fuses.now) 4 self result }
     {
         match self.judge(Area::Staging, fuses, engine) {
             Ok(Ok(capsule)) => self.update_and_check(fuses, &capsule, dynamic, engine),
             Ok(Err(cause)) => self.refuse_and_check(cause, fuses, engine),
             Err(stop) => Err(Halt { stop, desk: self }),
+        }
+    }
+}
+
+impl<F: Flash> Desk<F> {
+    /// Updates the bank as is asked: its active image or its recovery area, or a key is cancelled.
+    pub fn update_as<E: Engine>(
+        self,
+        intent: Intent,
+        fuses: Fuses,
+        engine: &E,
+    ) -> Result<Inner<F>, Halt<F>>
+        requires room { 5 ≤ self.world.notes.spare }
+        requires on { IsAwake self.bank self.world }
+        requires none { open_job (now self.world.nv) self.bank ≡ job.None }
+        requires found { fuses_of (now self.world.nv) ≡ Ok fuses }
+        requires two { fuses.profile ≡ Two }
+        requires valid { let layout = layout_of fuses.provision self.bank in
+            IsValidLayout layout (size_of (state_at (device_of self.bank) self.world)) }
+        ensures { EndsSeated (by_intent (E.accepts engine.now) self.bank intent fuses) 5 self result }
+    {
+        match intent {
+            Intent::Active => self.update_from_staging(false, &fuses, engine),
+            Intent::Full => self.update_from_staging(true, &fuses, engine),
+            Intent::Recovery => self.update_recovery(fuses, engine),
+            Intent::Cert => self.cancel_key(fuses, engine),
         }
     }
 }
@@ -116,12 +139,12 @@ impl<F: Flash> Inner<F> {
         requires room { 64 ≤ self.notes.spare }
         requires whole { IsWhole self }
         requires runs { Runs bank self }
+        requires rests { IsAtRest bank (now self.nv) }
         ensures follows { Follows (update_course (E.accepts engine.now) bank intent) self result }
         ensures leaves { LeavesWhole 64 self result }
         ensures dark { standing_of Bmc result.notes.list ≡ Off → IsDark result }
     {
-        let dynamic = is_dynamic(intent);
-        match self.work(bank, Work::Update { dynamic }, engine) {
+        match self.work(bank, Work::Update { intent }, engine) {
             Ok(inner) => inner,
             Err(dark) => dark.off(),
         }

@@ -13,7 +13,7 @@ ghost use Rattle.pfr_auth.specs.Areas.{judge_area};
 ghost use Rattle.pfr_auth.specs.Judge.{judge_active};
 ghost use Rattle.pfr_report.specs.Verdicts.{HasCauses};
 ghost use Rattle.pfr_report.specs.declared.verdict.Standing.TheVariants.{Ready};
-ghost use Rattle.pfr_machine.specs.Verdicts.{EndsEither, IsVerdict, ready, svn_of_capsule, svn_of_image, untold, verdict_of, verdict_with};
+ghost use Rattle.pfr_machine.specs.Verdicts.{EndsEither, IsVerdict, job_told, ready, svn_of_capsule, svn_of_image, untold, verdict_of, verdict_with};
 ghost use Rattle.pfr_machine.specs.VerdictsInside.{AreOne, Brings, IsBorneOut, IsGoodIn, IsSound, standing_without, tells};
 
 use crate::judging::read_fuses;
@@ -22,7 +22,7 @@ use pfr_capsule::{Capsule, CapsuleFail};
 use pfr_chain::{ChainFail, Engine};
 use pfr_flash::{Bank, Flash, FlashFail, Layout};
 use pfr_fuses::{FuseFail, Fuses};
-use pfr_jobs::OpenJob;
+use pfr_jobs::{JobLog, OpenJob};
 use pfr_manifest::Manifest;
 use pfr_report::{BankVerdict, Standing};
 
@@ -239,6 +239,17 @@ fn judge_with<F: Flash, E: Engine>(
     }
 }
 
+// A verdict with what the bank's log has open, where the bank is ready.
+fn tell_job(verdict: BankVerdict, job: OpenJob) -> BankVerdict
+    ensures told { result ≡ job_told verdict.standing job verdict }
+    ensures causes { HasCauses verdict → HasCauses result }
+{
+    match verdict.standing {
+        Standing::Ready => BankVerdict { job, ..verdict },
+        Standing::Unprovisioned | Standing::SlotsSpent | Standing::LayoutBad(_) => verdict,
+    }
+}
+
 /// The verdict of a bank, by its flash and the store. Neither of them is changed.
 pub fn verdict<F: Flash, E: Engine>(
     flash: &mut F,
@@ -258,5 +269,7 @@ pub fn verdict<F: Flash, E: Engine>(
     ensures ends { EndsEither result (F.device flash.old) (F.device flash.new) (F.device nv.old) (F.device nv.new) }
 {
     let found = read_fuses(nv)?;
-    judge_with(flash, bank, &found, engine)
+    let log = JobLog::load(nv, bank)?;
+    let verdict = judge_with(flash, bank, &found, engine)?;
+    Ok(tell_job(verdict, log.job()))
 }

@@ -1,4 +1,10 @@
 // The watches over the boots of the banks' processors: they tick, stages are passed, and a bank whose watch expires is restored.
+ghost use Rattle.pfr_jobs.specs.Log.{open_job};
+ghost use Rattle.pfr_jobs.specs.declared.job.OpenJob.TheVariants as job;
+ghost use Rattle.pfr_jobs.specs.LogPlans.{IsKind};
+ghost use Rattle.pfr_jobs.specs.declared.job.JobKind.TheVariants.{ActiveFromRecovery};
+ghost use Rattle.pfr_machine.specs.Inside.{IsAtRest};
+ghost use Rattle.pfr_story.specs.Keeping.{IsSettled};
 ghost use Rattle.std.specs.Prelude.{◌≡◌, ◌≢◌, ◌≤◌, [], ◌∷◌, true, false, Ok};
 ghost use Rattle.pfr_flash.specs.FlashState.{now, size_of};
 ghost use Rattle.pfr_flash.specs.Layout.{IsValidLayout};
@@ -59,9 +65,11 @@ impl<F: Flash> Desk<F> {
     ) -> Result<Inner<F>, Halt<F>>
         requires room { 2 ≤ self.world.notes.spare }
         requires on { IsAwake self.bank self.world }
+        requires none { open_job (now self.world.nv) self.bank ≡ job.None }
         requires found { fuses_of (now self.world.nv) ≡ Ok fuses.now }
         requires valid { let layout = layout_of fuses.now.provision self.bank in
             IsValidLayout layout (size_of (state_at (device_of self.bank) self.world)) }
+        requires level { IsKind (ActiveFromRecovery level) }
         ensures { EndsSeated (recovered_with (E.accepts engine.now) self.bank level (Ok fuses.now)) 2 self result }
     {
         match self.judge(Area::Recovery, fuses, engine) {
@@ -103,8 +111,9 @@ impl<F: Flash> Inner<F> {
 
     // Restores a bank whose watch expired, or locks it: at the last level, or where it can't be restored.
     fn expire<E: Engine>(mut self, bank: Bank, engine: &E) -> Result<Inner<F>, Dark<F>>
-        requires room { 7 ≤ self.notes.spare }
-        ensures { Brings (expiry_stretch (E.accepts engine.now) bank) bank 7 self result }
+        requires room { 8 ≤ self.notes.spare }
+        requires rests { IsAtRest bank (now self.nv) }
+        ensures { Brings (expiry_stretch (E.accepts engine.now) bank) bank 8 self result }
     {
         let level = self.note_expiry(bank);
         if level < SPENT {
@@ -116,8 +125,9 @@ impl<F: Flash> Inner<F> {
 
     // The same where the watch expired, and nothing where it didn't.
     fn expire_if<E: Engine>(self, due: bool, bank: Bank, engine: &E) -> Result<Inner<F>, Dark<F>>
-        requires room { 7 ≤ self.notes.spare }
-        ensures { BringsDue due (expiry_stretch (E.accepts engine.now) bank) bank 7 self result }
+        requires room { 8 ≤ self.notes.spare }
+        requires rests { due ≡ true → IsAtRest bank (now self.nv) }
+        ensures { BringsDue due (expiry_stretch (E.accepts engine.now) bank) bank 8 self result }
     {
         if due {
             self.expire(bank, engine)
@@ -128,11 +138,14 @@ impl<F: Flash> Inner<F> {
 
     // The banks whose watches expired, one after the other.
     fn expire_due<E: Engine>(self, bmc: bool, pch: bool, engine: &E) -> Result<Inner<F>, Dark<F>>
-        requires room { 14 ≤ self.notes.spare }
+        requires room { 16 ≤ self.notes.spare }
         requires bmc { bmc ≡ true → AreUp self }
         requires pch { pch ≡ true → AreUp self }
-        ensures { ExpiresDue (E.accepts engine.now) bmc pch 14 self result }
+        requires bmc_rests { bmc ≡ true → IsAtRest Bmc (now self.nv) }
+        requires pch_rests { pch ≡ true → IsAtRest Pch (now self.nv) }
+        ensures { ExpiresDue (E.accepts engine.now) bmc pch 16 self result }
     {
+        self.known();
         self.expire_if(bmc, Bank::Bmc, engine)?
             .expire_if(pch, Bank::Pch, engine)
     }
@@ -152,6 +165,8 @@ impl<F: Flash> Inner<F> {
     pub fn tick<E: Engine>(mut self, n: u16, engine: &E) -> Inner<F>
         requires room { 64 ≤ self.notes.spare }
         requires whole { IsWhole self }
+        requires settled { (which : Bank) → Runs which self → IsSettled (now self.nv) }
+        requires idle { (which : Bank) → Runs which self → open_job (now self.nv) which ≡ job.None }
         ensures follows { Follows (tick_course (E.accepts engine.now) n (story_of self)) (clocked (Tick n) self) result }
         ensures leaves { LeavesWhole 64 self result }
         ensures dark { added self result ≢ [] → standing_of Bmc result.notes.list ≡ Off → IsDark result }
@@ -169,6 +184,7 @@ impl<F: Flash> Inner<F> {
         requires room { 64 ≤ self.notes.spare }
         requires whole { IsWhole self }
         requires runs { Runs bank self }
+        requires rests { IsAtRest bank (now self.nv) }
         ensures steps { Steps (expiry_stretch (E.accepts engine.now) bank ∷ []) self result }
         ensures leaves { LeavesWhole 64 self result }
         ensures dark { standing_of Bmc result.notes.list ≡ Off → IsDark result }
@@ -198,6 +214,7 @@ impl<F: Flash> Inner<F> {
         requires room { 64 ≤ self.notes.spare }
         requires whole { IsWhole self }
         requires runs { Runs bank self }
+        requires rests { IsAtRest bank (now self.nv) }
         ensures follows { Follows (boot_course (E.accepts engine.now) bank pass (story_of self)) self result }
         ensures leaves { LeavesWhole 64 self result }
         ensures dark { standing_of Bmc result.notes.list ≡ Off → IsDark result }

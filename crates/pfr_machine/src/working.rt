@@ -1,4 +1,5 @@
 // Work on a bank: it is held for it, and released or locked by it.
+ghost use Rattle.pfr_fuses.specs.declared.profile.Profile.TheVariants.{Two};
 ghost use Rattle.std.specs.Prelude.{◌≡◌, ◌≤◌, Ok, IfOk, IfErr};
 ghost use Rattle.pfr_flash.specs.FlashState.{now, size_of};
 ghost use Rattle.pfr_flash.specs.Layout.{IsBankSize, IsValidLayout};
@@ -14,7 +15,8 @@ ghost use Rattle.pfr_story.specs.Turn.{fault_of};
 ghost use Rattle.pfr_story.specs.World.{IsDark, state_at};
 ghost use Rattle.pfr_machine.specs.Worlds.{IsAwake};
 ghost use Rattle.pfr_machine.specs.Ready.{Brings, Ended, EndsSeated};
-ghost use Rattle.pfr_machine.specs.Working.{by_fuses, by_work, work_stretch};
+ghost use Rattle.pfr_machine.specs.Inside.{IsMigrated};
+ghost use Rattle.pfr_machine.specs.Working.{IsFreeFor, by_fuses, by_work, work_stretch};
 
 use crate::desk::{Desk, Halt};
 use crate::inner::Inner;
@@ -22,6 +24,7 @@ use pfr_chain::Engine;
 use pfr_flash::{Bank, Device, Flash, FlashFail};
 use pfr_fuses::{FuseFail, Fuses};
 use pfr_report::LockWhy;
+use pfr_script::Intent;
 
 /// What a bank is held for.
 #[derive(Clone, Copy, Debug, PartialEq, Eq)]
@@ -30,8 +33,8 @@ pub enum Work {
     BringUp,
     /// Its active image is restored, at this level of recovery.
     Recover { level: u8 },
-    /// Its active image is updated: with all of its regions where `dynamic`, else with the static ones.
-    Update { dynamic: bool },
+    /// It is updated: its active image or its recovery area, or a key is cancelled.
+    Update { intent: Intent },
 }
 
 /// A platform that lost its power in a call of a device.
@@ -96,18 +99,20 @@ fn ready(bank: Bank, size: u32, found: Result<Fuses, FuseFail>) -> Result<Fuses,
 
 impl<F: Flash> Desk<F> {
     // Does the work, by these fuses.
-    fn carry_on<E: Engine>(self, work: Work, fuses: &Fuses, engine: &E) -> Result<Inner<F>, Halt<F>>
-        requires room { 4 ≤ self.world.notes.spare }
+    fn carry_on<E: Engine>(self, work: Work, fuses: Fuses, engine: &E) -> Result<Inner<F>, Halt<F>>
+        requires room { 5 ≤ self.world.notes.spare }
         requires on { IsAwake self.bank self.world }
-        requires found { fuses_of (now self.world.nv) ≡ Ok fuses.now }
-        requires valid { let layout = layout_of fuses.now.provision self.bank in
+        requires free { IsFreeFor work self.bank (now self.world.nv) }
+        requires found { fuses_of (now self.world.nv) ≡ Ok fuses }
+        requires two { fuses.profile ≡ Two }
+        requires valid { let layout = layout_of fuses.provision self.bank in
             IsValidLayout layout (size_of (state_at (device_of self.bank) self.world)) }
-        ensures { EndsSeated (by_work (E.accepts engine.now) self.bank work (Ok fuses.now)) 4 self result }
+        ensures { EndsSeated (by_work (E.accepts engine.now) self.bank work (Ok fuses)) 5 self result }
     {
         match work {
-            Work::BringUp => self.tail(fuses, engine),
-            Work::Recover { level } => self.recover_at(level, fuses, engine),
-            Work::Update { dynamic } => self.update_from_staging(dynamic, fuses, engine),
+            Work::BringUp => self.bring_up(fuses, engine),
+            Work::Recover { level } => self.recover_at(level, &fuses, engine),
+            Work::Update { intent } => self.update_as(intent, fuses, engine),
         }
     }
 
@@ -118,22 +123,26 @@ impl<F: Flash> Desk<F> {
         found: Result<Fuses, FuseFail>,
         engine: &E,
     ) -> Result<Inner<F>, Halt<F>>
-        requires room { 4 ≤ self.world.notes.spare }
+        requires room { 5 ≤ self.world.notes.spare }
         requires on { IsAwake self.bank self.world }
+        requires free { IsFreeFor work self.bank (now self.world.nv) }
+        requires settled { IsMigrated (now self.world.nv) }
         requires found { found ≡ fuses_of (now self.world.nv) }
-        ensures { EndsSeated (by_fuses (E.accepts engine.now) work self.bank) 4 self result }
+        ensures { EndsSeated (by_fuses (E.accepts engine.now) work self.bank) 5 self result }
     {
         match ready(self.bank, self.held.size(), found) {
-            Ok(fuses) => self.carry_on(work, &fuses, engine),
+            Ok(fuses) => self.carry_on(work, fuses, engine),
             Err(why) => Ok(self.lock(why)),
         }
     }
 
     // Reads the fuses, and goes on by them.
     fn work<E: Engine>(mut self, work: Work, engine: &E) -> Result<Inner<F>, Halt<F>>
-        requires room { 4 ≤ self.world.notes.spare }
+        requires room { 5 ≤ self.world.notes.spare }
         requires on { IsAwake self.bank self.world }
-        ensures { EndsSeated (then asks_store (by_fuses (E.accepts engine.now) work self.bank)) 4 self result }
+        requires free { IsFreeFor work self.bank (now self.world.nv) }
+        requires settled { IsMigrated (now self.world.nv) }
+        ensures { EndsSeated (then asks_store (by_fuses (E.accepts engine.now) work self.bank)) 5 self result }
     {
         match self.load() {
             Ok(found) => self.proceed(work, found, engine),
@@ -161,8 +170,10 @@ impl<F: Flash> Halt<F> {
 impl<F: Flash> Inner<F> {
     /// Holds the bank for this work. It ends released or locked.
     pub fn work<E: Engine>(self, bank: Bank, work: Work, engine: &E) -> Result<Inner<F>, Dark<F>>
-        requires room { 6 ≤ self.notes.spare }
-        ensures { Brings (work_stretch (E.accepts engine.now) bank work) bank 6 self result }
+        requires room { 7 ≤ self.notes.spare }
+        requires free { IsFreeFor work bank (now self.nv) }
+        requires settled { IsMigrated (now self.nv) }
+        ensures { Brings (work_stretch (E.accepts engine.now) bank work) bank 7 self result }
     {
         match self.hold(bank).work(work, engine) {
             Ok(inner) => Ok(inner),

@@ -24,7 +24,7 @@ use Rattle.pfr_script.specs.declared.arm.ArmWhat.TheVariants.{Cut, Fault, ReadFa
 use Rattle.pfr_script.specs.declared.event.Event.{Event}
 use Rattle.pfr_script.specs.declared.event.Event.TheVariants.{Power, Off, Tick, Boot, Spi, Smbus, Update, Provision}
 use Rattle.pfr_script.specs.declared.event.Intent.{Intent}
-use Rattle.pfr_script.specs.declared.event.Intent.TheVariants.{Active, Full}
+use Rattle.pfr_script.specs.declared.event.Intent.TheVariants.{Active, Full, Recovery, Cert}
 use Rattle.pfr_script.specs.declared.line.Line.{Line}
 use Rattle.pfr_script.specs.declared.line.Line.TheVariants.{Happens, Arms}
 use Rattle.pfr_script.specs.declared.script_why.ScriptWhy.{ScriptWhy}
@@ -82,14 +82,20 @@ pass_some false = refl
 intent_is : (word : List ℕ) (intent : Intent) → known causes.Word (intent_of word) ≡ Ok intent → word ≡ intent_word intent
 intent_is word Active h = grind (arith, bytes_eq-Decides)
 intent_is word Full h = grind (arith, bytes_eq-Decides)
+intent_is word Recovery h = grind (arith, bytes_eq-Decides)
+intent_is word Cert h = grind (arith, bytes_eq-Decides)
 
 intent_said : (intent : Intent) → intent_of (intent_word intent) ≡ Some intent
 intent_said Active = refl
 intent_said Full = refl
+intent_said Recovery = refl
+intent_said Cert = refl
 
 intent_some : (intent : Intent) → is_word (intent_word intent) ≡ true
 intent_some Active = refl
 intent_some Full = refl
+intent_some Recovery = refl
+intent_some Cert = refl
 
 -- numbers
 

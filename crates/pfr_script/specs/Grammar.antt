@@ -9,7 +9,7 @@ use Rattle.pfr_fuses.specs.RootSlot.{slot_of}
 use Rattle.pfr_script.specs.declared.arm.ArmWhat.TheVariants.{Cut, Fault, ReadFault}
 use Rattle.pfr_script.specs.declared.event.Event.TheVariants.{Power, Off, Tick, Boot, Spi, Smbus, Update, Provision}
 use Rattle.pfr_script.specs.declared.event.Intent.{Intent}
-use Rattle.pfr_script.specs.declared.event.Intent.TheVariants.{Active, Full}
+use Rattle.pfr_script.specs.declared.event.Intent.TheVariants.{Active, Full, Recovery, Cert}
 use Rattle.pfr_script.specs.declared.line.Line.{Line}
 use Rattle.pfr_script.specs.declared.line.Line.TheVariants.{Happens, Arms}
 
@@ -29,6 +29,8 @@ pass_word false = codes "fail"
 abbrev pub intent_word : Intent → List ℕ
 intent_word Active = codes "active"
 intent_word Full = codes "full"
+intent_word Recovery = codes "recovery"
+intent_word Cert = codes "cert"
 
 -- hex digits of either case that spell a frame's bytes, 1 to so many
 pub record SaysFrame (word bytes : List ℕ) (most : ℕ) : Type 0 where

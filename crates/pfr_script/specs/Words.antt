@@ -9,7 +9,7 @@ use Rattle.pfr_flash.specs.declared.names.Bank.TheVariants as banks
 use Rattle.pfr_flash.specs.declared.names.Device.{Device}
 use Rattle.pfr_flash.specs.declared.names.Device.TheVariants.{Bmc, Pch, Nv}
 use Rattle.pfr_script.specs.declared.event.Intent.{Intent}
-use Rattle.pfr_script.specs.declared.event.Intent.TheVariants.{Active, Full}
+use Rattle.pfr_script.specs.declared.event.Intent.TheVariants.{Active, Full, Recovery, Cert}
 use Rattle.pfr_script.specs.declared.script_why.ScriptWhy.{ScriptWhy}
 use Rattle.pfr_script.specs.declared.script_why.ScriptWhy.TheVariants as causes
 
@@ -79,6 +79,8 @@ abbrev pub intent_of : List ℕ → Option Intent
 intent_of word =
     if bytes_eq word (codes "active") then Some Active
     else if bytes_eq word (codes "full") then Some Full
+    else if bytes_eq word (codes "recovery") then Some Recovery
+    else if bytes_eq word (codes "cert") then Some Cert
     else None
 
 -- the device of a name

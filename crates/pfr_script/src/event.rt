@@ -11,6 +11,10 @@ pub enum Intent {
     Active,
     /// The whole active image.
     Full,
+    /// The recovery area.
+    Recovery,
+    /// Nothing: a key is cancelled, by a certificate.
+    Cert,
 }
 
 /// What happens to a platform.

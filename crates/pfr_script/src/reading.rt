@@ -94,11 +94,12 @@ fn read_lines(alloc: Global, text: &[u8]) -> Result<Script, ScriptFail>
 ///
 /// A line is `power`, `off`, `tick <n>`, `boot <bank> pass`, `boot <bank> fail`,
 /// `spi <bank> <hex>` with 1 to 261 bytes, `smbus <bank> <hex>` with 1 to 35,
-/// `update <bank> active`, `update <bank> full`, `provision <hex>` with a slot's 72 bytes before its
-/// gate, `cut <device> <n> <tear>`, `fault <device> <n> <tear>` or `readfault <device> <n>`, with
-/// single spaces between its words. A bank is `bmc` or `pch`, and a device is a bank or `nv`. `n` is
-/// decimal without leading zeros, from 1 to 65,535 for ticks and to 4,294,967,295 elsewhere. A tear
-/// is `-` or hex of at most 4,096 bytes. Hex has digits of either case.
+/// `update <bank> active`, `update <bank> full`, `update <bank> recovery`, `update <bank> cert`,
+/// `provision <hex>` with a slot's 72 bytes before its gate, `cut <device> <n> <tear>`,
+/// `fault <device> <n> <tear>` or `readfault <device> <n>`, with single spaces between its words. A
+/// bank is `bmc` or `pch`, and a device is a bank or `nv`. `n` is decimal without leading zeros, from
+/// 1 to 65,535 for ticks and to 4,294,967,295 elsewhere. A tear is `-` or hex of at most 4,096 bytes.
+/// Hex has digits of either case.
 ///
 /// # Errors
 ///

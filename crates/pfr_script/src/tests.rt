@@ -35,7 +35,13 @@ fn items(rt: HostRuntime) -> Result<(), Fail> {
         count(alloc, b"tick 1\ntick 65535\nboot bmc pass\nboot pch fail"),
         Ok(4)
     );
-    assert_eq!(rt; count(alloc, b"update bmc active\nupdate pch full"), Ok(2));
+    assert_eq!(rt;
+        count(
+            alloc,
+            b"update bmc active\nupdate pch full\nupdate bmc recovery\nupdate pch cert"
+        ),
+        Ok(4)
+    );
     Ok(())
 }
 
@@ -73,11 +79,15 @@ fn causes_of_ticks_boots_and_updates(rt: HostRuntime) -> Result<(), Fail> {
     assert_eq!(rt; count(alloc, b"boot bmc ok"), refused(1, ScriptWhy::Word));
     assert_eq!(rt; count(alloc, b"boot bmc"), refused(1, ScriptWhy::Word));
     assert_eq!(rt;
-        count(alloc, b"update bmc recovery"),
+        count(alloc, b"update bmc staging"),
         refused(1, ScriptWhy::Word)
     );
     assert_eq!(rt;
-        count(alloc, b"update bmc cert"),
+        count(alloc, b"update bmc certificate"),
+        refused(1, ScriptWhy::Word)
+    );
+    assert_eq!(rt;
+        count(alloc, b"update nv recovery"),
         refused(1, ScriptWhy::Word)
     );
     Ok(())

@@ -139,6 +139,10 @@ pub fn intent_of(word: &[u8]) -> Option<Intent>
         Some(Intent::Active)
     } else if word == b"full".as_slice() {
         Some(Intent::Full)
+    } else if word == b"recovery".as_slice() {
+        Some(Intent::Recovery)
+    } else if word == b"cert".as_slice() {
+        Some(Intent::Cert)
     } else {
         None
     }

@@ -1,18 +1,24 @@
 -- A power-on brings each bank up of which no call failed.
-use Rattle.std.proofs.Common.{◌≡◌, ◌∙◌, refl, sym, ap, subst, ℕ, ◌*◌, ◌/◌, List, [], ◌∷◌, ◌++◌, length, Some, ◌⊎◌, inl, inr}
+use Rattle.std.proofs.Common.{◌≡◌, ◌∙◌, refl, sym, ap, subst, ℕ, ◌+◌, ◌*◌, ◌/◌, ◌≤◌, List, [], ◌∷◌, ◌++◌, length, Some, ◌⊎◌, inl, inr, Result, Ok}
+use Rattle.std.proofs.lemmas.List.{append-nil}
 use Rattle.pfr_flash.specs.Bytes.{AreBytes}
 use Rattle.pfr_flash.specs.FlashState.{size_of}
-use Rattle.pfr_flash.specs.Layout.{IsBankSize}
+use Rattle.pfr_flash.specs.Layout.{IsBankSize, IsValidLayout}
 use Rattle.pfr_flash.specs.declared.flash.FlashFail.TheVariants.{Fault, Lost as Loses}
 use Rattle.pfr_flash.specs.declared.names.Bank.{Bank}
 use Rattle.pfr_flash.specs.declared.names.Bank.TheVariants as bank
 use Rattle.pfr_flash.specs.declared.names.Counts.{Counts}
 use Rattle.pfr_flash.specs.declared.names.Device.{Device}
 use Rattle.pfr_flash.specs.declared.names.Device.TheVariants as device
+use Rattle.pfr_flash.proofs.PlayLemmas.{length-play}
 use Rattle.pfr_engine.specs.Acceptance.{Acceptance}
+use Rattle.pfr_fuses.specs.FusesState.{FusesState}
 use Rattle.pfr_fuses.specs.FusesOf.{fuses_of}
+use Rattle.pfr_fuses.specs.RootSlot.{layout_of}
 use Rattle.pfr_auth.specs.Trusted.{IsTrusted}
-use Rattle.pfr_recoverable.specs.Recoverable.{HasGoodRecovery}
+use Rattle.pfr_jobs.specs.declared.job.JobKind.TheVariants.{ActiveFromRecovery}
+use Rattle.pfr_recoverable.specs.Recoverable.{IsRecoverable}
+use Rattle.pfr_recoverable.proofs.StaysLaw.{fuses_one}
 use Rattle.pfr_script.specs.declared.event.Event.{Event}
 use Rattle.pfr_script.specs.declared.event.Event.TheVariants as event
 use Rattle.pfr_report.specs.Texts.{IsNoted}
@@ -21,23 +27,35 @@ use Rattle.pfr_report.specs.declared.note.LockWhy.TheVariants as why
 use Rattle.pfr_report.specs.declared.note.Note.{Note}
 use Rattle.pfr_report.specs.declared.note.What.{What}
 use Rattle.pfr_report.specs.declared.note.What.TheVariants as what
-use Rattle.pfr_story.specs.Story.{Story, Says, after, noted, counts_of, device_of}
+use Rattle.pfr_story.specs.Story.{Story, Move, Says, after, noted, counts_of, device_of}
 use Rattle.pfr_story.specs.World.{World, story_of, counts_in, state_at, AllMoved, added}
 use Rattle.pfr_story.specs.Course.{Crosses, Faults, LosesPower, Steps, lost}
-use Rattle.pfr_story.specs.Plans.{mine, store, brought_up, migrated, migration_in}
+use Rattle.pfr_story.specs.Plans.{mine, store, ready_of, by_ready, checked_then, brought_up, migrated, migration_in}
 use Rattle.pfr_story.specs.Turn.{fault_of, bank_stretch, unreadable, fuse_stretch, begun, Turn}
-use Rattle.pfr_story.specs.Causes.{IsAgainst, IsDue, IsRestorable}
-use Rattle.pfr_story.specs.Promises.{AtCounts, IsFaultLock, ReleasesTrusted, LocksHaveCauses}
+use Rattle.pfr_story.specs.Causes.{IsAgainst, IsDue, IsRestorable, HasOpenJob}
+use Rattle.pfr_story.specs.Promises.{count_at, AtCounts, NotBefore, IsFaultLock, ReleasesTrusted, LocksHaveCauses}
 use Rattle.pfr_story.specs.Bringing.{IsOver, IsCalm, IsNotedBehind, ReleasedSoon, BringsUp, BringsUpCalm, PowerReleases}
 use Rattle.pfr_story.proofs.WorldLaws.{AllMoved-trans}
 use Rattle.pfr_story.proofs.SafetyLaws.{image_noted, AllMake-called}
 use Rattle.pfr_story.proofs.Courses.{Steps-moved}
-use Rattle.pfr_story.proofs.Made.{said, notes_after, Steps-made, Whichever, Wrote, Anything, wrote_then, wrote_by, wrote_cut, wrote_moves, never_noted, noted_left, behind_within, behind_next, added_is, in_added, only_between}
-use Rattle.pfr_story.proofs.Traces.{Precedes, precedes_moved}
+use Rattle.pfr_story.proofs.Made.{said, notes_after, Steps-made, Whichever, Wrote, Anything, wrote_then, wrote_by, wrote_cut, wrote_moves, never_noted, noted_left, behind_within, added_is, in_added, only_between}
+use Rattle.pfr_story.proofs.Sequence.{after-append}
+use Rattle.pfr_story.proofs.Traces.{noted_append, noted_right, Precedes, Precedes-refl, Precedes-after, Precedes-trans, not_before, precedes_moved}
 use Rattle.pfr_story.proofs.Bytes.{HaveBytes, images_then, mine_sized, bank_sized}
 use Rattle.pfr_story.proofs.NoteLaws.{at_moment, Turn-releases, Turn-locks}
-use Rattle.pfr_story.proofs.TailLaws.{IsOf, Apart, NoneOf, brought_apart, behind, ReleasesSoon, tail_trusted, tail_due, tail_named, tail_restored, tail_releases}
+use Rattle.pfr_story.proofs.TailLaws.{IsOf, Apart, NoneOf, brought_apart, behind, tail_trusted, tail_due, tail_named, tail_restored}
 use Rattle.pfr_story.proofs.OwnLaws.{Cause, tail_caused}
+use Rattle.pfr_story.proofs.TakenLaws.{IsOfJob, CanTake, taken, checked_at, can_work, ready_parts, said_parts, checked_closed, checked_same, taken_of, taken_restored}
+use Rattle.pfr_story.proofs.TwoLaws.{IsTwo, brought_two, stopped_two}
+use Rattle.pfr_story.proofs.BringRules.{ready_is}
+use Rattle.pfr_story.proofs.JobPower.{PowerEnds}
+use Rattle.pfr_story.proofs.JobReleases.{bring_releases}
+use Rattle.pfr_story.proofs.JobWalks.{store_sized}
+use Rattle.pfr_story.proofs.SpanSteps.{not_one_then}
+
+bank_forth : (which : Bank) (first second : Counts) → NotBefore first second → count_at which first ≤ count_at which second
+bank_forth bank.Bmc first second p = p.bmc
+bank_forth bank.Pch first second p = p.pch
 
 -- ---- notes that can't be there where it is calm
 fault_noted : (which : Bank) (d : Device) (notes : List Note) (at : Counts) → IsCalm which notes → ¬ IsNoted notes (what.Locked which (fault_of d) at)
@@ -49,7 +67,7 @@ not_over : (which : Bank) (notes : List Note) → ((at : Counts) → ¬ IsNoted 
 not_over bank.Bmc notes none over = none over.0 over.1
 not_over bank.Pch notes none over = over
 
-migrated_apart : (which : Bank) (story : Story) → NoneOf which (migrated story)
+pub migrated_apart : (which : Bank) (story : Story) → NoneOf which (migrated story)
 migrated_apart which story = (tt, AllMake-called Whichever (λ w. (at : Counts) → Apart which (w at)) device.Nv (migration_in (fuses_of (store story))) tt)
 
 module _ (accepts : Acceptance) (first new : World) where
@@ -62,26 +80,43 @@ module _ (accepts : Acceptance) (first new : World) where
     pub behind : Wrote (Apart which) end new
     pub come : AllMoved first at
     pub moved : AllMoved at new
+    pub ended : AllMoved end new
+    pub two : IsTwo (story_of at)
+
+  -- what holds where the banks' parts begin: nothing is noted of them yet, and a store that can be read is of profile 2
+  pub record Front (w : World) : Type 0 where
+    pub apart : (b : Bank) → Wrote (Apart b) first w
+    pub come : AllMoved first w
+    pub two : IsTwo (story_of w)
 
   -- ---- what a bank's part notes of the other
   module _ (b which : Bank) (apart : ¬ (b ≡ which)) where
-    crossed_writes : (old mid : World) → Crosses (bank_stretch accepts b) old mid → Wrote (Apart which) old mid
-    crossed_writes old mid c = wrote_by (Apart which) (brought_up accepts b (story_of old)) old mid c.is (brought_apart accepts which b apart (story_of old))
+    pub crossed_writes : (old mid : World) → IsTwo (story_of old) → Crosses (bank_stretch accepts b) old mid → Wrote (Apart which) old mid
+    crossed_writes old mid two c = wrote_by (Apart which) (brought_up accepts b (story_of old)) old mid c.is (brought_apart accepts which b apart (story_of old) two.size)
 
-    faulted_writes : (old mid : World) → Faults (bank_stretch accepts b) old mid → Wrote (Apart which) old mid
-    faulted_writes old mid f =
-        wrote_then (Apart which) old f.at mid (wrote_cut (Apart which) (brought_up accepts b (story_of old)) f.which Fault old f.at f.stopped (brought_apart accepts which b apart (story_of old)))
+    pub faulted_writes : (old mid : World) → IsTwo (story_of old) → Faults (bank_stretch accepts b) old mid → Wrote (Apart which) old mid
+    faulted_writes old mid two f =
+        wrote_then (Apart which) old f.at mid (wrote_cut (Apart which) (brought_up accepts b (story_of old)) f.which Fault old f.at f.stopped (brought_apart accepts which b apart (story_of old) two.size))
         (wrote_by (Apart which) (Says (what.Locked b (fault_of f.which)) ∷ []) f.at mid f.noted.is ((λ at e. apart e), tt))
 
-    lost_writes : (old mid : World) → LosesPower (bank_stretch accepts b) old mid → Wrote (Apart which) old mid
-    lost_writes old mid l =
-        wrote_then (Apart which) old l.at mid (wrote_cut (Apart which) (brought_up accepts b (story_of old)) l.which Loses old l.at l.stopped (brought_apart accepts which b apart (story_of old)))
+    pub lost_writes : (old mid : World) → IsTwo (story_of old) → LosesPower (bank_stretch accepts b) old mid → Wrote (Apart which) old mid
+    lost_writes old mid two l =
+        wrote_then (Apart which) old l.at mid (wrote_cut (Apart which) (brought_up accepts b (story_of old)) l.which Loses old l.at l.stopped (brought_apart accepts which b apart (story_of old) two.size))
         (wrote_by (Apart which) (lost l.which) l.at mid l.noted.is ((λ at h. h), tt))
 
-    last_writes : (old : World) → Steps (bank_stretch accepts b ∷ []) old new → Wrote (Apart which) old new
-    last_writes old (inl (mid, c, ends)) = wrote_then (Apart which) old mid new (crossed_writes old mid c) (wrote_by (Apart which) [] mid new ends.is tt)
-    last_writes old (inr (inl (mid, f, ends))) = wrote_then (Apart which) old mid new (faulted_writes old mid f) (wrote_by (Apart which) [] mid new ends.is tt)
-    last_writes old (inr (inr l)) = lost_writes old new l
+    pub last_writes : (old : World) → IsTwo (story_of old) → Steps (bank_stretch accepts b ∷ []) old new → Wrote (Apart which) old new
+    last_writes old two (inl (mid, c, ends)) = wrote_then (Apart which) old mid new (crossed_writes old mid two c) (wrote_by (Apart which) [] mid new ends.is tt)
+    last_writes old two (inr (inl (mid, f, ends))) = wrote_then (Apart which) old mid new (faulted_writes old mid two f) (wrote_by (Apart which) [] mid new ends.is tt)
+    last_writes old two (inr (inr l)) = lost_writes old new two l
+
+  -- ---- a store of profile 2 stays so in a bank's part
+  pub crossed_two : (b : Bank) (old mid : World) → IsTwo (story_of old) → Crosses (bank_stretch accepts b) old mid → IsTwo (story_of mid)
+  crossed_two b old mid two c = subst IsTwo (sym c.is) (brought_two accepts b (story_of old) two)
+
+  pub faulted_two : (b : Bank) (old mid : World) → IsTwo (story_of old) → Faults (bank_stretch accepts b) old mid → IsTwo (story_of mid)
+  faulted_two b old mid two f =
+      let there : IsTwo (story_of f.at) = stopped_two accepts b f.which Fault old f.at f.stopped two in
+      subst IsTwo (sym f.noted.is) (record { size = there.size; two = there.two })
 
   -- ---- where a call failed it isn't calm
   faulted : (which : Bank) (old mid : World) → Wrote Anything first old → (f : Faults (bank_stretch accepts which) old mid) → Wrote Anything mid new → ¬ IsCalm which (added first new)
@@ -115,27 +150,30 @@ module _ (accepts : Acceptance) (first new : World) where
       locked bank.Pch = inr (inr (inr (inl refl)))
 
   -- ---- the banks' parts
-  bmc_crossed : (w : World) → ((b : Bank) → Wrote (Apart b) first w) → AllMoved first w → Steps (bank_stretch accepts bank.Bmc ∷ bank_stretch accepts bank.Pch ∷ []) w new
-      → IsCalm bank.Bmc (added first new) → Crossed bank.Bmc
-  bmc_crossed w front come (inl (end, c, rest)) calm = record {
-    at = w;
-    end = end;
-    crosses = c;
-    before = front bank.Bmc;
-    behind = last_writes bank.Pch bank.Bmc (λ e. cc) end rest;
-    come = come;
-    moved = AllMoved-trans w end new c.moved (Steps-moved (bank_stretch accepts bank.Pch ∷ []) end new rest);
-  }
-  bmc_crossed w front come (inr (inl (end, f, rest))) calm =
+  bmc_crossed : (w : World) → Front w → Steps (bank_stretch accepts bank.Bmc ∷ bank_stretch accepts bank.Pch ∷ []) w new → IsCalm bank.Bmc (added first new) → Crossed bank.Bmc
+  bmc_crossed w front (inl (end, c, rest)) calm =
+      let ended : AllMoved end new = Steps-moved (bank_stretch accepts bank.Pch ∷ []) end new rest in
+      record {
+        at = w;
+        end = end;
+        crosses = c;
+        before = front.apart bank.Bmc;
+        behind = last_writes bank.Pch bank.Bmc (λ e. cc) end (crossed_two bank.Bmc w end front.two c) rest;
+        come = front.come;
+        moved = AllMoved-trans w end new c.moved ended;
+        ended = ended;
+        two = front.two;
+      }
+  bmc_crossed w front (inr (inl (end, f, rest))) calm =
       let made = Steps-made (bank_stretch accepts bank.Pch ∷ []) end new rest in
-      absurd (faulted bank.Bmc w end (any (Apart bank.Bmc) first w (front bank.Bmc)) f (wrote_moves made.trace end new made.is) calm)
-  bmc_crossed w front come (inr (inr l)) calm =
-      let to : Wrote Anything first l.at = wrote_then Anything first w l.at (any (Apart bank.Bmc) first w (front bank.Bmc)) (wrote_moves l.stopped.trace w l.at l.stopped.is) in
-      let whole : Wrote (Apart bank.Pch) first new = wrote_then (Apart bank.Pch) first w new (front bank.Pch) (lost_writes bank.Bmc bank.Pch (λ e. cc) w new l) in
+      absurd (faulted bank.Bmc w end (any (Apart bank.Bmc) first w (front.apart bank.Bmc)) f (wrote_moves made.trace end new made.is) calm)
+  bmc_crossed w front (inr (inr l)) calm =
+      let to : Wrote Anything first l.at = wrote_then Anything first w l.at (any (Apart bank.Bmc) first w (front.apart bank.Bmc)) (wrote_moves l.stopped.trace w l.at l.stopped.is) in
+      let whole : Wrote (Apart bank.Pch) first new = wrote_then (Apart bank.Pch) first w new (front.apart bank.Pch) (lost_writes bank.Bmc bank.Pch (λ e. cc) w new front.two l) in
       absurd (not_over bank.Bmc (added first new) (none_held whole) (calm.on (Some l.which) (counts_in l.at) (loss_noted l.which l.at to l.noted.is)))
 
-  pch_last : (w : World) → Wrote (Apart bank.Pch) first w → AllMoved first w → Steps (bank_stretch accepts bank.Pch ∷ []) w new → IsCalm bank.Pch (added first new) → Crossed bank.Pch
-  pch_last w front come (inl (end, c, ends)) calm = record {
+  pch_last : (w : World) → Wrote (Apart bank.Pch) first w → AllMoved first w → IsTwo (story_of w) → Steps (bank_stretch accepts bank.Pch ∷ []) w new → IsCalm bank.Pch (added first new) → Crossed bank.Pch
+  pch_last w front come two (inl (end, c, ends)) calm = record {
     at = w;
     end = end;
     crosses = c;
@@ -143,88 +181,171 @@ module _ (accepts : Acceptance) (first new : World) where
     behind = wrote_by (Apart bank.Pch) [] end new ends.is tt;
     come = come;
     moved = AllMoved-trans w end new c.moved ends.moved;
+    ended = ends.moved;
+    two = two;
   }
-  pch_last w front come (inr (inl (end, f, ends))) calm = absurd (faulted bank.Pch w end (any (Apart bank.Pch) first w front) f (wrote_moves [] end new ends.is) calm)
-  pch_last w front come (inr (inr l)) calm =
+  pch_last w front come two (inr (inl (end, f, ends))) calm = absurd (faulted bank.Pch w end (any (Apart bank.Pch) first w front) f (wrote_moves [] end new ends.is) calm)
+  pch_last w front come two (inr (inr l)) calm =
       let to : Wrote Anything first l.at = wrote_then Anything first w l.at (any (Apart bank.Pch) first w front) (wrote_moves l.stopped.trace w l.at l.stopped.is) in
       absurd (calm.on (Some l.which) (counts_in l.at) (loss_noted l.which l.at to l.noted.is))
 
-  pch_crossed : (w : World) → ((b : Bank) → Wrote (Apart b) first w) → AllMoved first w → Steps (bank_stretch accepts bank.Bmc ∷ bank_stretch accepts bank.Pch ∷ []) w new
-      → IsCalm bank.Pch (added first new) → Crossed bank.Pch
-  pch_crossed w front come (inl (mid, c, rest)) calm =
-      pch_last mid (wrote_then (Apart bank.Pch) first w mid (front bank.Pch) (crossed_writes bank.Bmc bank.Pch (λ e. cc) w mid c)) (AllMoved-trans first w mid come c.moved) rest calm
-  pch_crossed w front come (inr (inl (mid, f, rest))) calm =
-      pch_last mid (wrote_then (Apart bank.Pch) first w mid (front bank.Pch) (faulted_writes bank.Bmc bank.Pch (λ e. cc) w mid f))
-      (AllMoved-trans first w mid come (AllMoved-trans w f.at mid f.stopped.moved f.noted.moved)) rest calm
-  pch_crossed w front come (inr (inr l)) calm =
-      let to : Wrote Anything first l.at = wrote_then Anything first w l.at (any (Apart bank.Bmc) first w (front bank.Bmc)) (wrote_moves l.stopped.trace w l.at l.stopped.is) in
+  pch_crossed : (w : World) → Front w → Steps (bank_stretch accepts bank.Bmc ∷ bank_stretch accepts bank.Pch ∷ []) w new → IsCalm bank.Pch (added first new) → Crossed bank.Pch
+  pch_crossed w front (inl (mid, c, rest)) calm =
+      pch_last mid (wrote_then (Apart bank.Pch) first w mid (front.apart bank.Pch) (crossed_writes bank.Bmc bank.Pch (λ e. cc) w mid front.two c)) (AllMoved-trans first w mid front.come c.moved)
+      (crossed_two bank.Bmc w mid front.two c) rest calm
+  pch_crossed w front (inr (inl (mid, f, rest))) calm =
+      pch_last mid (wrote_then (Apart bank.Pch) first w mid (front.apart bank.Pch) (faulted_writes bank.Bmc bank.Pch (λ e. cc) w mid front.two f))
+      (AllMoved-trans first w mid front.come (AllMoved-trans w f.at mid f.stopped.moved f.noted.moved)) (faulted_two bank.Bmc w mid front.two f) rest calm
+  pch_crossed w front (inr (inr l)) calm =
+      let to : Wrote Anything first l.at = wrote_then Anything first w l.at (any (Apart bank.Bmc) first w (front.apart bank.Bmc)) (wrote_moves l.stopped.trace w l.at l.stopped.is) in
       absurd (calm.on (Some l.which) (counts_in l.at) (loss_noted l.which l.at to l.noted.is))
 
-  bank_crossed : (which : Bank) (w : World) → ((b : Bank) → Wrote (Apart b) first w) → AllMoved first w → Steps (bank_stretch accepts bank.Bmc ∷ bank_stretch accepts bank.Pch ∷ []) w new
-      → IsCalm which (added first new) → Crossed which
-  bank_crossed bank.Bmc w front come rest calm = bmc_crossed w front come rest calm
-  bank_crossed bank.Pch w front come rest calm = pch_crossed w front come rest calm
+  bank_crossed : (which : Bank) (w : World) → Front w → Steps (bank_stretch accepts bank.Bmc ∷ bank_stretch accepts bank.Pch ∷ []) w new → IsCalm which (added first new) → Crossed which
+  bank_crossed bank.Bmc w front rest calm = bmc_crossed w front rest calm
+  bank_crossed bank.Pch w front rest calm = pch_crossed w front rest calm
 
   -- ---- a calm bank's part was crossed
-  fuses_crossed : (which : Bank) (w : World) → ((b : Bank) → Wrote (Apart b) first w) → AllMoved first w
-      → Steps (fuse_stretch ∷ bank_stretch accepts bank.Bmc ∷ bank_stretch accepts bank.Pch ∷ []) w new → IsCalm which (added first new) → Crossed which
-  fuses_crossed which w front come (inl (mid, c, rest)) calm =
-      bank_crossed which mid (λ b. wrote_then (Apart b) first w mid (front b) (wrote_by (Apart b) (migrated (story_of w)) w mid c.is (migrated_apart b (story_of w))))
-      (AllMoved-trans first w mid come c.moved) rest calm
-  fuses_crossed which w front come (inr (inl (mid, f, ends))) calm =
-      let to : Wrote Anything first f.at = wrote_then Anything first w f.at (any (Apart which) first w (front which)) (wrote_moves f.stopped.trace w f.at f.stopped.is) in
-      absurd (unread which f.at mid to f.noted.is (wrote_moves [] mid new ends.is) calm)
-  fuses_crossed which w front come (inr (inr l)) calm =
-      let to : Wrote (Apart bank.Pch) first l.at = wrote_then (Apart bank.Pch) first w l.at (front bank.Pch)
-      (wrote_cut (Apart bank.Pch) (migrated (story_of w)) l.which Loses w l.at l.stopped (migrated_apart bank.Pch (story_of w))) in
-      let whole : Wrote (Apart bank.Pch) first new = wrote_then (Apart bank.Pch) first l.at new to (wrote_by (Apart bank.Pch) (lost l.which) l.at new l.noted.is ((λ at h. h), tt)) in
-      absurd (not_over which (added first new) (none_held whole) (calm.on (Some l.which) (counts_in l.at) (loss_noted l.which l.at (any (Apart bank.Pch) first l.at to) l.noted.is)))
+  module _ (size : size_of first.nv ≡ 32768) where
+    pub store_size : (w : World) → AllMoved first w → length w.nv.start ≡ 32768
+    store_size w come = ap (λ (bytes : List ℕ). length bytes) come.nv.start ∙ size
 
-  -- where it was noted to be held
+    -- the migration leads to where they begin
+    pub migrated_two : (w mid : World) → AllMoved first w → Crosses fuse_stretch w mid → IsTwo (story_of mid)
+    migrated_two w mid come c =
+        let moves : List Move = migrated (story_of w) in
+        subst IsTwo (sym c.is) (record {
+          size = store_sized moves (story_of w) ∙ length-play w.nv.start w.nv.ops ∙ store_size w come;
+          two = not_one_then (story_of w) (store_size w come);
+        })
+
+    fuses_crossed : (which : Bank) (w : World) → ((b : Bank) → Wrote (Apart b) first w) → AllMoved first w
+        → Steps (fuse_stretch ∷ bank_stretch accepts bank.Bmc ∷ bank_stretch accepts bank.Pch ∷ []) w new → IsCalm which (added first new) → Crossed which
+    fuses_crossed which w front come (inl (mid, c, rest)) calm =
+        bank_crossed which mid (record {
+          apart = λ b. wrote_then (Apart b) first w mid (front b) (wrote_by (Apart b) (migrated (story_of w)) w mid c.is (migrated_apart b (story_of w)));
+          come = AllMoved-trans first w mid come c.moved;
+          two = migrated_two w mid come c;
+        }) rest calm
+    fuses_crossed which w front come (inr (inl (mid, f, ends))) calm =
+        let to : Wrote Anything first f.at = wrote_then Anything first w f.at (any (Apart which) first w (front which)) (wrote_moves f.stopped.trace w f.at f.stopped.is) in
+        absurd (unread which f.at mid to f.noted.is (wrote_moves [] mid new ends.is) calm)
+    fuses_crossed which w front come (inr (inr l)) calm =
+        let to : Wrote (Apart bank.Pch) first l.at = wrote_then (Apart bank.Pch) first w l.at (front bank.Pch)
+        (wrote_cut (Apart bank.Pch) (migrated (story_of w)) l.which Loses w l.at l.stopped (migrated_apart bank.Pch (story_of w))) in
+        let whole : Wrote (Apart bank.Pch) first new = wrote_then (Apart bank.Pch) first l.at new to (wrote_by (Apart bank.Pch) (lost l.which) l.at new l.noted.is ((λ at h. h), tt)) in
+        absurd (not_over which (added first new) (none_held whole) (calm.on (Some l.which) (counts_in l.at) (loss_noted l.which l.at (any (Apart bank.Pch) first l.at to) l.noted.is)))
+
+  -- where it was noted to be held, and where it was checked
   abbrev held : {which : Bank} → Crossed which → Story
   held {which} c = noted (what.Held which) (story_of c.at)
 
+  abbrev checked : {which : Bank} → Crossed which → Story
+  checked {which} c = checked_at accepts which (held c)
+
+  abbrev from : {which : Bank} → Crossed which → Counts
+  from c = counts_of (checked c)
+
   -- ---- what is noted of it
-  module _ (have : HaveBytes new) (which : Bank) (c : Crossed which) where
+  module _ (have : HaveBytes new) (which : Bank) (c : Crossed which) (bank_size : IsBankSize (size_of (state_at (device_of which) new))) where
     precedes : Precedes (held c) (story_of new)
     precedes = let p = precedes_moved c.at new c.moved in record { bmc = p.bmc; pch = p.pch; nv = p.nv }
 
     bytes : AreBytes (mine which (held c))
     bytes = images_then (held c) new precedes have (device_of which)
 
-    own_is : c.end.notes.list ≡ c.at.notes.list ++ said (brought_up accepts which (story_of c.at)) (story_of c.at)
+    -- its size is that of its device
+    sized : length (mine which (held c)) ≡ size_of (state_at (device_of which) new)
+    sized = ap (λ (xs : List ℕ). length xs) (image_noted (device_of which) (what.Held which) (story_of c.at)) ∙ mine_sized which c.at new c.moved
+
+    pub can : CanTake which (held c)
+    can = record { two = c.two.two; size = subst IsBankSize (sym sized) bank_size; bytes = bytes; store_size = c.two.size }
+
+    -- ---- the moment of the check
+    ends_so : story_of c.end ≡ after (checked_then accepts which (checked c)) (checked c)
+    ends_so =
+        c.crosses.is ∙ ap (λ (moves : List Move). after moves (held c)) (ready_parts accepts which (held c))
+        ∙ after-append (taken accepts which (held c)) (checked_then accepts which (checked c)) (held c)
+
+    then_precedes : Precedes (checked c) (story_of new)
+    then_precedes =
+        Precedes-trans (checked c) (story_of c.end) (story_of new)
+        (subst (λ (there : Story). Precedes (checked c) there) (sym ends_so) (Precedes-after (checked c) (checked c) (checked_then accepts which (checked c)) (Precedes-refl (checked c))))
+        (precedes_moved c.end new c.ended)
+
+    then_bytes : AreBytes (mine which (checked c))
+    then_bytes = images_then (checked c) new then_precedes have (device_of which)
+
+    forth : NotBefore (counts_in c.at) (from c)
+    forth = not_before (held c) (checked c) (Precedes-after (held c) (held c) (taken accepts which (held c)) (Precedes-refl (held c)))
+
+    -- what follows from the contents at a moment is so by its counts
+    pub by_held : (P : List ℕ → List ℕ → Type 0) → P (mine which (held c)) (store (held c)) → AtCounts P which (counts_in c.at) new
+    by_held P h = at_moment P which (held c) (counts_in c.at) new refl precedes h
+
+    by_counts : (P : List ℕ → List ℕ → Type 0) → P (mine which (checked c)) (store (checked c)) → AtCounts P which (from c) new
+    by_counts P h = at_moment P which (checked c) (from c) new refl then_precedes h
+
+    -- ---- its notes
+    abbrev work : List Note
+    work = said (taken accepts which (held c)) (held c)
+
+    abbrev whole : List Note
+    whole = said (brought_up accepts which (story_of c.at)) (story_of c.at)
+
+    abbrev note : Note
+    note = record { item = (story_of c.at).item; what = what.Held which (counts_in c.at) }
+
+    pub whole_is : said (brought_up accepts which (story_of c.at)) (story_of c.at)
+        ≡ record { item = (story_of c.at).item; what = what.Held which (counts_in c.at) } ∷ (said (taken accepts which (held c)) (held c) ++ behind accepts which (checked c))
+    whole_is = ap (λ (notes : List Note). note ∷ notes) (said_parts accepts which (held c))
+
+    pub own_is : c.end.notes.list ≡ c.at.notes.list ++ said (brought_up accepts which (story_of c.at)) (story_of c.at)
     own_is = ap (λ (s : Story). s.notes) c.crosses.is ∙ notes_after (brought_up accepts which (story_of c.at)) (story_of c.at)
 
     put : (that : What) → IsNoted (said (brought_up accepts which (story_of c.at)) (story_of c.at)) that → IsNoted (added first new) that
-    put that n = in_added (Apart which) (Apart which) first c.at c.end new (said (brought_up accepts which (story_of c.at)) (story_of c.at)) c.before own_is c.behind that n
+    put that n = in_added (Apart which) (Apart which) first c.at c.end new whole c.before own_is c.behind that n
 
-    -- what follows from the contents then is so by the counts
-    by_counts : (P : List ℕ → List ℕ → Type 0) → P (mine which (held c)) (store (held c)) → AtCounts P which (counts_in c.at) new
-    by_counts P h = at_moment P which (held c) (counts_in c.at) new refl precedes h
+    put_work : (that : What) → IsNoted (said (taken accepts which (held c)) (held c)) that → IsNoted (added first new) that
+    put_work that n = put that (subst (λ (notes : List Note). IsNoted notes that) (sym whole_is) (inr (noted_left work (behind accepts which (checked c)) that n)))
 
-    -- what is noted of it is that it is held, or stands behind that
-    own : (that : What) → IsOf which that → IsNoted (added first new) that → (what.Held which (counts_in c.at) ≡ that) ⊎ IsNoted (behind accepts which (held c)) that
+    put_check : (that : What) → IsNoted (behind accepts which (checked c)) that → IsNoted (added first new) that
+    put_check that n = put that (subst (λ (notes : List Note). IsNoted notes that) (sym whole_is) (inr (noted_right work (behind accepts which (checked c)) that n)))
+
+    -- what is noted of it is that it is held, or of its open job, or stands behind that
+    own : (that : What) → IsOf which that → IsNoted (added first new) that
+        → (what.Held which (counts_in c.at) ≡ that) ⊎ IsNoted (said (taken accepts which (held c)) (held c)) that ⊎ IsNoted (behind accepts which (checked c)) that
     own that of n =
-        only_between (Apart which) (Apart which) first c.at c.end new (said (brought_up accepts which (story_of c.at)) (story_of c.at)) c.before own_is c.behind that (λ apart. apart of) (λ apart. apart of) n
+        let mine : IsNoted whole that = only_between (Apart which) (Apart which) first c.at c.end new whole c.before own_is c.behind that (λ apart. apart of) (λ apart. apart of) n in
+        elim (subst (λ (notes : List Note). IsNoted notes that) whole_is mine) [ inl e ↦ inl e | inr m ↦ inr (noted_append work (behind accepts which (checked c)) that m) ]
 
-    -- and has its cause
-    caused : (that : What) → IsOf which that → ¬ (what.Held which (counts_in c.at) ≡ that) → IsNoted (added first new) that → Cause accepts which (held c) that
-    caused that of other n = elim (own that of n) [ inl e ↦ absurd (other e) | inr m ↦ tail_caused accepts which (held c) bytes that m ]
+    -- and has its cause, but for what is noted of the job
+    caused : (that : What) → IsOf which that → ¬ (what.Held which (counts_in c.at) ≡ that) → ¬ IsOfJob that → IsNoted (added first new) that → Cause accepts which (checked c) that
+    caused that of other apart n = elim (own that of n) [
+      | inl e ↦ absurd (other e)
+      | inr (inl m) ↦ absurd (apart (taken_of accepts which (held c) that m))
+      | inr (inr m) ↦ tail_caused accepts which (checked c) then_bytes that m
+    ]
 
-    held_then : (at : Counts) → IsNoted (added first new) (what.Held which at) → at ≡ counts_in c.at
-    held_then at n = elim (own (what.Held which at) refl n) [ inl e ↦ cc | inr m ↦ absurd (tail_caused accepts which (held c) bytes (what.Held which at) m) ]
+    pub held_then : (at : Counts) → IsNoted (added first new) (what.Held which at) → at ≡ counts_in c.at
+    held_then at n = elim (own (what.Held which at) refl n) [
+      | inl e ↦ cc
+      | inr (inl m) ↦ absurd (taken_of accepts which (held c) (what.Held which at) m)
+      | inr (inr m) ↦ absurd (tail_caused accepts which (checked c) then_bytes (what.Held which at) m)
+    ]
 
     -- what is noted behind another then is so in the step
-    put_behind : (this that : What) → IsNotedBehind this that (behind accepts which (held c)) → IsNotedBehind this that (added first new)
+    put_behind : (this that : What) → IsNotedBehind this that (behind accepts which (checked c)) → IsNotedBehind this that (added first new)
     put_behind this that k =
-        let own : List Note = said (brought_up accepts which (story_of c.at)) (story_of c.at) in
-        let note : Note = record { item = (story_of c.at).item; what = what.Held which (counts_in c.at) } in
-        subst (λ (notes : List Note). IsNotedBehind this that notes) (sym (added_is (Apart which) (Apart which) first c.at c.end new own c.before own_is c.behind))
-        (behind_within this that c.before.more own c.behind.more (behind_next this that note (behind accepts which (held c)) k))
+        let front : List Note = note ∷ work in
+        let there : IsNotedBehind this that (front ++ (behind accepts which (checked c) ++ [])) = behind_within this that front (behind accepts which (checked c)) [] k in
+        let mine : IsNotedBehind this that whole = subst (λ (notes : List Note). IsNotedBehind this that notes)
+        (ap (λ (notes : List Note). front ++ notes) (append-nil (behind accepts which (checked c))) ∙ sym whole_is) there in
+        subst (λ (notes : List Note). IsNotedBehind this that notes) (sym (added_is (Apart which) (Apart which) first c.at c.end new whole c.before own_is c.behind))
+        (behind_within this that c.before.more whole c.behind.more mine)
 
     released_then : (svn : ℕ) (then : Counts) → IsNoted (added first new) (what.Released which svn then)
-        → (then ≡ counts_in c.at) ⊎ IsNotedBehind (what.Restored which 1) (what.Released which svn then) (added first new)
-    released_then svn then n = elim (caused (what.Released which svn then) refl (λ e. absurd cc) n) [
+        → (then ≡ from c) ⊎ IsNotedBehind (what.Restored which 1) (what.Released which svn then) (added first new)
+    released_then svn then n = elim (caused (what.Released which svn then) refl (λ e. absurd cc) (λ of. of) n) [
       | inl e ↦ inl e
       | inr m ↦ inr (put_behind (what.Restored which 1) (what.Released which svn then) m)
     ]
@@ -240,96 +361,138 @@ module _ (accepts : Acceptance) (first new : World) where
     no_fault calm (why.NoRecovery recovery) then n fault = fault
 
     locked_then : IsCalm which (added first new) → LocksHaveCauses accepts first new → (cause : LockWhy) (then : Counts) → IsNoted (added first new) (what.Locked which cause then)
-        → (then ≡ counts_in c.at) × AtCounts (λ image nv. IsDue cause which image nv accepts) which (counts_in c.at) new
+        → (then ≡ from c) × AtCounts (λ image nv. IsDue cause which image nv accepts) which (from c) new
     locked_then calm locks cause then n =
-        let due = caused (what.Locked which cause then) refl (λ e. absurd cc) n in
+        let due = caused (what.Locked which cause then) refl (λ e. absurd cc) (λ of. of) n in
         (due.0, subst (λ (at : Counts). AtCounts (λ image nv. IsDue cause which image nv accepts) which at new) due.0 (locks which cause then n (no_fault calm cause then n) due.1))
 
-    restored_then : (level : ℕ) → IsNoted (added first new) (what.Restored which level) → (level ≡ 1) × AtCounts (λ image nv. IsRestorable which image nv accepts) which (counts_in c.at) new
-    restored_then level n =
-        let h = caused (what.Restored which level) refl (λ e. absurd cc) n in
-        (h.0, by_counts (λ image nv. IsRestorable which image nv accepts) h.1)
+    restored_then : (level : ℕ) → IsNoted (added first new) (what.Restored which level)
+        → IsNoted (added first new) (what.Resumed which (ActiveFromRecovery level)) ⊎ ((level ≡ 1) × AtCounts (λ image nv. IsRestorable which image nv accepts) which (from c) new)
+    restored_then level n = elim (own (what.Restored which level) refl n) [
+      | inl e ↦ absurd cc
+      | inr (inl m) ↦ inl (put_work (what.Resumed which (ActiveFromRecovery level)) (taken_restored accepts which (held c) level m))
+      | inr (inr m) ↦
+          let h = tail_caused accepts which (checked c) then_bytes (what.Restored which level) m in
+          inr (h.0, by_counts (λ image nv. IsRestorable which image nv accepts) h.1)
+    ]
 
-    pub brings : IsCalm which (added first new) → ReleasesTrusted accepts first new → LocksHaveCauses accepts first new → BringsUp accepts which new (added first new) (counts_in c.at)
+    -- where no job is open it is checked at once
+    plain_then : ¬ AtCounts (λ image nv. HasOpenJob which image nv) which (counts_in c.at) new → from c ≡ counts_in c.at
+    plain_then none =
+        ap (λ (s : Story). counts_of s) (checked_same accepts which (held c) (λ opened. none (by_held (λ image nv. HasOpenJob which image nv) opened)))
+
+    pub brings : IsCalm which (added first new) → ReleasesTrusted accepts first new → LocksHaveCauses accepts first new → BringsUp accepts which new (added first new) (counts_in c.at) (counts_of (checked_at accepts which (held c)))
     brings calm releases locks = record {
       held = put (what.Held which (counts_in c.at)) (inl refl);
       once = held_then;
+      forth = forth;
+      plain = plain_then;
+      done = by_counts (λ image nv. ¬ HasOpenJob which image nv) (checked_closed accepts which (held c) can);
       released = λ svn then n. (releases which svn then n, released_then svn then n);
       locked = locked_then calm locks;
-      distrusted = λ cause n. by_counts (λ image nv. IsAgainst cause which image nv accepts) (caused (what.Untrusted which cause) refl (λ e. absurd cc) n);
+      distrusted = λ cause n. by_counts (λ image nv. IsAgainst cause which image nv accepts) (caused (what.Untrusted which cause) refl (λ e. absurd cc) (λ of. of) n);
       restored = restored_then;
-      trusted = by_counts (λ image nv. (t : IsTrusted image nv which accepts) → IsNoted (added first new) (what.Released which t.manifest.svn (counts_in c.at)))
-          (λ t. put (what.Released which t.manifest.svn (counts_in c.at)) (inr (tail_trusted accepts which (held c) t)));
-      due = λ cause. by_counts (λ image nv. IsDue cause which image nv accepts → IsNoted (added first new) (what.Locked which cause (counts_in c.at)))
-          (λ h. put (what.Locked which cause (counts_in c.at)) (inr (tail_due accepts which (held c) cause h)));
+      trusted = by_counts (λ image nv. (t : IsTrusted image nv which accepts) → IsNoted (added first new) (what.Released which t.manifest.svn (from c)))
+          (λ t. put_check (what.Released which t.manifest.svn (from c)) (tail_trusted accepts which (checked c) t));
+      due = λ cause. by_counts (λ image nv. IsDue cause which image nv accepts → IsNoted (added first new) (what.Locked which cause (from c)))
+          (λ h. put_check (what.Locked which cause (from c)) (tail_due accepts which (checked c) cause h));
       named = λ cause. by_counts (λ image nv. IsAgainst cause which image nv accepts → IsNoted (added first new) (what.Untrusted which cause))
-          (λ h. put (what.Untrusted which cause) (inr (tail_named accepts which (held c) cause h)));
+          (λ h. put_check (what.Untrusted which cause) (tail_named accepts which (checked c) cause h));
       restorable = by_counts (λ image nv. IsRestorable which image nv accepts → IsNoted (added first new) (what.Restored which 1))
-          (λ h. put (what.Restored which 1) (inr (tail_restored accepts which (held c) bytes h)));
+          (λ h. put_check (what.Restored which 1) (tail_restored accepts which (checked c) then_bytes h));
     }
 
-    -- its size is that of its device
-    sized : length (mine which (held c)) ≡ size_of (state_at (device_of which) new)
-    sized = ap (λ (xs : List ℕ). length xs) (image_noted (device_of which) (what.Held which) (story_of c.at)) ∙ mine_sized which c.at new c.moved
-
+    -- ---- and it ends released
     -- the note of that stands behind that it is held
-    stands_behind : (that : What) → IsNoted (behind accepts which (held c)) that → IsNotedBehind (what.Held which (counts_in c.at)) that (added first new)
-    stands_behind that n = record {
-      before = c.before.more;
-      item = (story_of c.at).item;
-      behind = behind accepts which (held c) ++ c.behind.more;
-      is = added_is (Apart which) (Apart which) first c.at c.end new (said (brought_up accepts which (story_of c.at)) (story_of c.at)) c.before own_is c.behind;
-      noted = noted_left (behind accepts which (held c)) c.behind.more that n;
-    }
+    pub stands_behind : (that : What) → IsNoted (said (by_ready accepts which (ready_of which (held c)) (held c)) (held c)) that → IsNotedBehind (what.Held which (counts_in c.at)) that (added first new)
+    stands_behind that n =
+        let own : List Note = said (by_ready accepts which (ready_of which (held c)) (held c)) (held c) in
+        record {
+          before = c.before.more;
+          item = (story_of c.at).item;
+          behind = own ++ c.behind.more;
+          is = added_is (Apart which) (Apart which) first c.at c.end new whole c.before own_is c.behind;
+          noted = noted_left own c.behind.more that n;
+        }
 
-    soon : ReleasesSoon which (counts_in c.at) (34 * (length (mine which (held c)) / 4096)) (behind accepts which (held c))
-        → ReleasedSoon which (counts_in c.at) (34 * (size_of (state_at (device_of which) new) / 4096)) (added first new)
-    soon r = record {
-      svn = r.svn;
-      then = r.then;
-      noted = stands_behind (what.Released which r.svn r.then) r.noted;
-      forth = r.forth;
-      few = rw sized at r.few;
-    }
+    soon : (moves : List Move) → moves ≡ by_ready accepts which (ready_of which (held c)) (held c) → PowerEnds which moves (held c) → ReleasedSoon which (counts_in c.at) (34 * (size_of (state_at (device_of which) new) / 4096)) (added first new)
+    soon moves is r =
+        let end : Counts = counts_of (after moves (held c)) in
+        let that : What = what.Released which r.released.svn end in
+        let last : IsNoted (said moves (held c)) that =
+        subst (λ (notes : List Note). IsNoted notes that) (sym r.released.last) (noted_right r.released.before (record { item = r.released.item; what = that } ∷ []) that (inl refl)) in
+        record {
+          svn = r.released.svn;
+          then = end;
+          noted = stands_behind that (subst (λ (all : List Move). IsNoted (said all (held c)) that) is last);
+          forth = bank_forth which (counts_in c.at) end (not_before (held c) (after moves (held c)) (Precedes-after (held c) (held c) moves (Precedes-refl (held c))));
+          few = subst (λ (size : ℕ). count_at which end ≤ count_at which (counts_in c.at) + 34 * (size / 4096)) sized r.few;
+        }
 
-    pub powers : (at : Counts) → IsBankSize (size_of (state_at (device_of which) new)) → IsNoted (added first new) (what.Held which at) → AtCounts (λ image nv. HasGoodRecovery which image nv accepts) which at new
+    can_end : (fuses : FusesState) → fuses_of (store (held c)) ≡ Ok fuses → IsValidLayout (layout_of fuses.provision which) (length (mine which (held c)))
+        → IsRecoverable which (mine which (held c)) (store (held c)) accepts → ReleasedSoon which (counts_in c.at) (34 * (size_of (state_at (device_of which) new) / 4096)) (added first new)
+    can_end fuses f l recoverable =
+        let ready : ready_of which (held c) ≡ Ok fuses = ready_is which fuses (held c) f l in
+        soon (by_ready accepts which (Ok fuses) (held c)) (ap (λ (r : Result FusesState LockWhy). by_ready accepts which r (held c)) (sym ready))
+        (bring_releases accepts which fuses (held c) (can_work accepts which fuses (held c) can ready) recoverable)
+
+    good_layout : (fuses other : FusesState) → fuses_of (store (held c)) ≡ Ok fuses → fuses_of (store (held c)) ≡ Ok other → IsValidLayout (layout_of other.provision which) (length (mine which (held c)))
+        → IsValidLayout (layout_of fuses.provision which) (length (mine which (held c)))
+    good_layout fuses other f g l =
+        subst (λ (x : FusesState). IsValidLayout (layout_of x.provision which) (length (mine which (held c)))) (fuses_one (store (held c)) other fuses g f) l
+
+    ends_released : IsRecoverable which (mine which (held c)) (store (held c)) accepts → ReleasedSoon which (counts_in c.at) (34 * (size_of (state_at (device_of which) new) / 4096)) (added first new)
+    ends_released (inl good) = can_end good.fuses good.provisioned (good_layout good.fuses good.good.fuses good.provisioned good.good.provisioned good.good.layout) (inl good)
+    ends_released (inr opened) = can_end opened.fuses opened.provisioned (good_layout opened.fuses opened.good.fuses opened.provisioned opened.good.provisioned opened.good.layout) (inr opened)
+
+    pub powers : (at : Counts) → IsNoted (added first new) (what.Held which at) → AtCounts (λ image nv. IsRecoverable which image nv accepts) which at new
         → ReleasedSoon which at (34 * (size_of (state_at (device_of which) new) / 4096)) (added first new)
-    powers at size n = rw (held_then at n) (by_counts
-        (λ image nv. HasGoodRecovery which image nv accepts → ReleasedSoon which (counts_in c.at) (34 * (size_of (state_at (device_of which) new) / 4096)) (added first new))
-        (λ g. soon (tail_releases accepts which (held c) g bytes (rw sized size))))
+    powers at n = rw (held_then at n) (by_held
+        (λ image nv. IsRecoverable which image nv accepts → ReleasedSoon which (counts_in c.at) (34 * (size_of (state_at (device_of which) new) / 4096)) (added first new)) ends_released)
 
 -- ---- a whole step
-power_crossed : (accepts : Acceptance) (old new : World) → Turn accepts event.Power old new → (which : Bank) → IsCalm which (added old new) → Crossed accepts (begun event.Power old) new which
-power_crossed accepts old new (mid, power, rest) which calm =
-    fuses_crossed accepts (begun event.Power old) new which mid (λ b. wrote_by (Apart b) (Says (λ _. what.Power) ∷ []) (begun event.Power old) mid power.is ((λ at h. h), tt)) power.moved rest calm
+module _ (accepts : Acceptance) (old new : World) (size : size_of old.nv ≡ 32768) (t : Turn accepts event.Power old new) (bmc : IsBankSize (size_of old.bmc)) (pch : IsBankSize (size_of old.pch)) (which : Bank)
+    (calm : IsCalm which (added old new)) where
+  abbrev start : World
+  start = begun event.Power old
+
+  pub power_crossed : Crossed accepts (begun event.Power old) new which
+  power_crossed = let mid : World = t.0 in fuses_crossed accepts start new size which mid (λ b. wrote_by (Apart b) (Says (λ _. what.Power) ∷ []) start mid t.1.is ((λ at h. h), tt)) t.1.moved t.2 calm
+
+  power_sized : IsBankSize (size_of (state_at (device_of which) new))
+  power_sized = bank_sized which start new (AllMoved-trans start power_crossed.at new power_crossed.come power_crossed.moved) (by_bank which)
+    where
+      by_bank : (b : Bank) → IsBankSize (size_of (state_at (device_of b) (begun event.Power old)))
+      by_bank bank.Bmc = bmc
+      by_bank bank.Pch = pch
 
 -- A power-on brings each bank up of which no call failed.
-pub Turn-brings : (accepts : Acceptance) (e : Event) (old new : World) → Turn accepts e old new → HaveBytes new → BringsUpCalm e accepts old new
-Turn-brings accepts event.Power old new t have = λ which calm.
-    let c = power_crossed accepts old new t which calm in
-    (counts_in c.at, brings accepts (begun event.Power old) new have which c calm (Turn-releases accepts event.Power old new t have) (Turn-locks accepts event.Power old new t have))
-Turn-brings accepts event.Off old new t have = tt
-Turn-brings accepts (event.Provision root) old new t have = tt
-Turn-brings accepts (event.Spi b frame) old new t have = tt
-Turn-brings accepts (event.Smbus b frame) old new t have = tt
-Turn-brings accepts (event.Tick n) old new t have = tt
-Turn-brings accepts (event.Boot b pass) old new t have = tt
-Turn-brings accepts (event.Update b intent) old new t have = tt
+pub Turn-brings : (accepts : Acceptance) (e : Event) (old new : World) → size_of old.nv ≡ 32768 → Turn accepts e old new → HaveBytes new → IsBankSize (size_of old.bmc) → IsBankSize (size_of old.pch)
+    → BringsUpCalm e accepts old new
+Turn-brings accepts event.Power old new size t have bmc pch = λ which calm.
+    let c = power_crossed accepts old new size t bmc pch which calm in (
+      counts_in c.at,
+      counts_of (checked_at accepts which (noted (what.Held which) (story_of c.at))),
+      brings accepts (begun event.Power old) new have which c (power_sized accepts old new size t bmc pch which calm) calm (Turn-releases accepts event.Power old new size t have) (Turn-locks accepts event.Power old new size t have),
+    )
+Turn-brings accepts event.Off old new size t have bmc pch = tt
+Turn-brings accepts (event.Provision root) old new size t have bmc pch = tt
+Turn-brings accepts (event.Spi b frame) old new size t have bmc pch = tt
+Turn-brings accepts (event.Smbus b frame) old new size t have bmc pch = tt
+Turn-brings accepts (event.Tick n) old new size t have bmc pch = tt
+Turn-brings accepts (event.Boot b pass) old new size t have bmc pch = tt
+Turn-brings accepts (event.Update b intent) old new size t have bmc pch = tt
 
--- A bank with a good recovery area ends a power-on released.
-pub Turn-powers : (accepts : Acceptance) (e : Event) (old new : World) → Turn accepts e old new → HaveBytes new → IsBankSize (size_of old.bmc) → IsBankSize (size_of old.pch)
-    → PowerReleases (λ bank image nv. HasGoodRecovery bank image nv accepts) e old new
-Turn-powers accepts event.Power old new t have bmc pch = λ which at calm held good.
-    let c = power_crossed accepts old new t which calm in
-    powers accepts (begun event.Power old) new have which c at (bank_sized which (begun event.Power old) new (AllMoved-trans (begun event.Power old) c.at new c.come c.moved) (by_bank which)) held good
-  where
-    by_bank : (b : Bank) → IsBankSize (size_of (state_at (device_of b) (begun event.Power old)))
-    by_bank bank.Bmc = bmc
-    by_bank bank.Pch = pch
-Turn-powers accepts event.Off old new t have bmc pch = tt
-Turn-powers accepts (event.Provision root) old new t have bmc pch = tt
-Turn-powers accepts (event.Spi b frame) old new t have bmc pch = tt
-Turn-powers accepts (event.Smbus b frame) old new t have bmc pch = tt
-Turn-powers accepts (event.Tick n) old new t have bmc pch = tt
-Turn-powers accepts (event.Boot b pass) old new t have bmc pch = tt
-Turn-powers accepts (event.Update b intent) old new t have bmc pch = tt
+-- A bank that can be recovered, whatever job is open, ends a power-on released.
+pub Turn-powers : (accepts : Acceptance) (e : Event) (old new : World) → size_of old.nv ≡ 32768 → Turn accepts e old new → HaveBytes new → IsBankSize (size_of old.bmc) → IsBankSize (size_of old.pch)
+    → PowerReleases (λ bank image nv. IsRecoverable bank image nv accepts) e old new
+Turn-powers accepts event.Power old new size t have bmc pch = λ which at calm held can.
+    let c = power_crossed accepts old new size t bmc pch which calm in
+    powers accepts (begun event.Power old) new have which c (power_sized accepts old new size t bmc pch which calm) at held can
+Turn-powers accepts event.Off old new size t have bmc pch = tt
+Turn-powers accepts (event.Provision root) old new size t have bmc pch = tt
+Turn-powers accepts (event.Spi b frame) old new size t have bmc pch = tt
+Turn-powers accepts (event.Smbus b frame) old new size t have bmc pch = tt
+Turn-powers accepts (event.Tick n) old new size t have bmc pch = tt
+Turn-powers accepts (event.Boot b pass) old new size t have bmc pch = tt
+Turn-powers accepts (event.Update b intent) old new size t have bmc pch = tt

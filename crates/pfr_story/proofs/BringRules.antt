@@ -3,7 +3,6 @@ use Rattle.std.proofs.Common.{◌≡◌, refl, sym, subst, ℕ, Bool, true, fals
 use Rattle.std.specs.Prelude.{nat_lt}
 use Rattle.pfr_flash.specs.Judging.{◌>>◌, told_as}
 use Rattle.pfr_flash.specs.Layout.{IsValidLayout, judge_layout}
-use Rattle.pfr_flash.specs.Operation.{Operation}
 use Rattle.pfr_flash.specs.declared.layout.LayoutRule.{LayoutRule}
 use Rattle.pfr_flash.specs.declared.names.Bank.{Bank}
 use Rattle.pfr_flash.specs.declared.names.Counts.{Counts}
@@ -19,9 +18,12 @@ use Rattle.pfr_manifest.specs.declared.manifest.Manifest.{Manifest}
 use Rattle.pfr_capsule.specs.CapsuleState.{CapsuleState}
 use Rattle.pfr_capsule.specs.declared.fail.CapsuleFail.{CapsuleFail}
 use Rattle.pfr_auth.specs.declared.fail.ActiveFail.{ActiveFail}
-use Rattle.pfr_jobs.specs.declared.job.JobKind.{JobKind}
-use Rattle.pfr_jobs.specs.declared.job.JobKind.TheVariants.{ActiveFromRecovery, ActiveFromStaging}
+use Rattle.pfr_cert.specs.Applying.{judge_apply}
+use Rattle.pfr_cert.specs.declared.cert.Cert.{Cert}
+use Rattle.pfr_cert.specs.declared.fail.CertFail.{CertFail}
+use Rattle.pfr_jobs.specs.LogState.{is_spent}
 use Rattle.pfr_script.specs.declared.event.Intent.{Intent}
+use Rattle.pfr_script.specs.declared.event.Intent.TheVariants.{Active, Full, Recovery, Cert as CertIntent}
 use Rattle.pfr_report.specs.declared.note.LockWhy.{LockWhy}
 use Rattle.pfr_report.specs.declared.note.LockWhy.TheVariants as why
 use Rattle.pfr_report.specs.declared.note.Refusal.{Refusal}
@@ -29,10 +31,12 @@ use Rattle.pfr_report.specs.declared.note.Refusal.TheVariants as refusing
 use Rattle.pfr_report.specs.declared.note.What.{What}
 use Rattle.pfr_report.specs.declared.note.What.TheVariants as what
 use Rattle.pfr_story.specs.Guards.{guard_at}
-use Rattle.pfr_story.specs.Story.{Story, Move, Says, Does, Asks, after, moved_by, noted, called, device_of}
+use Rattle.pfr_story.specs.JobPlans.{job_notes, recovery_job, resumed}
+use Rattle.pfr_story.specs.Plans.{mine, store, restored, by_second, checked_again, judged_active, judged_staging, judged_recovery, by_recovery, by_active, tail, ready_in, ready_of, by_fuses, checked_then, by_ready, brought_up, level_after, by_capsule, recovered_with, by_level, expired_to, expired}
 use Rattle.pfr_story.specs.Safety.{Rule, AllSafe, AllMake}
-use Rattle.pfr_story.specs.Plans.{mine, store, job_ops, copied, restored, by_second, checked_again, judged_active, judged_staging, judged_recovery, by_recovery, by_active, tail, ready_in, ready_of, by_ready, brought_up, level_after, by_capsule, recovered_with, by_level, expired_to, expired, updated, by_staged, updated_with, is_dynamic, updating}
-use Rattle.pfr_story.proofs.SafetyLaws.{AllSafe-append, image_noted, called_any}
+use Rattle.pfr_story.specs.Story.{Story, Move, Says, Does, Asks, after, moved_by, noted, called, device_of}
+use Rattle.pfr_story.specs.UpdatePlans.{refused_so, updated, by_staged, active_updated, has_manifest, standing_capsule, by_room, by_manifest, by_new_recovery, recovery_updated, judged_cert, cancelled_key, by_use, by_cert, key_cancelled, by_intent, updated_with, updating}
+use Rattle.pfr_story.proofs.SafetyLaws.{AllSafe-append, image_noted}
 
 abbrev pub Any : Story → Type 0
 Any story = Unit {0}
@@ -69,12 +73,15 @@ ready_is b fuses story f l = rw (f, valid_judged _ _ l) refl
 abbrev pub IsOwn : Bank → Device → Type 0
 IsOwn b which = (which ≡ device_of b) ⊎ (which ≡ device.Nv)
 
--- What has to be shown behind Held, where Q holds: P holds where the fuses are read, N where the image was called untrusted, and
--- R where the bank was restored.
-pub record Walks (G : Rule) (accepts : Acceptance) (b : Bank) (Q : Story → Type 0) (P : FusesState → Story → Type 0) (N : FusesState → ActiveFail → Story → Type 0) (R : FusesState → Story → Type 0) : Type 0 where
+-- What has to be shown behind Held, where Q holds: S holds where no job is open any more, P where the fuses are read, N where the
+-- image was called untrusted, and R where the bank was restored.
+pub record Walks (G : Rule) (accepts : Acceptance) (b : Bank) (Q S : Story → Type 0) (P : FusesState → Story → Type 0) (N : FusesState → ActiveFail → Story → Type 0) (R : FusesState → Story → Type 0) : Type 0 where
   pub asks : (which : Device) (story : Story) → IsOwn b which → G (Asks which) story
-  pub ready : (fuses : FusesState) (story : Story) → Q story → ready_of b story ≡ Ok fuses → P fuses story
-  pub unready : (cause : LockWhy) (story : Story) → Q story → ready_of b story ≡ Err cause → G (Says (what.Locked b cause)) story
+  pub resumes : (fuses : FusesState) (story : Story) → Q story → ready_of b story ≡ Ok fuses
+      → AllSafe G (resumed (job_notes b) accepts b fuses story) story × S (after (resumed (job_notes b) accepts b fuses story) story)
+  pub unset : (cause : LockWhy) (story : Story) → Q story → ready_of b story ≡ Err cause → G (Says (what.Locked b cause)) story
+  pub ready : (fuses : FusesState) (story : Story) → S story → ready_of b story ≡ Ok fuses → P fuses story
+  pub unready : (cause : LockWhy) (story : Story) → S story → ready_of b story ≡ Err cause → G (Says (what.Locked b cause)) story
   pub released : (fuses : FusesState) (m : Manifest) (story : Story) → P fuses story → judged_active accepts b fuses story ≡ Ok m → G (Says (what.Released b m.svn)) story
   pub untrusted : (fuses : FusesState) (cause : ActiveFail) (story : Story) → P fuses story → judged_active accepts b fuses story ≡ Err cause
       → G (Says (λ _. what.Untrusted b cause)) story × N fuses cause (noted (λ _. what.Untrusted b cause) story)
@@ -89,22 +96,56 @@ abbrev pub level_at : Bank → Story → ℕ
 level_at b story = level_after (guard_at b story.guards).watch
 
 -- and what besides, where its watch expired to this level
-pub record WalksBack (G : Rule) (accepts : Acceptance) (b : Bank) (level : ℕ) (Q : Story → Type 0) (P R : FusesState → Story → Type 0) : Type 0 where
-  pub spent : (story : Story) → nat_lt level 4 ≡ false → Q story → G (Says (what.Locked b why.WatchdogSpent)) story
+pub record WalksBack (G : Rule) (accepts : Acceptance) (b : Bank) (level : ℕ) (S : Story → Type 0) (P R : FusesState → Story → Type 0) : Type 0 where
+  pub spent : (story : Story) → nat_lt level 4 ≡ false → S story → G (Says (what.Locked b why.WatchdogSpent)) story
   pub no_recovery : (fuses : FusesState) (cause : CapsuleFail) (story : Story) → nat_lt level 4 ≡ true → P fuses story → judged_recovery accepts b fuses story ≡ Err cause
       → G (Says (what.Locked b (why.NoRecovery cause))) story
   pub restores : (fuses : FusesState) (capsule : CapsuleState) (story : Story) → nat_lt level 4 ≡ true → P fuses story → judged_recovery accepts b fuses story ≡ Ok capsule
       → AllSafe G (restored b level fuses capsule story) story × R fuses (after (restored b level fuses capsule story) story)
 
--- and what besides, where its active image is updated
+-- what is noted of an update that is refused, and where P holds behind it
+abbrev pub Refuses : Rule → Bank → (FusesState → Story → Type 0) → FusesState → Refusal → Story → Type 0
+Refuses G b P fuses cause story = G (Says (λ _. what.Refused b cause)) story × P fuses (noted (λ _. what.Refused b cause) story)
+
+-- where its active image is updated
 pub record WalksAnew (G : Rule) (accepts : Acceptance) (b : Bank) (dynamic : Bool) (P R : FusesState → Story → Type 0) : Type 0 where
   pub staged : (fuses : FusesState) (capsule : CapsuleState) (story : Story) → P fuses story → judged_staging accepts b fuses story ≡ Ok capsule
       → AllSafe G (updated b dynamic fuses capsule story) story × R fuses (after (updated b dynamic fuses capsule story) story)
-  pub refused : (fuses : FusesState) (cause : CapsuleFail) (story : Story) → P fuses story → judged_staging accepts b fuses story ≡ Err cause
-      → G (Says (λ _. what.Refused b (refusing.Capsule cause))) story × P fuses (noted (λ _. what.Refused b (refusing.Capsule cause)) story)
+  pub refused : (fuses : FusesState) (cause : CapsuleFail) (story : Story) → P fuses story → judged_staging accepts b fuses story ≡ Err cause → Refuses G b P fuses (refusing.Capsule cause) story
 
-module _ (G : Rule) (accepts : Acceptance) (b : Bank) (Q : Story → Type 0) (P : FusesState → Story → Type 0) (N : FusesState → ActiveFail → Story → Type 0) (R : FusesState → Story → Type 0)
-    (w : Walks G accepts b Q P N R) where
+-- where its recovery area is
+pub record WalksCopy (G : Rule) (accepts : Acceptance) (b : Bank) (S : Story → Type 0) (P : FusesState → Story → Type 0) : Type 0 where
+  pub copies : (fuses : FusesState) (capsule : CapsuleState) (story : Story) → P fuses story → judged_staging accepts b fuses story ≡ Ok capsule
+      → has_manifest capsule (judged_active accepts b fuses story) ≡ true → is_spent (store story) b ≡ false
+      → AllSafe G (recovery_job (job_notes b).given_up (job_notes b).recovery_updated accepts b fuses capsule story) story
+      × S (after (recovery_job (job_notes b).given_up (job_notes b).recovery_updated accepts b fuses capsule story) story)
+  pub refused : (fuses : FusesState) (cause : CapsuleFail) (story : Story) → P fuses story → judged_staging accepts b fuses story ≡ Err cause → Refuses G b P fuses (refusing.Capsule cause) story
+  pub differs : (fuses : FusesState) (capsule : CapsuleState) (story : Story) → P fuses story → judged_staging accepts b fuses story ≡ Ok capsule
+      → has_manifest capsule (judged_active accepts b fuses story) ≡ false → Refuses G b P fuses refusing.ManifestDiffers story
+  pub spent : (fuses : FusesState) (capsule : CapsuleState) (story : Story) → P fuses story → judged_staging accepts b fuses story ≡ Ok capsule
+      → has_manifest capsule (judged_active accepts b fuses story) ≡ true → is_spent (store story) b ≡ true → Refuses G b P fuses refusing.JobsSpent story
+
+-- what becomes of a certificate, by the capsule that stands in the recovery area
+abbrev pub use_judged : Acceptance → Bank → FusesState → Cert → Story → Result (Unit {0}) CertFail
+use_judged accepts b fuses cert story = judge_apply fuses cert (standing_capsule (judged_recovery accepts b fuses story))
+
+-- where a key is cancelled
+pub record WalksCert (G : Rule) (accepts : Acceptance) (b : Bank) (S : Story → Type 0) (P : FusesState → Story → Type 0) : Type 0 where
+  pub cancels : (fuses : FusesState) (cert : Cert) (story : Story) → P fuses story → judged_cert accepts b fuses story ≡ Ok cert → use_judged accepts b fuses cert story ≡ Ok tt
+      → AllSafe G (cancelled_key cert story) story × S (after (cancelled_key cert story) story)
+  pub refused : (fuses : FusesState) (cause : CertFail) (story : Story) → P fuses story → judged_cert accepts b fuses story ≡ Err cause → Refuses G b P fuses (refusing.Cert cause) story
+  pub kept : (fuses : FusesState) (cert : Cert) (cause : CertFail) (story : Story) → P fuses story → judged_cert accepts b fuses story ≡ Ok cert → use_judged accepts b fuses cert story ≡ Err cause
+      → Refuses G b P fuses (refusing.Cert cause) story
+
+-- whatever is updated
+abbrev pub WalksUpdate : Rule → Acceptance → Bank → Intent → (Story → Type 0) → (FusesState → Story → Type 0) → (FusesState → Story → Type 0) → Type 0
+WalksUpdate G accepts b Active S P R = WalksAnew G accepts b false P R
+WalksUpdate G accepts b Full S P R = WalksAnew G accepts b true P R
+WalksUpdate G accepts b Recovery S P R = WalksCopy G accepts b S P
+WalksUpdate G accepts b CertIntent S P R = WalksCert G accepts b S P
+
+module _ (G : Rule) (accepts : Acceptance) (b : Bank) (Q S : Story → Type 0) (P : FusesState → Story → Type 0) (N : FusesState → ActiveFail → Story → Type 0) (R : FusesState → Story → Type 0)
+    (w : Walks G accepts b Q S P N R) where
   second_safe : (fuses : FusesState) (judged : Result Manifest ActiveFail) (story : Story) → R fuses story → judged_active accepts b fuses story ≡ judged → AllSafe G (by_second b judged story) story
   second_safe fuses (Ok m) story r j = (w.again fuses m story r j, tt)
   second_safe fuses (Err cause) story r j = tt
@@ -127,12 +168,23 @@ module _ (G : Rule) (accepts : Acceptance) (b : Bank) (Q : Story → Type 0) (P 
       let u = w.untrusted fuses cause story p j in
       (u.0, (w.asks (device_of b) told (inl refl), recovery_safe fuses cause (judged_recovery accepts b fuses told) told u.1 refl))
 
-  tail_safe : (fuses : FusesState) (story : Story) → P fuses story → AllSafe G (tail accepts b fuses story) story
+  pub tail_safe : (fuses : FusesState) (story : Story) → P fuses story → AllSafe G (tail accepts b fuses story) story
   tail_safe fuses story p = (w.asks (device_of b) story (inl refl), active_safe fuses (judged_active accepts b fuses story) story p refl)
 
+  fuses_safe : (ready : Result FusesState LockWhy) (story : Story) → S story → ready_of b story ≡ ready → AllSafe G (by_fuses accepts b ready story) story
+  fuses_safe (Ok fuses) story s e = tail_safe fuses story (w.ready fuses story s e)
+  fuses_safe (Err cause) story s e = (w.unready cause story s e, tt)
+
+  pub then_safe : (story : Story) → S story → AllSafe G (checked_then accepts b story) story
+  then_safe story s = fuses_safe (ready_of b story) story s refl
+
+  -- moves behind which no job is open, and the check behind them
+  settled_safe : (moves : List Move) (story : Story) → AllSafe G moves story × S (after moves story) → AllSafe G (moves ++ checked_then accepts b (after moves story)) story
+  settled_safe moves story done = AllSafe-append G moves (checked_then accepts b (after moves story)) story done.0 (then_safe (after moves story) done.1)
+
   ready_safe : (ready : Result FusesState LockWhy) (story : Story) → Q story → ready_of b story ≡ ready → AllSafe G (by_ready accepts b ready story) story
-  ready_safe (Ok fuses) story q e = tail_safe fuses story (w.ready fuses story q e)
-  ready_safe (Err cause) story q e = (w.unready cause story q e, tt)
+  ready_safe (Ok fuses) story q e = settled_safe (resumed (job_notes b) accepts b fuses story) story (w.resumes fuses story q e)
+  ready_safe (Err cause) story q e = (w.unset cause story q e, tt)
 
   behind_safe : (story : Story) → Q story → AllSafe G (by_ready accepts b (ready_of b story) story) story
   behind_safe story q = ready_safe (ready_of b story) story q refl
@@ -141,105 +193,87 @@ module _ (G : Rule) (accepts : Acceptance) (b : Bank) (Q : Story → Type 0) (P 
   walk_safe story held q = let there : Story = noted (what.Held b) story in (held, (w.asks device.Nv there (inr refl), behind_safe there q))
 
   -- ---- the watch over its boot expires
-  capsule_safe : (level : ℕ) → WalksBack G accepts b level Q P R → (fuses : FusesState) (judged : Result CapsuleState CapsuleFail) (story : Story) → nat_lt level 4 ≡ true → P fuses story
+  capsule_safe : (level : ℕ) → WalksBack G accepts b level S P R → (fuses : FusesState) (judged : Result CapsuleState CapsuleFail) (story : Story) → nat_lt level 4 ≡ true → P fuses story
       → judged_recovery accepts b fuses story ≡ judged → AllSafe G (by_capsule accepts b fuses level judged story) story
   capsule_safe level back fuses (Ok capsule) story few p j = anew_safe fuses (restored b level fuses capsule story) story (back.restores fuses capsule story few p j)
   capsule_safe level back fuses (Err cause) story few p j = (back.no_recovery fuses cause story few p j, tt)
 
-  recovered_safe : (level : ℕ) → WalksBack G accepts b level Q P R → (ready : Result FusesState LockWhy) (story : Story) → nat_lt level 4 ≡ true → Q story → ready_of b story ≡ ready
+  recovered_safe : (level : ℕ) → WalksBack G accepts b level S P R → (ready : Result FusesState LockWhy) (story : Story) → nat_lt level 4 ≡ true → S story → ready_of b story ≡ ready
       → AllSafe G (recovered_with accepts b level ready story) story
-  recovered_safe level back (Ok fuses) story few q e = (w.asks (device_of b) story (inl refl), capsule_safe level back fuses (judged_recovery accepts b fuses story) story few (w.ready fuses story q e) refl)
-  recovered_safe level back (Err cause) story few q e = (w.unready cause story q e, tt)
+  recovered_safe level back (Ok fuses) story few s e = (w.asks (device_of b) story (inl refl), capsule_safe level back fuses (judged_recovery accepts b fuses story) story few (w.ready fuses story s e) refl)
+  recovered_safe level back (Err cause) story few s e = (w.unready cause story s e, tt)
 
-  level_safe : (level : ℕ) → WalksBack G accepts b level Q P R → (few : Bool) (story : Story) → nat_lt level 4 ≡ few → Q story → AllSafe G (by_level accepts b level few story) story
-  level_safe level back true story few q = (w.asks device.Nv story (inr refl), recovered_safe level back (ready_of b story) story few q refl)
-  level_safe level back false story few q = (back.spent story few q, tt)
+  level_safe : (level : ℕ) → WalksBack G accepts b level S P R → (few : Bool) (story : Story) → nat_lt level 4 ≡ few → S story → AllSafe G (by_level accepts b level few story) story
+  level_safe level back true story few s = (w.asks device.Nv story (inr refl), recovered_safe level back (ready_of b story) story few s refl)
+  level_safe level back false story few s = (back.spent story few s, tt)
 
-  expired_to_safe : (level : ℕ) (story : Story) → WalksBack G accepts b level Q P R → G (Says (λ _. what.Expired b level)) story → G (Says (what.Held b)) (noted (λ _. what.Expired b level) story)
-      → Q (noted (what.Held b) (noted (λ _. what.Expired b level) story)) → AllSafe G (expired_to accepts b level story) story
-  expired_to_safe level story back expires held q =
-      (expires, (held, level_safe level back (nat_lt level 4) (noted (what.Held b) (noted (λ _. what.Expired b level) story)) refl q))
+  expired_to_safe : (level : ℕ) (story : Story) → WalksBack G accepts b level S P R → G (Says (λ _. what.Expired b level)) story → G (Says (what.Held b)) (noted (λ _. what.Expired b level) story)
+      → S (noted (what.Held b) (noted (λ _. what.Expired b level) story)) → AllSafe G (expired_to accepts b level story) story
+  expired_to_safe level story back expires held s =
+      (expires, (held, level_safe level back (nat_lt level 4) (noted (what.Held b) (noted (λ _. what.Expired b level) story)) refl s))
 
-  pub expired_safe : (story : Story) → WalksBack G accepts b (level_at b story) Q P R → G (Says (λ _. what.Expired b (level_at b story))) story
-      → G (Says (what.Held b)) (noted (λ _. what.Expired b (level_at b story)) story) → Q (noted (what.Held b) (noted (λ _. what.Expired b (level_at b story)) story)) → AllSafe G (expired accepts b story) story
-  expired_safe story back expires held q = expired_to_safe (level_at b story) story back expires held q
+  pub expired_safe : (story : Story) → WalksBack G accepts b (level_at b story) S P R → G (Says (λ _. what.Expired b (level_at b story))) story
+      → G (Says (what.Held b)) (noted (λ _. what.Expired b (level_at b story)) story) → S (noted (what.Held b) (noted (λ _. what.Expired b (level_at b story)) story)) → AllSafe G (expired accepts b story) story
+  expired_safe story back expires held s = expired_to_safe (level_at b story) story back expires held s
 
-  -- ---- its active image is updated
+  -- ---- it is updated
+  -- an update that is refused, and the check behind it
+  refused_safe : (fuses : FusesState) (cause : Refusal) (story : Story) → Refuses G b P fuses cause story → AllSafe G (refused_so accepts b fuses cause story) story
+  refused_safe fuses cause story r = (r.0, tail_safe fuses (noted (λ _. what.Refused b cause) story) r.1)
+
   module _ (dynamic : Bool) (anew : WalksAnew G accepts b dynamic P R) where
     staged_safe : (fuses : FusesState) (judged : Result CapsuleState CapsuleFail) (story : Story) → P fuses story → judged_staging accepts b fuses story ≡ judged → AllSafe G (by_staged accepts b dynamic fuses judged story) story
     staged_safe fuses (Ok capsule) story p j = anew_safe fuses (updated b dynamic fuses capsule story) story (anew.staged fuses capsule story p j)
-    staged_safe fuses (Err cause) story p j =
-        let refused = anew.refused fuses cause story p j in
-        (refused.0, tail_safe fuses (noted (λ _. what.Refused b (refusing.Capsule cause)) story) refused.1)
+    staged_safe fuses (Err cause) story p j = refused_safe fuses (refusing.Capsule cause) story (anew.refused fuses cause story p j)
 
-    updated_safe : (ready : Result FusesState LockWhy) (story : Story) → Q story → ready_of b story ≡ ready → AllSafe G (updated_with accepts b dynamic ready story) story
-    updated_safe (Ok fuses) story q e = (w.asks (device_of b) story (inl refl), staged_safe fuses (judged_staging accepts b fuses story) story (w.ready fuses story q e) refl)
-    updated_safe (Err cause) story q e = (w.unready cause story q e, tt)
+    active_updated_safe : (fuses : FusesState) (story : Story) → P fuses story → AllSafe G (active_updated accepts b dynamic fuses story) story
+    active_updated_safe fuses story p = (w.asks (device_of b) story (inl refl), staged_safe fuses (judged_staging accepts b fuses story) story p refl)
 
-  pub updating_safe : (intent : Intent) (story : Story) → WalksAnew G accepts b (is_dynamic intent) P R → G (Says (what.Held b)) story → Q (noted (what.Held b) story) → AllSafe G (updating accepts b intent story) story
-  updating_safe intent story anew held q =
+  module _ (copy : WalksCopy G accepts b S P) (fuses : FusesState) where
+    room_safe : (capsule : CapsuleState) (spent : Bool) (story : Story) → P fuses story → judged_staging accepts b fuses story ≡ Ok capsule → has_manifest capsule (judged_active accepts b fuses story) ≡ true
+        → is_spent (store story) b ≡ spent → AllSafe G (by_room spent accepts b fuses capsule story) story
+    room_safe capsule true story p j m e = refused_safe fuses refusing.JobsSpent story (copy.spent fuses capsule story p j m e)
+    room_safe capsule false story p j m e = settled_safe (recovery_job (job_notes b).given_up (job_notes b).recovery_updated accepts b fuses capsule story) story (copy.copies fuses capsule story p j m e)
+
+    manifest_safe : (capsule : CapsuleState) (same : Bool) (story : Story) → P fuses story → judged_staging accepts b fuses story ≡ Ok capsule → has_manifest capsule (judged_active accepts b fuses story) ≡ same
+        → AllSafe G (by_manifest same accepts b fuses capsule story) story
+    manifest_safe capsule true story p j m = (w.asks device.Nv story (inr refl), room_safe capsule (is_spent (store story) b) story p j m refl)
+    manifest_safe capsule false story p j m = refused_safe fuses refusing.ManifestDiffers story (copy.differs fuses capsule story p j m)
+
+    copy_safe : (judged : Result CapsuleState CapsuleFail) (story : Story) → P fuses story → judged_staging accepts b fuses story ≡ judged → AllSafe G (by_new_recovery accepts b fuses judged story) story
+    copy_safe (Ok capsule) story p j = (w.asks (device_of b) story (inl refl), manifest_safe capsule (has_manifest capsule (judged_active accepts b fuses story)) story p j refl)
+    copy_safe (Err cause) story p j = refused_safe fuses (refusing.Capsule cause) story (copy.refused fuses cause story p j)
+
+    recovery_updated_safe : (story : Story) → P fuses story → AllSafe G (recovery_updated accepts b fuses story) story
+    recovery_updated_safe story p = (w.asks (device_of b) story (inl refl), copy_safe (judged_staging accepts b fuses story) story p refl)
+
+  module _ (key : WalksCert G accepts b S P) (fuses : FusesState) where
+    use_safe : (cert : Cert) (judged : Result (Unit {0}) CertFail) (story : Story) → P fuses story → judged_cert accepts b fuses story ≡ Ok cert → use_judged accepts b fuses cert story ≡ judged
+        → AllSafe G (by_use accepts b fuses cert judged story) story
+    use_safe cert (Ok free) story p j u = settled_safe (cancelled_key cert story) story (key.cancels fuses cert story p j u)
+    use_safe cert (Err cause) story p j u = refused_safe fuses (refusing.Cert cause) story (key.kept fuses cert cause story p j u)
+
+    cert_safe : (judged : Result Cert CertFail) (story : Story) → P fuses story → judged_cert accepts b fuses story ≡ judged → AllSafe G (by_cert accepts b fuses judged story) story
+    cert_safe (Ok cert) story p j = (w.asks (device_of b) story (inl refl), use_safe cert (use_judged accepts b fuses cert story) story p j refl)
+    cert_safe (Err cause) story p j = refused_safe fuses (refusing.Cert cause) story (key.refused fuses cause story p j)
+
+    key_cancelled_safe : (story : Story) → P fuses story → AllSafe G (key_cancelled accepts b fuses story) story
+    key_cancelled_safe story p = (w.asks (device_of b) story (inl refl), cert_safe (judged_cert accepts b fuses story) story p refl)
+
+  intent_safe : (intent : Intent) (fuses : FusesState) (story : Story) → WalksUpdate G accepts b intent S P R → P fuses story → AllSafe G (by_intent accepts b intent fuses story) story
+  intent_safe Active fuses story h p = active_updated_safe false h fuses story p
+  intent_safe Full fuses story h p = active_updated_safe true h fuses story p
+  intent_safe Recovery fuses story h p = recovery_updated_safe h fuses story p
+  intent_safe CertIntent fuses story h p = key_cancelled_safe h fuses story p
+
+  updated_safe : (intent : Intent) (ready : Result FusesState LockWhy) (story : Story) → WalksUpdate G accepts b intent S P R → S story → ready_of b story ≡ ready → AllSafe G (updated_with accepts b intent ready story) story
+  updated_safe intent (Ok fuses) story h s e = intent_safe intent fuses story h (w.ready fuses story s e)
+  updated_safe intent (Err cause) story h s e = (w.unready cause story s e, tt)
+
+  pub updating_safe : (intent : Intent) (story : Story) → WalksUpdate G accepts b intent S P R → G (Says (what.Held b)) story → S (noted (what.Held b) story) → AllSafe G (updating accepts b intent story) story
+  updating_safe intent story h held s =
       let there : Story = noted (what.Held b) story in
-      (held, (w.asks device.Nv there (inr refl), updated_safe (is_dynamic intent) anew (ready_of b there) there q refl))
-
--- ---- where the contents don't matter
--- all that is noted of a bank behind Held, and all that its device does, is good
-pub record AllowsBank (G : Rule) (b : Bank) : Type 0 where
-  pub released : (svn : ℕ) (story : Story) → G (Says (what.Released b svn)) story
-  pub locked : (cause : LockWhy) (story : Story) → G (Says (what.Locked b cause)) story
-  pub untrusted : (cause : ActiveFail) (story : Story) → G (Says (λ _. what.Untrusted b cause)) story
-  pub restored : (level : ℕ) (story : Story) → G (Says (λ _. what.Restored b level)) story
-  pub asks : (which : Device) (story : Story) → IsOwn b which → G (Asks which) story
-  pub works : (op : Operation) (story : Story) → G (Does (device_of b) op) story
-
--- and all that is noted of it where it is updated
-pub record AllowsUpdate (G : Rule) (b : Bank) (dynamic : Bool) : Type 0 where
-  pub updated : (svn : ℕ) (story : Story) → G (Says (λ _. what.Updated b dynamic svn)) story
-  pub refused : (cause : Refusal) (story : Story) → G (Says (λ _. what.Refused b cause)) story
-
-module _ (G : Rule) (accepts : Acceptance) (b : Bank) (h : AllowsBank G b) where
-  -- a job's copy, and what is noted behind it
-  copy_told : (kind : JobKind) (fuses : FusesState) (capsule : CapsuleState) (that : What) (story : Story) → ((there : Story) → G (Says (λ _. that)) there)
-      → AllSafe G (copied b kind fuses capsule story ++ Says (λ _. that) ∷ []) story
-  copy_told kind fuses capsule that story tells =
-      let ops : List Operation = job_ops kind (mine b story) capsule (layout_of fuses.provision b) in
-      let call : AllSafe G (called (device_of b) ops) story = called_any G (device_of b) (λ op here. h.works op here) (λ here. h.asks (device_of b) here (inl refl)) ops story in
-      AllSafe-append G (copied b kind fuses capsule story) (Says (λ _. that) ∷ []) story call (tells (after (copied b kind fuses capsule story) story), tt)
-
-  pub allowed_walks : Walks G accepts b Any (λ fuses story. Unit {0}) (λ fuses cause story. Unit {0}) (λ fuses story. Unit {0})
-  allowed_walks = record {
-    asks = h.asks;
-    ready = λ fuses story q e. tt;
-    unready = λ cause story q e. h.locked cause story;
-    released = λ fuses m story p j. h.released m.svn story;
-    untrusted = λ fuses cause story p j. (h.untrusted cause story, tt);
-    no_image = λ fuses cause other story n j. h.locked (why.NoGoodImage cause other) story;
-    restores = λ fuses cause capsule story n j. (copy_told (ActiveFromRecovery 1) fuses capsule (what.Restored b 1) story (h.restored 1), tt);
-    again = λ fuses m story r j. h.released m.svn story;
-  }
-
-  allowed_back : (level : ℕ) → WalksBack G accepts b level Any (λ fuses story. Unit {0}) (λ fuses story. Unit {0})
-  allowed_back level = record {
-    spent = λ story few q. h.locked why.WatchdogSpent story;
-    no_recovery = λ fuses cause story few p j. h.locked (why.NoRecovery cause) story;
-    restores = λ fuses capsule story few p j. (copy_told (ActiveFromRecovery level) fuses capsule (what.Restored b level) story (h.restored level), tt);
-  }
-
-  allowed_anew : (dynamic : Bool) → AllowsUpdate G b dynamic → WalksAnew G accepts b dynamic (λ fuses story. Unit {0}) (λ fuses story. Unit {0})
-  allowed_anew dynamic u = record {
-    staged = λ fuses capsule story p j. (copy_told (ActiveFromStaging dynamic) fuses capsule (what.Updated b dynamic capsule.manifest.svn) story (u.updated capsule.manifest.svn), tt);
-    refused = λ fuses cause story p j. (u.refused (refusing.Capsule cause) story, tt);
-  }
-
-  pub allowed_safe : (story : Story) → G (Says (what.Held b)) story → AllSafe G (brought_up accepts b story) story
-  allowed_safe story held = walk_safe G accepts b Any (λ fuses story. Unit {0}) (λ fuses cause story. Unit {0}) (λ fuses story. Unit {0}) allowed_walks story held tt
-
-  pub expired_allowed : (story : Story) → G (Says (λ _. what.Expired b (level_at b story))) story → G (Says (what.Held b)) (noted (λ _. what.Expired b (level_at b story)) story) → AllSafe G (expired accepts b story) story
-  expired_allowed story expires held =
-      expired_safe G accepts b Any (λ fuses story. Unit {0}) (λ fuses cause story. Unit {0}) (λ fuses story. Unit {0}) allowed_walks story (allowed_back (level_at b story)) expires held tt
-
-  pub updating_allowed : (intent : Intent) (story : Story) → AllowsUpdate G b (is_dynamic intent) → G (Says (what.Held b)) story → AllSafe G (updating accepts b intent story) story
-  updating_allowed intent story u held =
-      updating_safe G accepts b Any (λ fuses story. Unit {0}) (λ fuses cause story. Unit {0}) (λ fuses story. Unit {0}) allowed_walks intent story (allowed_anew (is_dynamic intent) u) held tt
+      (held, (w.asks device.Nv there (inr refl), updated_safe intent (ready_of b there) there h s refl))
 
 -- ---- which devices are called, and which notes are made
 abbrev pub Making : (Device → Type 0) → ((Counts → What) → Type 0) → Rule

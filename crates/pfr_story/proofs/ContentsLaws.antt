@@ -1,100 +1,29 @@
--- What a restore, an update, a migration and a provision leave, by whole images.
-use Rattle.std.proofs.Common.{◌≡◌, ◌∙◌, refl, sym, ap, subst, ℕ, ◌+◌, ◌≤◌, List, [], ◌∷◌, length, Result, Ok}
+-- What a migration and a provision leave, by whole images.
+use Rattle.std.proofs.Common.{◌≡◌, ◌∙◌, refl, sym, ap, subst, ℕ, List, [], ◌∷◌, length, Result, Ok}
 use Rattle.pfr_flash.specs.Bytes.{AreBytes}
-use Rattle.pfr_flash.specs.Layout.{IsValidLayout}
 use Rattle.pfr_flash.specs.Operation.{Operation, play}
-use Rattle.pfr_flash.specs.declared.layout.Layout.{Layout}
 use Rattle.pfr_flash.specs.declared.names.Bank.{Bank}
-use Rattle.pfr_flash.specs.declared.names.Bank.TheVariants as bank
 use Rattle.pfr_flash.specs.declared.names.Device.TheVariants as device
 use Rattle.pfr_flash.proofs.PlanLemmas.{IsPart-whole}
-use Rattle.pfr_engine.specs.Acceptance.{Acceptance}
 use Rattle.pfr_fuses.specs.Changes.{migration}
 use Rattle.pfr_fuses.specs.FusesState.{FusesState}
 use Rattle.pfr_fuses.specs.FusesOf.{fuses_of}
 use Rattle.pfr_fuses.specs.Provisioning.{judge_provision, provision_plan}
-use Rattle.pfr_fuses.specs.RootSlot.{layout_of, provision_in}
+use Rattle.pfr_fuses.specs.RootSlot.{provision_in}
 use Rattle.pfr_fuses.specs.Slots.{IsProvisionedBy, slot_at}
 use Rattle.pfr_fuses.specs.declared.fuse_fail.FuseFail.{FuseFail}
 use Rattle.pfr_fuses.specs.declared.profile.Profile.{Profile}
 use Rattle.pfr_fuses.specs.declared.profile.Profile.TheVariants.{One, Two}
 use Rattle.pfr_fuses.specs.declared.root_slot.RootSlot.{RootSlot}
-use Rattle.pfr_capsule.specs.Good.{IsGood}
-use Rattle.pfr_auth.specs.Trusted.{IsTrusted}
-use Rattle.pfr_jobs.specs.declared.job.JobKind.{JobKind}
-use Rattle.pfr_jobs.specs.declared.job.JobKind.TheVariants.{ActiveFromRecovery, ActiveFromStaging, RecoveryFromStaging}
-use Rattle.pfr_rebuilt.specs.ActiveCopying.{active_rebuilt}
-use Rattle.pfr_recoverable.proofs.RestoredLaw.{restored_is, restored_trusted}
-use Rattle.pfr_recoverable.proofs.StaysLaw.{fuses_one}
 use Rattle.pfr_report.specs.declared.note.What.TheVariants.{Provisioned}
-use Rattle.pfr_story.specs.Story.{Story, Says, after, noted, operated, other_bank, device_of, called}
-use Rattle.pfr_story.specs.Plans.{mine, store, job_ops, copied, migration_by, migration_in, provisioned, provisioned_in}
-use Rattle.pfr_story.specs.Contents.{IsRebuilt, IsWholeBank, RestoresWhole, UpdatesWhole, MigratesWhole, ProvisionsWhole}
+use Rattle.pfr_story.specs.Story.{Story, Says, after, noted, operated, device_of, called}
+use Rattle.pfr_story.specs.Plans.{mine, store, migration_by, migration_in, provisioned, provisioned_in}
+use Rattle.pfr_story.specs.Contents.{MigratesWhole, ProvisionsWhole}
 use Rattle.pfr_story.proofs.Sequence.{after-append}
-use Rattle.pfr_story.proofs.SafetyLaws.{image_noted, image_called, store_called, mine_operated}
-use Rattle.pfr_story.proofs.RestoreLaws.{not_recovery, not_staging}
+use Rattle.pfr_story.proofs.SafetyLaws.{image_noted, image_called, mine_operated}
 use Rattle.pfr_story.proofs.FuseLaws.{profile_migrated}
 use Rattle.pfr_story.proofs.KeepLaws.{SaysFuses, migration_says}
 use Rattle.pfr_story.proofs.ProvisionLaws.{provisioned_so}
-
--- ---- a restore and an update
-other_called : (b : Bank) (ops : List Operation) (story : Story) → mine (other_bank b) (after (called (device_of b) ops) story) ≡ mine (other_bank b) story
-other_called b [] story = refl
-other_called bank.Bmc (op ∷ ops) story = other_called bank.Bmc ops (operated device.Bmc op story)
-other_called bank.Pch (op ∷ ops) story = other_called bank.Pch ops (operated device.Pch op story)
-
--- a good capsule at a place that lies in the bank
-record IsGoodAt (accepts : Acceptance) (b : Bank) (fuses : FusesState) (story : Story) (place len : ℕ) : Type 0 where
-  good : IsGood (mine b story) place len (store story) b accepts
-  provisioned : fuses_of (store story) ≡ Ok fuses
-  inside : place + len ≤ length (mine b story)
-
-module _ (accepts : Acceptance) (b : Bank) (kind : JobKind) (active : ¬ (kind ≡ RecoveryFromStaging)) (fuses : FusesState) (story : Story) (place len : ℕ)
-    (g : IsGoodAt accepts b fuses story place len) (whole : IsWholeBank b story) where
-  same_fuses : g.good.fuses ≡ fuses
-  same_fuses = fuses_one (store story) g.good.fuses fuses g.good.provisioned g.provisioned
-
-  abbrev image : List ℕ
-  image = mine b story
-
-  abbrev rebuilt : List ℕ
-  rebuilt = active_rebuilt kind image g.good.capsule (layout_of fuses.provision b)
-
-  job_played : play image (job_ops kind image g.good.capsule (layout_of fuses.provision b)) ≡ rebuilt
-  job_played =
-      subst (λ (f : FusesState). play image (job_ops kind image g.good.capsule (layout_of f.provision b)) ≡ active_rebuilt kind image g.good.capsule (layout_of f.provision b)) same_fuses
-      (restored_is kind active image (store story) place len b accepts g.good whole.0.blocks whole.0.most g.inside whole.1)
-
-  job_trusted : (t : IsTrusted rebuilt (store story) b accepts) × (t.manifest ≡ g.good.capsule.manifest)
-  job_trusted =
-      subst (λ (f : FusesState). (t : IsTrusted (active_rebuilt kind image g.good.capsule (layout_of f.provision b)) (store story) b accepts) × (t.manifest ≡ g.good.capsule.manifest)) same_fuses
-      (restored_trusted kind active image (store story) place len b accepts g.good whole.0.blocks whole.0.most g.inside whole.1)
-
-  -- Whichever job makes the active image anew from it leaves the image so.
-  rebuilds : IsRebuilt accepts b kind fuses g.good.capsule story (after (copied b kind fuses g.good.capsule story) story)
-  rebuilds =
-      let ops : List Operation = job_ops kind image g.good.capsule (layout_of fuses.provision b) in
-      let left : mine b (after (called (device_of b) ops) story) ≡ rebuilt = image_called (device_of b) ops story ∙ job_played in
-      record { image = left; trusted = rw (left, store_called b ops story) job_trusted; store = store_called b ops story; other = other_called b ops story }
-
-good_layout : (accepts : Acceptance) (b : Bank) (fuses : FusesState) (story : Story) (place len : ℕ) (g : IsGood (mine b story) place len (store story) b accepts) → fuses_of (store story) ≡ Ok fuses
-    → IsValidLayout (layout_of fuses.provision b) (length (mine b story))
-good_layout accepts b fuses story place len g provisioned =
-    subst (λ (f : FusesState). IsValidLayout (layout_of f.provision b) (length (mine b story))) (fuses_one (store story) g.fuses fuses g.provisioned provisioned) g.layout
-
-pub restores : RestoresWhole
-restores accepts b level story g whole =
-    let layout : Layout = layout_of g.fuses.provision b in
-    let valid = good_layout accepts b g.fuses story layout.recovery_at layout.area_len g.good g.provisioned in
-    rebuilds accepts b (ActiveFromRecovery level) (not_recovery level) g.fuses story layout.recovery_at layout.area_len
-    (record { good = g.good; provisioned = g.provisioned; inside = valid.inside.recovery }) whole
-
-pub updates : UpdatesWhole
-updates accepts b dynamic story g whole =
-    let layout : Layout = layout_of g.fuses.provision b in
-    let valid = good_layout accepts b g.fuses story layout.staging_at layout.area_len g.good g.provisioned in
-    rebuilds accepts b (ActiveFromStaging dynamic) (not_staging dynamic) g.fuses story layout.staging_at layout.area_len
-    (record { good = g.good; provisioned = g.provisioned; inside = valid.inside.staging }) whole
 
 -- ---- calls of the store
 bank_called : (b : Bank) (ops : List Operation) (story : Story) → mine b (after (called device.Nv ops) story) ≡ mine b story

@@ -1,5 +1,5 @@
 -- How a stretch of one bank ends: all of it was done, or a call failed, which is noted.
-use Rattle.std.proofs.Common.{◌≡◌, ◌∙◌, refl, sym, ap, subst, List, [], ◌∷◌, ◌++◌, ◌⊎◌, inl, inr, Some}
+use Rattle.std.proofs.Common.{◌≡◌, ◌∙◌, refl, sym, ap, subst, List, [], ◌∷◌, ◌++◌, length, ◌⊎◌, inl, inr, Some}
 use Rattle.pfr_flash.specs.declared.names.Bank.{Bank}
 use Rattle.pfr_flash.specs.declared.names.Bank.TheVariants as bank
 use Rattle.pfr_flash.specs.declared.names.Counts.{Counts}
@@ -14,8 +14,11 @@ use Rattle.pfr_story.specs.World.{World, story_of}
 use Rattle.pfr_story.specs.Course.{Stretch, Crosses, Faults, LosesPower, Steps, lost, Course, Follows}
 use Rattle.pfr_story.specs.Safety.{Rule, AllGood, AllSafe}
 use Rattle.pfr_story.specs.Bringing.{IsOver, IsCalm}
+use Rattle.pfr_story.specs.Plans.{store}
 use Rattle.pfr_story.specs.Turn.{fault_of}
 use Rattle.pfr_story.proofs.Sequence.{after-append}
+use Rattle.pfr_story.proofs.BringAllowed.{IsSized}
+use Rattle.pfr_story.proofs.JobWalks.{store_sized}
 use Rattle.pfr_story.proofs.SafetyLaws.{AllGood-append, safe_whole, safe_cut}
 use Rattle.pfr_story.proofs.Courses.{went_on}
 use Rattle.pfr_story.proofs.Traces.{Traced, Traced-then, Traced-ran, Traced-whole, Traced-cut}
@@ -193,9 +196,9 @@ pub over_alone : (b : Bank) (notes : List Note) → ((c : Bank) (at : Counts) �
 over_alone bank.Bmc notes alone over = let e = alone bank.Pch over.0 over.1 in absurd (let never : bank.Pch ≡ bank.Bmc = e in cc)
 over_alone bank.Pch notes alone over = over
 
--- ---- stretches whose moves are all good, wherever they begin
+-- ---- stretches whose moves are all good, wherever they begin with a store of its size
 pub record IsKept (G : Rule) (s : Stretch) : Type 0 where
-  pub plan : (story : Story) → AllSafe G (s.plan story) story
+  pub plan : (story : Story) → IsSized story → AllSafe G (s.plan story) story
   pub fault : (which : Device) (story : Story) → AllGood G (s.on_fault which) story
 
 abbrev pub AllKept : Rule → List Stretch → Type 0
@@ -203,30 +206,39 @@ AllKept G [] = Unit {0}
 AllKept G (s ∷ ss) = IsKept G s × AllKept G ss
 
 module _ (G : Rule) where
-  pub crossed_traced : (s : Stretch) → IsKept G s → (old mid : World) → Crosses s old mid → Traced G old mid
-  crossed_traced s kept old mid c = Traced-whole G (s.plan (story_of old)) old mid c (kept.plan (story_of old))
+  -- the store keeps its size
+  pub traced_sized : (old new : World) → Traced G old new → IsSized (story_of old) → IsSized (story_of new)
+  traced_sized old new t sized = ap (λ (s : Story). length (store s)) t.is ∙ store_sized t.trace (story_of old) ∙ sized
 
-  pub faulted_traced : (s : Stretch) → IsKept G s → (old mid : World) → Faults s old mid → Traced G old mid
-  faulted_traced s kept old mid f =
-      Traced-then G old f.at mid (Traced-cut G (s.plan (story_of old)) f.which Fault old f.at f.stopped (kept.plan (story_of old)))
+  pub crossed_traced : (s : Stretch) → IsKept G s → (old mid : World) → IsSized (story_of old) → Crosses s old mid → Traced G old mid
+  crossed_traced s kept old mid sized c = Traced-whole G (s.plan (story_of old)) old mid c (kept.plan (story_of old) sized)
+
+  pub faulted_traced : (s : Stretch) → IsKept G s → (old mid : World) → IsSized (story_of old) → Faults s old mid → Traced G old mid
+  faulted_traced s kept old mid sized f =
+      Traced-then G old f.at mid (Traced-cut G (s.plan (story_of old)) f.which Fault old f.at f.stopped (kept.plan (story_of old) sized))
       (Traced-ran G (s.on_fault f.which) f.at mid f.noted (kept.fault f.which (story_of f.at)))
 
   module _ (losses : (which : Device) (story : Story) → G (Says (what.Lost (Some which))) story) where
-    pub lost_traced : (s : Stretch) → IsKept G s → (old new : World) → LosesPower s old new → Traced G old new
-    lost_traced s kept old new l =
-        Traced-then G old l.at new (Traced-cut G (s.plan (story_of old)) l.which Loses old l.at l.stopped (kept.plan (story_of old)))
+    pub lost_traced : (s : Stretch) → IsKept G s → (old new : World) → IsSized (story_of old) → LosesPower s old new → Traced G old new
+    lost_traced s kept old new sized l =
+        Traced-then G old l.at new (Traced-cut G (s.plan (story_of old)) l.which Loses old l.at l.stopped (kept.plan (story_of old) sized))
         (Traced-ran G (lost l.which) l.at new l.noted (losses l.which (story_of l.at), tt))
 
-    pub steps_traced : (ss : List Stretch) → AllKept G ss → (old new : World) → Steps ss old new → Traced G old new
-    steps_traced [] kept old new p = Traced-ran G [] old new p tt
-    steps_traced (s ∷ ss) kept old new (inl (mid, c, rest)) = Traced-then G old mid new (crossed_traced s kept.0 old mid c) (steps_traced ss kept.1 mid new rest)
-    steps_traced (s ∷ ss) kept old new (inr (inl (mid, f, rest))) =
-        Traced-then G old mid new (faulted_traced s kept.0 old mid f)
-        (went_on s.goes_on (Steps ss) mid new (Traced G mid new) (λ e r. steps_traced ss kept.1 mid new r) (λ r. Traced-ran G [] mid new r tt) rest)
-    steps_traced (s ∷ ss) kept old new (inr (inr l)) = lost_traced s kept.0 old new l
+    pub steps_traced : (ss : List Stretch) → AllKept G ss → (old new : World) → IsSized (story_of old) → Steps ss old new → Traced G old new
+    steps_traced [] kept old new sized p = Traced-ran G [] old new p tt
+    steps_traced (s ∷ ss) kept old new sized (inl (mid, c, rest)) =
+        let first : Traced G old mid = crossed_traced s kept.0 old mid sized c in
+        Traced-then G old mid new first (steps_traced ss kept.1 mid new (traced_sized old mid first sized) rest)
+    steps_traced (s ∷ ss) kept old new sized (inr (inl (mid, f, rest))) =
+        let first : Traced G old mid = faulted_traced s kept.0 old mid sized f in
+        Traced-then G old mid new first
+        (went_on s.goes_on (Steps ss) mid new (Traced G mid new) (λ e r. steps_traced ss kept.1 mid new (traced_sized old mid first sized) r) (λ r. Traced-ran G [] mid new r tt) rest)
+    steps_traced (s ∷ ss) kept old new sized (inr (inr l)) = lost_traced s kept.0 old new sized l
 
-    pub course_traced : (c : Course) (first new : World) → AllGood G c.first (story_of first) → AllKept G c.stretches → Follows c first new → Traced G first new
-    course_traced c first new good kept (mid, start, rest) = Traced-then G first mid new (Traced-ran G c.first first mid start good) (steps_traced c.stretches kept mid new rest)
+    pub course_traced : (c : Course) (first new : World) → AllGood G c.first (story_of first) → AllKept G c.stretches → IsSized (story_of first) → Follows c first new → Traced G first new
+    course_traced c first new good kept sized (mid, start, rest) =
+        let begun : Traced G first mid = Traced-ran G c.first first mid start good in
+        Traced-then G first mid new begun (steps_traced c.stretches kept mid new (traced_sized first mid begun sized) rest)
 
   -- and the notes that they make
   module _ (P : What → Type 0) (says : (w : Counts → What) (story : Story) → G (Says w) story → P (w (counts_of story))) where

@@ -28,18 +28,22 @@ use Rattle.pfr_story.specs.Guards.{Guard}
 use Rattle.pfr_story.specs.Story.{Story, Says, noted, counts_of, called}
 use Rattle.pfr_story.specs.World.{World, story_of, IsDark, added}
 use Rattle.pfr_story.specs.Safety.{Rule, AllSafe}
-use Rattle.pfr_story.specs.Plans.{store, migration_in, provisioned_in, refusal_of, is_dynamic}
+use Rattle.pfr_story.specs.JobPlans.{job_notes}
+use Rattle.pfr_story.specs.Plans.{store, migration_in, provisioned_in, refusal_of, brought_up, expired}
+use Rattle.pfr_story.specs.UpdatePlans.{updating}
 use Rattle.pfr_story.specs.Course.{Stretch, Steps, Course, Follows}
 use Rattle.pfr_story.specs.Standing.{standing_of, is_off, is_running}
 use Rattle.pfr_story.specs.Turn.{off_course, ignored, ignored_if, is_due, stage_at, tick_course, pass_note, is_idle, taken, ticked_if, begun, Turn}
 use Rattle.pfr_story.specs.Promises.{AreOff, IsIgnored, IsUneventful, IsUnnoted, StaysQuiet, LostEnds, LostIsDark, Runs, IsAtStage, BelongsTo, NotesBelong}
 use Rattle.pfr_story.proofs.SafetyLaws.{AllSafe-append}
 use Rattle.pfr_story.proofs.Courses.{IsTakenBy, Turn-cases, taken_runs, taken_boots}
-use Rattle.pfr_story.proofs.BringRules.{level_at, AllowsUpdate}
+use Rattle.pfr_story.proofs.BringMakes.{Whenever, made_told, MayCheck, MayUpdate, brought_made, expired_made, updating_made}
+use Rattle.pfr_story.proofs.BringRules.{Any, level_at}
 use Rattle.pfr_story.proofs.BusRules.{AllowsSpi, spi_safe, AllowsSmbus, smbus_safe}
 use Rattle.pfr_story.proofs.Traces.{Saying, call_says, Traced, Traced-known}
-use Rattle.pfr_story.proofs.Made.{Made, added_said}
-use Rattle.pfr_story.proofs.StepTraces.{AllowsBanks, pass_noted, noted_good, power_good, provision_traced, spi_traced, smbus_traced, tick_traced, failed_traced, update_traced}
+use Rattle.pfr_story.proofs.JobMakes.{AreJobNotes}
+use Rattle.pfr_story.proofs.Made.{Whichever, Made, added_said}
+use Rattle.pfr_story.proofs.StepTraces.{AllowsFaults, pass_noted, noted_by, power_by, provision_by, spi_by, smbus_by, tick_by, failed_by, update_by}
 use Rattle.pfr_story.proofs.StoreLaws.{judged_here}
 
 -- what is noted of what was judged of a provision
@@ -51,20 +55,13 @@ outcome_of (Err cause) = what.ProvisionRefused (refusal_of cause)
 abbrev Belongs : Event → World → Rule
 Belongs e old = Saying (λ that story. BelongsTo e old that)
 
--- what is noted of banks, and of losses of power, belongs to each
-banks_belong : (e : Event) (old : World) → AllowsBanks (Belongs e old)
-banks_belong e old = record {
-  held = λ b story. tt;
-  bank = λ b. record {
-    released = λ svn story. tt;
-    locked = λ cause story. tt;
-    untrusted = λ cause story. tt;
-    restored = λ level story. tt;
-    asks = λ which story own. tt;
-    works = λ op story. tt;
-  };
-  lost = λ which story. tt;
-}
+-- what is noted at faults belongs to each
+faults_belong : (e : Event) (old : World) → AllowsFaults (Belongs e old)
+faults_belong e old = record { held = λ b story. tt; locked = λ b which story. tt; lost = λ which story. tt }
+
+-- and all that is noted of a bank that is checked, or brought back
+checks_belong : (e : Event) (old : World) (b : Bank) → MayCheck (Whenever (λ that. BelongsTo e old that)) b
+checks_belong e old b = record { held = λ at. tt; released = λ svn at. tt; locked = λ cause at. tt; untrusted = λ cause at. tt; restored = λ level at. tt }
 
 provision_belongs : (root : RootSlot) (old : World) → ¬ AreOff old → (r : Result ℕ FuseFail) (story : Story) → AllSafe (Belongs (event.Provision root) old) (provisioned_in root r story) story
 provision_belongs root old on (Ok number) story =
@@ -111,46 +108,70 @@ pass_belongs b old new runs undone t =
     let e : Event = event.Boot b true in
     let at : Stage = stage_at b (story_of old) in
     let here : IsAtStage b at old = record { runs = runs; at = refl; undone = undone } in
-    noted_good (Belongs e old) (banks_belong e old) (begun e old) new (taken_boot b old).first t
+    noted_by (Belongs e old) (faults_belong e old) (begun e old) new Any (λ w moved. tt) (taken_boot b old).first t
     (pass_noted (λ (that : What). BelongsTo e old that) b at (next_stage at) (λ last. (refl, at, here, last)) (λ more. (refl, here, more)), tt)
 
-update_belongs : (b : Bank) (intent : Intent) (old : World) → Runs b old → AllowsUpdate (Belongs (event.Update b intent) old) b (is_dynamic intent)
-update_belongs b intent old runs = record { updated = λ svn story. (runs, (refl, refl)); refused = λ cause story. (runs, refl) }
+-- jobs are taken up at a power-on
+jobs_belong : (old : World) (b : Bank) → AreJobNotes Whichever (Whenever (λ that. BelongsTo event.Power old that)) b tt tt (job_notes b)
+jobs_belong old b = record { resumes = λ kind at. tt; gives = λ at. inl tt; tells = λ svn at. inl tt; restores = λ level at. tt; updates = λ dynamic svn at. inl tt }
 
-taken_belong : (accepts : Acceptance) (e : Event) (old new : World) → IsTakenBy accepts e old new → Traced (Belongs e old) (begun e old) new
-taken_belong accepts event.Power old new on =
-    power_good (Belongs event.Power old) (banks_belong event.Power old) (λ story. Unit {0}) accepts (begun event.Power old) new
-    (λ story any. (tt, call_says (λ that here. BelongsTo event.Power old that) device.Nv (migration_in (fuses_of (store story))) story)) tt tt on.1
-taken_belong accepts event.Off old new on = noted_good (Belongs event.Off old) (banks_belong event.Off old) (begun event.Off old) new off_course.first on.1 (tt, tt)
-taken_belong accepts (event.Provision root) old new on =
-    let e : Event = event.Provision root in
-    provision_traced (Belongs e old) (banks_belong e old) (λ story. Unit {0}) root (begun e old) new
-    (λ story any. (tt, provision_belongs root old (λ off. false≢true (sym on.0 ∙ off)) (judged_here root story) story)) tt on.1
-taken_belong accepts (event.Spi b frame) old new on =
-    let e : Event = event.Spi b frame in
-    spi_traced (Belongs e old) (banks_belong e old) (λ story. Unit {0}) accepts b frame (begun e old) new
-    (λ story any. spi_safe (Belongs e old) accepts b frame (spi_belongs b frame old (taken_runs (standing_of b old.notes.list) on.0)) story) tt on.1
-taken_belong accepts (event.Smbus b frame) old new on =
-    let e : Event = event.Smbus b frame in
-    smbus_traced (Belongs e old) (banks_belong e old) accepts b frame (story_of old) (begun e old) new
-    (smbus_safe (Belongs e old) accepts b frame (smbus_belongs b frame old (taken_runs (standing_of b old.notes.list) on.0)) (story_of old) (story_of (begun e old))) on.1
-taken_belong accepts (event.Tick n) old new on =
-    let e : Event = event.Tick n in
-    tick_traced (Belongs e old) (banks_belong e old) accepts n (story_of old) (begun e old) new (λ b there due same. (due, same ∙ ticked_level b n old)) on.1
-taken_belong accepts (event.Boot b true) old new on =
-    let k = taken_boots (standing_of b old.notes.list) (stage_at b (story_of old)) on.0 in
-    pass_belongs b old new k.0 k.1 on.1
-taken_belong accepts (event.Boot b false) old new on =
-    let e : Event = event.Boot b false in
-    failed_traced (Belongs e old) (banks_belong e old) accepts b (begun e old) new ((refl, on.0), refl) on.1
-taken_belong accepts (event.Update b intent) old new on =
-    let e : Event = event.Update b intent in
-    update_traced (Belongs e old) (banks_belong e old) accepts b intent (begun e old) new (update_belongs b intent old (taken_runs (standing_of b old.notes.list) on.0)) on.1
+-- what an update comes to
+update_belongs : (b : Bank) (intent : Intent) (old : World) → Runs b old → MayUpdate (Whenever (λ that. BelongsTo (event.Update b intent) old that)) b intent
+update_belongs b intent old runs = record {
+  refused = λ cause at. (runs, refl);
+  updated = λ dynamic is svn at. inr (runs, (refl, is));
+  given_up = λ is at. inr (runs, (refl, is));
+  recovery_updated = λ is svn at. inr (runs, (refl, is));
+  cancelled = λ is type id at. (b, runs, (refl, is));
+}
+
+module _ (accepts : Acceptance) (old new : World) where
+  expired_belongs : (e : Event) (b : Bank) (story : Story) → BelongsTo e old (what.Expired b (level_at b story)) → AllSafe (Belongs e old) (expired accepts b story) story
+  expired_belongs e b story told =
+      made_told Whichever (λ that. BelongsTo e old that) (expired accepts b story) story
+      (expired_made Whichever (Whenever (λ that. BelongsTo e old that)) b tt tt (checks_belong e old b) accepts story (λ at. told))
+
+  taken_belong : (e : Event) → IsTakenBy accepts e old new → Traced (Belongs e old) (begun e old) new
+  taken_belong event.Power on =
+      power_by (Belongs event.Power old) (faults_belong event.Power old) (begun event.Power old) new Any (λ w moved. tt) Any accepts
+      (λ story any. (tt, call_says (λ that here. BelongsTo event.Power old that) device.Nv (migration_in (fuses_of (store story))) story))
+      (λ b story any.
+      made_told Whichever (λ that. BelongsTo event.Power old that) (brought_up accepts b story) story
+      (brought_made Whichever (Whenever (λ that. BelongsTo event.Power old that)) b tt tt (checks_belong event.Power old b) accepts (jobs_belong old b) story)) tt tt on.1
+  taken_belong event.Off on = noted_by (Belongs event.Off old) (faults_belong event.Off old) (begun event.Off old) new Any (λ w moved. tt) off_course.first on.1 (tt, tt)
+  taken_belong (event.Provision root) on =
+      let e : Event = event.Provision root in
+      provision_by (Belongs e old) (faults_belong e old) (begun e old) new Any (λ w moved. tt) Any root
+      (λ story any. (tt, provision_belongs root old (λ off. false≢true (sym on.0 ∙ off)) (judged_here root story) story)) tt on.1
+  taken_belong (event.Spi b frame) on =
+      let e : Event = event.Spi b frame in
+      spi_by (Belongs e old) (faults_belong e old) (begun e old) new Any (λ w moved. tt) Any accepts b frame
+      (λ story any. spi_safe (Belongs e old) accepts b frame (spi_belongs b frame old (taken_runs (standing_of b old.notes.list) on.0)) story) tt on.1
+  taken_belong (event.Smbus b frame) on =
+      let e : Event = event.Smbus b frame in
+      smbus_by (Belongs e old) (faults_belong e old) (begun e old) new Any (λ w moved. tt) accepts b frame (story_of old)
+      (smbus_safe (Belongs e old) accepts b frame (smbus_belongs b frame old (taken_runs (standing_of b old.notes.list) on.0)) (story_of old) (story_of (begun e old))) on.1
+  taken_belong (event.Tick n) on =
+      let e : Event = event.Tick n in
+      tick_by (Belongs e old) (faults_belong e old) (begun e old) new Any (λ w moved. tt) accepts n (story_of old)
+      (λ b there any due same. expired_belongs e b there (due, same ∙ ticked_level b n old)) on.1
+  taken_belong (event.Boot b true) on =
+      let k = taken_boots (standing_of b old.notes.list) (stage_at b (story_of old)) on.0 in
+      pass_belongs b old new k.0 k.1 on.1
+  taken_belong (event.Boot b false) on =
+      let e : Event = event.Boot b false in
+      failed_by (Belongs e old) (faults_belong e old) (begun e old) new Any (λ w moved. tt) accepts b (λ any. expired_belongs e b (story_of (begun e old)) ((refl, on.0), refl)) on.1
+  taken_belong (event.Update b intent) on =
+      let e : Event = event.Update b intent in
+      update_by (Belongs e old) (faults_belong e old) (begun e old) new Any (λ w moved. tt) accepts b intent
+      (λ any.
+      made_told Whichever (λ that. BelongsTo e old that) (updating accepts b intent (story_of (begun e old))) (story_of (begun e old))
+      (updating_made Whichever (Whenever (λ that. BelongsTo e old that)) b tt tt (checks_belong e old b) accepts intent (update_belongs b intent old (taken_runs (standing_of b old.notes.list) on.0)) (story_of (begun e old)))) on.1
 
 all_belong : (accepts : Acceptance) (e : Event) (old new : World) → Turn accepts e old new → Traced (Belongs e old) (begun e old) new
 all_belong accepts e old new t = elim (Turn-cases accepts e old new t) [
-  | inl idle ↦ noted_good (Belongs e old) (banks_belong e old) (begun e old) new ignored.first idle.1 (idle.0, tt)
-  | inr on ↦ taken_belong accepts e old new on
+  | inl idle ↦ noted_by (Belongs e old) (faults_belong e old) (begun e old) new Any (λ w moved. tt) ignored.first idle.1 (idle.0, tt)
+  | inr on ↦ taken_belong accepts old new e on
 ]
 
 -- Each note that a step adds belongs to its event.

@@ -1,5 +1,5 @@
 -- What comes of an expired watch of one bank, whose fuses can be read.
-use Rattle.std.proofs.Common.{◌≡◌, ◌∙◌, refl, sym, ap, subst, ℕ, Bool, true, false, List, [], ◌∷◌, length, inl, inr, Result, Ok, Err}
+use Rattle.std.proofs.Common.{◌≡◌, ◌∙◌, refl, sym, ap, subst, arith, ℕ, ◌≤◌, Bool, true, false, List, [], ◌∷◌, length, inl, inr, Result, Ok, Err}
 use Rattle.std.specs.Prelude.{nat_lt}
 use Rattle.pfr_flash.specs.Bytes.{AreBytes}
 use Rattle.pfr_flash.specs.Layout.{IsBankSize}
@@ -15,7 +15,10 @@ use Rattle.pfr_manifest.specs.declared.manifest.Manifest.{Manifest}
 use Rattle.pfr_capsule.specs.CapsuleState.{CapsuleState}
 use Rattle.pfr_capsule.specs.declared.fail.CapsuleFail.{CapsuleFail}
 use Rattle.pfr_auth.specs.declared.fail.ActiveFail.{ActiveFail}
+use Rattle.pfr_jobs.specs.Log.{open_job}
+use Rattle.pfr_jobs.specs.LogPlans.{IsKind}
 use Rattle.pfr_jobs.specs.declared.job.JobKind.TheVariants.{ActiveFromRecovery}
+use Rattle.pfr_jobs.specs.declared.job.OpenJob.TheVariants as job
 use Rattle.pfr_report.specs.Texts.{IsNoted}
 use Rattle.pfr_report.specs.declared.note.LockWhy.{LockWhy}
 use Rattle.pfr_report.specs.declared.note.LockWhy.TheVariants as why
@@ -25,17 +28,24 @@ use Rattle.pfr_report.specs.declared.note.What.TheVariants as what
 use Rattle.pfr_story.specs.Story.{Story, Move, Says, Asks, after, noted, counts_of, device_of}
 use Rattle.pfr_story.specs.World.{World, story_of, AllMoved, added}
 use Rattle.pfr_story.specs.Safety.{AllSafe}
-use Rattle.pfr_story.specs.Plans.{mine, judged_active, judged_recovery, job_ops, restored, by_second, checked_again, by_capsule, recovered_with, by_level, expired_to}
+use Rattle.pfr_story.specs.Plans.{mine, store, judged_active, judged_recovery, restored, by_second, checked_again, by_capsule, recovered_with, by_level, expired_to}
 use Rattle.pfr_story.specs.Bringing.{IsOver, IsCalm, IsNotedBehind}
 use Rattle.pfr_story.specs.Turn.{fault_of}
 use Rattle.pfr_story.proofs.SafetyLaws.{AllSafe-append, image_noted}
 use Rattle.pfr_story.proofs.RestoreLaws.{not_recovery, found_good}
 use Rattle.pfr_story.proofs.BringRules.{IsReady, ready_noted, ready_is}
-use Rattle.pfr_story.proofs.Traces.{Saying, call_says, Traced-known, KnownBefore}
+use Rattle.pfr_story.proofs.Traces.{Saying, Traced-known, KnownBefore}
 use Rattle.pfr_story.proofs.Made.{said, added_said, behind_next}
 use Rattle.pfr_story.proofs.Endings.{IsTrouble, IsBroken, Ending, ends_behind, ends_done, ended_trace, ended_is, ended_good, ends_whole}
-use Rattle.pfr_story.proofs.AnewLaws.{MadeFrom, IsAnew, anew_releases}
-use Rattle.pfr_story.proofs.JobLaws.{copying, whole_job, job_ends, IsOther, cut_untold}
+use Rattle.pfr_story.proofs.AnewLaws.{MadeFrom, IsAnew}
+use Rattle.pfr_story.proofs.FoundLaws.{found_begins}
+use Rattle.pfr_story.proofs.JobFront.{job_true}
+use Rattle.pfr_story.proofs.JobRestores.{anew_releases}
+use Rattle.pfr_story.proofs.JobLaws.{working, whole_job, job_ends, IsOther, cut_untold}
+
+-- a restore at such a level is a job that there may be
+valid_level : (level : ℕ) → 1 ≤ level → nat_lt level 4 ≡ true → IsKind (ActiveFromRecovery level)
+valid_level level low e = (low, grind (arith, e))
 
 -- where a bank is held behind its expiry
 abbrev pub held_from : Bank → ℕ → Story → Story
@@ -70,7 +80,7 @@ module _ (accepts : Acceptance) (b : Bank) (level : ℕ) (fuses : FusesState) (f
   second_known (Ok m) story = (tt, tt)
   second_known (Err cause) story = tt
 
-  module _ (ready : IsReady b fuses from) where
+  module _ (ready : IsReady b fuses from) (sized : length (store from) ≡ 32768) where
     pub ready_there : IsReady b fuses there
     ready_there = ready_noted b fuses (what.Held b) (noted (λ _. what.Expired b level) from) (ready_noted b fuses (λ _. what.Expired b level) from ready)
 
@@ -84,11 +94,10 @@ module _ (accepts : Acceptance) (b : Bank) (level : ℕ) (fuses : FusesState) (f
     -- ---- each of its notes is known
     capsule_known : (judged : Result CapsuleState CapsuleFail) → nat_lt level 4 ≡ true → judged_there ≡ judged → AllSafe (Saying Expiry) (by_capsule accepts b fuses level judged there) there
     capsule_known (Ok capsule) e j =
-        let ops = job_ops (ActiveFromRecovery level) (mine b there) capsule (layout_of fuses.provision b) in
         let made : List Move = restored b level fuses capsule there in
         let left : Story = after made there in
         AllSafe-append (Saying Expiry) made (checked_again accepts b fuses left) there
-        (AllSafe-append (Saying Expiry) _ (Says (λ _. what.Restored b level) ∷ []) there (call_says Expiry (device_of b) ops there) ((e, capsule, j), tt))
+        (job_true b (ActiveFromRecovery level) fuses capsule there (λ unspent. found_begins accepts b fuses (ActiveFromRecovery level) capsule there j sized unspent) Expiry (what.Restored b level) (e, capsule, j))
         (tt, second_known (judged_active accepts b fuses left) left)
     capsule_known (Err cause) e j = ((e, refl, j), tt)
 
@@ -97,7 +106,7 @@ module _ (accepts : Acceptance) (b : Bank) (level : ℕ) (fuses : FusesState) (f
     level_known false e = (e, tt)
 
 -- ---- from one world to another
-module _ (accepts : Acceptance) (b : Bank) (level : ℕ) (L : Type 0) (fuses : FusesState) (at end : World) (ready : IsReady b fuses (story_of at))
+module _ (accepts : Acceptance) (b : Bank) (level : ℕ) (L : Type 0) (fuses : FusesState) (at end : World) (ready : IsReady b fuses (story_of at)) (sized : length (store (story_of at)) ≡ 32768)
     (ending : Ending b L (expired_to accepts b level (story_of at)) (story_of at) (story_of end)) where
   abbrev start : Story
   start = story_of at
@@ -122,7 +131,7 @@ module _ (accepts : Acceptance) (b : Bank) (level : ℕ) (L : Type 0) (fuses : F
 
   work_is : (answer : Result CapsuleState CapsuleFail) → nat_lt level 4 ≡ true → found ≡ answer → work ≡ by_found answer
   work_is answer e j =
-      ap (λ (below : Bool). by_level accepts b level below held) e ∙ level_is accepts b level fuses start ready
+      ap (λ (below : Bool). by_level accepts b level below held) e ∙ level_is accepts b level fuses start ready sized
       ∙ ap (λ (r : Result CapsuleState CapsuleFail). by_found r) j
 
   abbrev with_expiry : List Move → List Move
@@ -147,7 +156,7 @@ module _ (accepts : Acceptance) (b : Bank) (level : ℕ) (L : Type 0) (fuses : F
       Traced-known Known at end (record {
         trace = with_expiry (ended_trace b L work held (story_of end) behind);
         is = ended_is b L work held (story_of end) behind;
-        good = ((refl, refl), (refl, ended_good b L work held (story_of end) (Saying Known) (level_known accepts b level fuses start ready (nat_lt level 4) refl) (trouble_known accepts b level fuses start L) behind));
+        good = ((refl, refl), (refl, ended_good b L work held (story_of end) (Saying Known) (level_known accepts b level fuses start ready sized (nat_lt level 4) refl) (trouble_known accepts b level fuses start L) behind));
         moved = moved;
       })
 
@@ -170,14 +179,14 @@ module _ (accepts : Acceptance) (b : Bank) (level : ℕ) (L : Type 0) (fuses : F
     pub locked_noted : (cause : CapsuleFail) → found ≡ Err cause → IsNoted (added at end) (what.Locked b (why.NoRecovery cause) (counts_of held))
     locked_noted cause j = made_noted (by_found (Err cause)) (whole_by (Err cause) j) (what.Locked b (why.NoRecovery cause) (counts_of held)) (inr (inr (inl refl)))
 
-    pub restored_noted : (capsule : CapsuleState) → MadeFrom accepts b fuses capsule held → found ≡ Ok capsule
+    pub restored_noted : open_job (store start) b ≡ job.None → 1 ≤ level → (capsule : CapsuleState) → MadeFrom accepts b fuses capsule held → found ≡ Ok capsule
         → IsNotedBehind (what.Restored b level) (what.Released b capsule.manifest.svn (counts_of (after (restored b level fuses capsule held) held))) (added at end)
-    restored_noted capsule from j =
+    restored_noted none low capsule from j =
         let this : What = what.Restored b level in
         let that : What = what.Released b capsule.manifest.svn (counts_of (after (restored b level fuses capsule held) held)) in
         let expiry : Note = record { item = start.item; what = what.Expired b level } in
         let hold : Note = record { item = start.item; what = what.Held b (counts_of start) } in
-        let anew = anew_releases accepts b (ActiveFromRecovery level) (not_recovery level) this held fuses capsule from in
+        let anew = anew_releases accepts b (ActiveFromRecovery level) (not_recovery level) fuses capsule this held from sized none (valid_level level low e) in
         subst (λ (all : List Note). IsNotedBehind this that all) (sym (added_with (by_found (Ok capsule)) (whole_by (Ok capsule) j))) (behind_next this that expiry _ (behind_next this that hold _ anew))
 
   -- ---- what it is made from, and what is made where a restore is told
@@ -185,8 +194,8 @@ module _ (accepts : Acceptance) (b : Bank) (level : ℕ) (L : Type 0) (fuses : F
     pub made_from : (capsule : CapsuleState) → found ≡ Ok capsule → MadeFrom accepts b fuses capsule held
     made_from capsule j =
         let layout : Layout = layout_of fuses.provision b in
-        let r = ready_there accepts b level fuses start ready in
-        let same : mine b start ≡ mine b held = sym (mine_there accepts b level fuses start ready) in
+        let r = ready_there accepts b level fuses start ready sized in
+        let same : mine b start ≡ mine b held = sym (mine_there accepts b level fuses start ready sized) in
         let held_bytes : AreBytes (mine b held) = subst AreBytes same bytes in
         let good = found_good accepts b fuses capsule held r.provisioned r.layout held_bytes j in
         record {
@@ -200,12 +209,13 @@ module _ (accepts : Acceptance) (b : Bank) (level : ℕ) (L : Type 0) (fuses : F
           bytes = held_bytes;
         }
 
-    restored_untold : (capsule : CapsuleState) → AllMoved at end → IsBroken b L (copying accepts b (ActiveFromRecovery level) (not_recovery level) (what.Restored b level) held fuses capsule) held (story_of end)
+    restored_untold : (capsule : CapsuleState) → found ≡ Ok capsule → AllMoved at end → IsBroken b L (working accepts b (ActiveFromRecovery level) (not_recovery level) (what.Restored b level) held fuses capsule) held (story_of end)
         → ¬ IsNoted (added at end) (what.Restored b level)
-    restored_untold capsule moved p n =
+    restored_untold capsule j moved p n =
         let told : What = what.Restored b level in
-        let moves : List Move = copying accepts b (ActiveFromRecovery level) (not_recovery level) told held fuses capsule in
-        let cut = cut_untold accepts b (ActiveFromRecovery level) (not_recovery level) told held fuses capsule L (λ cause then e. cc) (λ d then e. cc) (story_of end) p in
+        let moves : List Move = working accepts b (ActiveFromRecovery level) (not_recovery level) told held fuses capsule in
+        let cut = cut_untold accepts b (ActiveFromRecovery level) (not_recovery level) told held fuses capsule L (λ cause then e. cc) (λ d then e. cc)
+        (λ unspent. found_begins accepts b fuses (ActiveFromRecovery level) capsule held j sized unspent) (story_of end) p in
         (Traced-known (IsOther told) at end (record {
           trace = with_expiry (ended_trace b L moves held (story_of end) (inr p));
           is = ended_is b L moves held (story_of end) (inr p);
@@ -213,13 +223,13 @@ module _ (accepts : Acceptance) (b : Bank) (level : ℕ) (L : Type 0) (fuses : F
           moved = moved;
         }) told n).1 refl
 
-    pub restored_anew : AllMoved at end → nat_lt level 4 ≡ true → (capsule : CapsuleState) → found ≡ Ok capsule → IsNoted (added at end) (what.Restored b level)
+    pub restored_anew : open_job (store start) b ≡ job.None → 1 ≤ level → AllMoved at end → nat_lt level 4 ≡ true → (capsule : CapsuleState) → found ≡ Ok capsule → IsNoted (added at end) (what.Restored b level)
         → IsAnew accepts b (ActiveFromRecovery level) fuses capsule (mine b held) (story_of end)
-    restored_anew moved e capsule j n =
+    restored_anew none low moved e capsule j n =
         let told : What = what.Restored b level in
         let work_here : Ending b L (whole_job accepts b (ActiveFromRecovery level) (not_recovery level) told held fuses capsule) held (story_of end) =
         subst (λ (moves : List Move). Ending b L moves held (story_of end)) (work_is (Ok capsule) e j) behind in
-        elim (job_ends accepts b (ActiveFromRecovery level) (not_recovery level) told held fuses capsule (made_from capsule j) L (story_of end) work_here) [
-          | inl p ↦ absurd (restored_untold capsule moved p n)
+        elim (job_ends accepts b (ActiveFromRecovery level) (not_recovery level) told held fuses capsule (made_from capsule j) sized none (valid_level level low e) L (story_of end) work_here) [
+          | inl p ↦ absurd (restored_untold capsule j moved p n)
           | inr anew ↦ anew
         ]

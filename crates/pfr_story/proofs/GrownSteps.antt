@@ -11,16 +11,19 @@ use Rattle.pfr_fuses.specs.Growth.{NeverGoesBack, KeepsProvision}
 use Rattle.pfr_script.specs.declared.event.Event.{Event}
 use Rattle.pfr_script.specs.declared.event.Event.TheVariants as event
 use Rattle.pfr_story.specs.Course.{Follows}
+use Rattle.pfr_story.specs.JobPlans.{job_notes}
 use Rattle.pfr_story.specs.Plans.{store}
 use Rattle.pfr_story.specs.Promises.{AreOff, IsKnownSlot}
 use Rattle.pfr_story.specs.Story.{Story}
 use Rattle.pfr_story.specs.Turn.{off_course, boot_course, ignored, is_idle, taken, begun, Turn}
 use Rattle.pfr_story.specs.World.{World, story_of, AreDevices}
+use Rattle.pfr_story.proofs.BringAllowed.{AllowsUpdate}
 use Rattle.pfr_story.proofs.BringRules.{Any}
 use Rattle.pfr_story.proofs.BusRules.{AllowsSpi, spi_safe, smbus_safe}
 use Rattle.pfr_story.proofs.Bytes.{have_bytes, images_then}
 use Rattle.pfr_story.proofs.Courses.{Turn-cases}
-use Rattle.pfr_story.proofs.JobGrowth.{Growing, grown, own_growing, migration_grows, provision_grows}
+use Rattle.pfr_story.proofs.JobGrowth.{Growing, grown, own_growing, jobs_grow, jobs_grow_told, cancel_grows, migration_grows, provision_grows}
+use Rattle.pfr_story.proofs.JobSafetyCancelled.{own_signs}
 use Rattle.pfr_story.proofs.StepTraces.{AllowsBanks, noted_good, power_good, provision_traced, spi_traced, smbus_traced, tick_traced, failed_traced, update_traced}
 use Rattle.pfr_story.proofs.Traces.{Traced, precedes_moved}
 use Rattle.pfr_story.proofs.Turns.{Turn-moved}
@@ -32,11 +35,17 @@ growing_banks = record {
     released = λ svn story. tt;
     locked = λ cause story. tt;
     untrusted = λ cause story. tt;
-    restored = λ level story. tt;
-    asks = λ which story own. tt;
-    works = λ op story. own_growing b op story;
+    jobs = jobs_grow b;
+    tells = jobs_grow_told b (job_notes b);
   };
   lost = λ which story. tt;
+}
+
+growing_update : (b : Bank) → AllowsUpdate Growing b
+growing_update b = record {
+  refused = λ cause story. tt;
+  cancelled = λ type id story. tt;
+  cancels = λ type id story own few size. cancel_grows type id story (own_signs b type own) few;
 }
 
 growing_spi : (b : Bank) → AllowsSpi Growing b
@@ -47,27 +56,27 @@ abbrev IsWhole : Story → Type 0
 IsWhole story = (length (store story) ≡ 32768) × AreBytes (store story)
 
 module _ (accepts : Acceptance) (old new : World) where
-  boot_grown : (b : Bank) (pass : Bool) (first : World) (story : Story) → Follows (boot_course accepts b pass story) first new → Traced Growing first new
-  boot_grown b true first story t = noted_good Growing growing_banks first new (boot_course accepts b true story).first t (tt, tt)
-  boot_grown b false first story t = failed_traced Growing growing_banks accepts b first new tt t
+  boot_grown : (b : Bank) (pass : Bool) (first : World) (story : Story) → size_of first.nv ≡ 32768 → Follows (boot_course accepts b pass story) first new → Traced Growing first new
+  boot_grown b true first story size t = noted_good Growing growing_banks first new (boot_course accepts b true story).first t (tt, tt)
+  boot_grown b false first story size t = failed_traced Growing growing_banks accepts b first new tt size t
 
-  taken_grown : (e : Event) → IsWhole (story_of old) → (¬ AreOff old → IsKnownSlot e) → is_idle e (story_of old) ≡ false → Follows (taken accepts e (story_of old)) (begun e old) new
+  taken_grown : (e : Event) → size_of old.nv ≡ 32768 → IsWhole (story_of old) → (¬ AreOff old → IsKnownSlot e) → is_idle e (story_of old) ≡ false → Follows (taken accepts e (story_of old)) (begun e old) new
       → Traced Growing (begun e old) new
-  taken_grown event.Power whole slot on t = power_good Growing growing_banks IsWhole accepts (begun event.Power old) new (λ story p. migration_grows story p.0 p.1) tt whole t
-  taken_grown event.Off whole slot on t = noted_good Growing growing_banks (begun event.Off old) new off_course.first t (tt, tt)
-  taken_grown (event.Provision root) whole slot on t =
+  taken_grown event.Power size whole slot on t = power_good Growing growing_banks IsWhole accepts (begun event.Power old) new (λ story p. migration_grows story p.0 p.1) tt whole size t
+  taken_grown event.Off size whole slot on t = noted_good Growing growing_banks (begun event.Off old) new off_course.first t (tt, tt)
+  taken_grown (event.Provision root) size whole slot on t =
       provision_traced Growing growing_banks Any root (begun (event.Provision root) old) new
       (λ story any. provision_grows root story (slot (λ (off : AreOff old). false≢true (sym on ∙ off)))) tt t
-  taken_grown (event.Spi b frame) whole slot on t =
+  taken_grown (event.Spi b frame) size whole slot on t =
       spi_traced Growing growing_banks Any accepts b frame (begun (event.Spi b frame) old) new (λ story any. spi_safe Growing accepts b frame (growing_spi b) story) tt t
-  taken_grown (event.Smbus b frame) whole slot on t =
+  taken_grown (event.Smbus b frame) size whole slot on t =
       let first : World = begun (event.Smbus b frame) old in
       smbus_traced Growing growing_banks accepts b frame (story_of old) first new
       (smbus_safe Growing accepts b frame (record { passed = λ story. tt; blocked = λ cause story. tt }) (story_of old) (story_of first)) t
-  taken_grown (event.Tick n) whole slot on t = tick_traced Growing growing_banks accepts n (story_of old) (begun (event.Tick n) old) new (λ b there due same. tt) t
-  taken_grown (event.Boot b pass) whole slot on t = boot_grown b pass (begun (event.Boot b pass) old) (story_of old) t
-  taken_grown (event.Update b intent) whole slot on t =
-      update_traced Growing growing_banks accepts b intent (begun (event.Update b intent) old) new (record { updated = λ svn story. tt; refused = λ cause story. tt }) t
+  taken_grown (event.Tick n) size whole slot on t = tick_traced Growing growing_banks accepts n (story_of old) (begun (event.Tick n) old) new (λ b there due same. tt) size t
+  taken_grown (event.Boot b pass) size whole slot on t = boot_grown b pass (begun (event.Boot b pass) old) (story_of old) size t
+  taken_grown (event.Update b intent) size whole slot on t =
+      update_traced Growing growing_banks accepts b intent (begun (event.Update b intent) old) new (growing_update b) size t
 
   module _ (e : Event) (size : size_of old.nv ≡ 32768) (held : AreDevices new) (slot : ¬ AreOff old → IsKnownSlot e) (t : Turn accepts e old new) where
     whole_first : IsWhole (story_of old)
@@ -78,7 +87,7 @@ module _ (accepts : Acceptance) (old new : World) where
     pub Turn-growing : Traced Growing (begun e old) new
     Turn-growing = elim (Turn-cases accepts e old new t) [
       | inl idle ↦ noted_good Growing growing_banks (begun e old) new ignored.first idle.1 (tt, tt)
-      | inr on ↦ taken_grown e whole_first slot on.0 on.1
+      | inr on ↦ taken_grown e size whole_first slot on.0 on.1
     ]
 
     -- So no step takes a fuse back, or changes the provision.

@@ -11,13 +11,11 @@ use Rattle.pfr_fuses.specs.RootSlot.{layout_of}
 use Rattle.pfr_manifest.specs.declared.manifest.Manifest.{Manifest}
 use Rattle.pfr_capsule.specs.CapsuleState.{CapsuleState}
 use Rattle.pfr_capsule.specs.declared.fail.CapsuleFail.{CapsuleFail}
-use Rattle.pfr_capsule.proofs.DigestLaw.{good_digest}
 use Rattle.pfr_auth.specs.Areas.{judge_area}
 use Rattle.pfr_auth.specs.declared.areas.Area.TheVariants.{Recovery}
 use Rattle.pfr_jobs.specs.declared.job.JobKind.{JobKind}
 use Rattle.pfr_jobs.specs.declared.job.JobKind.TheVariants.{ActiveFromRecovery, ActiveFromStaging, RecoveryFromStaging}
 use Rattle.pfr_jobs.specs.LogPlans.{finish_plan}
-use Rattle.pfr_jobs.proofs.SlotLaw.{IsDigest}
 use Rattle.pfr_report.specs.declared.note.What.{What}
 use Rattle.pfr_story.specs.Story.{Story, Says, after, device_of}
 use Rattle.pfr_story.specs.Plans.{mine, store}
@@ -30,6 +28,7 @@ use Rattle.pfr_story.proofs.RestoreLaws.{found_good, found_staged}
 use Rattle.pfr_story.proofs.JobPages.{IsSameCapsule}
 use Rattle.pfr_story.proofs.JobSteps.{bank_called}
 use Rattle.pfr_story.proofs.JobDone.{with_job_done}
+use Rattle.pfr_story.proofs.JobRestores.{made_digest}
 use Rattle.pfr_story.proofs.JobRecovery.{IsStaged, second_good, second_stands}
 use Rattle.pfr_story.proofs.JobRecoveryBegun.{IsRecoveryDone, recovery_job_ends}
 use Rattle.pfr_story.proofs.JobResumed.{resumed_ends}
@@ -48,11 +47,6 @@ source_made accepts b RecoveryFromStaging fuses capsule story h j =
     let layout : Layout = layout_of fuses.provision b in
     let found = found_staged accepts b fuses capsule story h.provisioned h.layout h.bytes j in
     record { place = layout.staging_at; len = layout.area_len; good = found.0; capsule_is = found.1; provisioned = h.provisioned; inside = h.layout.inside.staging; size = h.size; bytes = h.bytes }
-
-made_digest : (accepts : Acceptance) (b : Bank) (fuses : FusesState) (capsule : CapsuleState) (story : Story) → MadeFrom accepts b fuses capsule story → IsDigest capsule.digest
-made_digest accepts b fuses capsule story from =
-    let d = good_digest (mine b story) (store story) from.place from.len b accepts from.good in
-    subst (λ (c : CapsuleState). IsDigest c.digest) from.capsule_is (record { long = d.0; bytes = d.1 })
 
 pub resumes : ResumesWhole
 resumes notes accepts which fuses story h =

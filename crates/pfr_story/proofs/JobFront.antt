@@ -1,5 +1,5 @@
 -- A job on an active image, and then its note: what is done before it tells nothing.
-use Rattle.std.proofs.Common.{◌≡◌, ◌∙◌, refl, sym, ap, subst, ℕ, Bool, true, false, List, [], ◌∷◌, ◌++◌, append_assoc, inl, inr}
+use Rattle.std.proofs.Common.{◌≡◌, ◌∙◌, refl, sym, ap, subst, Bool, true, false, List, [], ◌∷◌, ◌++◌, append_assoc, inr}
 use Rattle.pfr_flash.specs.declared.names.Bank.{Bank}
 use Rattle.pfr_flash.specs.declared.names.Counts.{Counts}
 use Rattle.pfr_flash.specs.declared.names.Device.{Device}
@@ -11,11 +11,10 @@ use Rattle.pfr_jobs.specs.LogState.{is_spent}
 use Rattle.pfr_jobs.specs.declared.job.JobKind.{JobKind}
 use Rattle.pfr_report.specs.declared.note.Note.{Note}
 use Rattle.pfr_report.specs.declared.note.What.{What}
-use Rattle.pfr_story.specs.Guards.{Guards}
 use Rattle.pfr_story.specs.JobPlans.{begun_job, finished_job, worked, written_over, by_log, with_job}
 use Rattle.pfr_story.specs.Plans.{store, asks_store}
 use Rattle.pfr_story.specs.Safety.{Rule, AllSafe, AllMake}
-use Rattle.pfr_story.specs.Story.{Story, Move, Says, Does, Asks, Plan, after, then, counts_of, operated}
+use Rattle.pfr_story.specs.Story.{Story, Move, Says, Does, Asks, Plan, after, then, operated}
 use Rattle.pfr_story.proofs.BringRules.{IsOwn, Making, safe_made}
 use Rattle.pfr_story.proofs.JobQuiet.{own_jobs, told_jobs}
 use Rattle.pfr_story.proofs.JobRules.{AllInLog, AllowsJobs}

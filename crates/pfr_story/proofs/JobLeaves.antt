@@ -1,45 +1,47 @@
 -- What a job on a bank does to the store leaves what the other bank's trust reads of it, so that bank's open span goes on.
-use Rattle.std.proofs.Common.{◌≡◌, ◌∙◌, refl, sym, ap, subst, arith, ℕ, ◌+◌, ◌≤◌, ◌<◌, Bool, true, false, List, [], length, ◌⊎◌, inl, inr, Ok}
+use Rattle.std.proofs.Common.{◌≡◌, ◌∙◌, refl, sym, ap, subst, arith, ℕ, ◌+◌, ◌/◌, ◌≤◌, ◌<◌, false, List, [], ◌∷◌, length, inl, inr}
 use Rattle.pfr_flash.specs.Names.{manifest_type}
-use Rattle.pfr_flash.specs.Operation.{Operation, applied}
-use Rattle.pfr_flash.specs.Range.{Leaves, IsWithin, place_of, len_of}
+use Rattle.pfr_flash.specs.FuseRow.{fuse_byte}
+use Rattle.pfr_flash.specs.Operation.{Operation, Program, applied}
+use Rattle.pfr_flash.specs.Range.{Leaves, IsWithin}
 use Rattle.pfr_flash.specs.declared.names.Bank.{Bank}
 use Rattle.pfr_flash.specs.declared.names.Bank.TheVariants as bank
+use Rattle.pfr_flash.specs.declared.names.ContentType.{ContentType}
 use Rattle.pfr_flash.specs.declared.names.Counts.{Counts}
-use Rattle.pfr_flash.specs.declared.names.Device.{Device}
 use Rattle.pfr_flash.specs.declared.names.Device.TheVariants as device
+use Rattle.pfr_flash.proofs.ClearingLemmas.{clearing-within}
 use Rattle.pfr_flash.proofs.PlayLemmas.{length-applied}
 use Rattle.pfr_engine.specs.Acceptance.{Acceptance}
-use Rattle.pfr_fuses.specs.Changes.{SameProvision}
-use Rattle.pfr_fuses.specs.FuseMap.{IsSigning, profile_of, floor_at, floor_width, row_at, row_width}
-use Rattle.pfr_fuses.specs.FusesOf.{fuses_of, fuses_with}
+use Rattle.pfr_fuses.specs.Changes.{SameProvision, cancellation}
+use Rattle.pfr_fuses.specs.FuseMap.{IsSigning, floor_at, floor_width, row_at, row_width}
+use Rattle.pfr_fuses.specs.FusesOf.{fuses_with}
 use Rattle.pfr_fuses.specs.FusesState.{FusesState}
 use Rattle.pfr_fuses.specs.Slots.{slot_at}
 use Rattle.pfr_fuses.specs.declared.profile.Profile.{Profile}
 use Rattle.pfr_fuses.specs.declared.profile.Profile.TheVariants.{One, Two}
 use Rattle.pfr_fuses.proofs.GrowthLemmas.{profile-outside, slots-outside, IsProvisionedBy-same}
 use Rattle.pfr_fuses.proofs.StandsLemmas.{fuses_of-ok, fuses_of-found}
-use Rattle.pfr_fuses.proofs.StaysLemmas.{AreOutside, row_in_sector}
+use Rattle.pfr_fuses.proofs.StaysLemmas.{AreOutside, row_in_sector, row_behind_floors}
 use Rattle.pfr_manifest.specs.declared.manifest.Manifest.{Manifest}
 use Rattle.pfr_auth.specs.Leaving.{LeavesStore}
 use Rattle.pfr_jobs.specs.Log.{log_at}
-use Rattle.pfr_jobs.specs.declared.job.JobKind.{JobKind}
-use Rattle.pfr_jobs.proofs.BeginLaw.{log_low, log_high}
+use Rattle.pfr_jobs.proofs.BeginLaw.{log_low}
 use Rattle.pfr_report.specs.declared.note.What.{What}
 use Rattle.pfr_report.specs.declared.note.What.TheVariants as what
 use Rattle.pfr_story.specs.Guards.{same_bank}
 use Rattle.pfr_story.specs.JobPlans.{JobNotes}
 use Rattle.pfr_story.specs.Keeping.{IsSettled}
 use Rattle.pfr_story.specs.Plans.{store}
-use Rattle.pfr_story.specs.Safety.{Rule, Both}
+use Rattle.pfr_story.specs.Safety.{AllSafe}
 use Rattle.pfr_story.specs.Spans.{opens_after, opens_from}
-use Rattle.pfr_story.specs.Story.{Story, Says, Does, Asks, noted, operated, counts_of, device_of, other_bank}
+use Rattle.pfr_story.specs.Story.{Story, Says, Does, operated, counts_of, called, other_bank}
 use Rattle.pfr_story.proofs.Carried.{Carrying}
 use Rattle.pfr_story.proofs.JobGrowth.{within_outside, floor_apart, row_apart, row_low, floor_in_sector}
-use Rattle.pfr_story.proofs.JobRules.{IsInLog, IsRaise, AllowsJobs}
+use Rattle.pfr_story.proofs.JobRules.{IsInLog, IsRaise, torn_within, AllowsJobs}
+use Rattle.pfr_story.proofs.JobSafetyCancelled.{IsTypeOf, own_signs}
 use Rattle.pfr_story.proofs.JobWalks.{TellsJobs, AllNotes}
-use Rattle.pfr_story.proofs.SafetyLaws.{image_operated, store_operated}
-use Rattle.pfr_story.proofs.SpanLaws.{Spares, SparesOpen, KeepsSpans, IsSettledWhere, open_none, open_any}
+use Rattle.pfr_story.proofs.SafetyLaws.{image_operated}
+use Rattle.pfr_story.proofs.SpanLaws.{Spares, SparesOpen, IsSettledWhere, open_none, open_any}
 use Rattle.pfr_story.proofs.SpanRules.{NotOne, InWork, AtWork, op_safe, op_work, still_work}
 use Rattle.pfr_story.proofs.Traces.{IsStamped}
 
@@ -68,6 +70,10 @@ other_floor bank.Pch One = inl (omega arith)
 other_floor bank.Bmc Two = inr (omega arith)
 other_floor bank.Pch Two = inl (omega arith)
 
+low_floor : (b : Bank) → floor_at One b + 8 ≤ 0x7000
+low_floor bank.Bmc = omega arith
+low_floor bank.Pch = omega arith
+
 floor_low : (b : Bank) → floor_at Two b + 16 ≤ 0x7020
 floor_low bank.Bmc = omega arith
 floor_low bank.Pch = omega arith
@@ -85,6 +91,32 @@ raise_leaves b fuses image op r = record {
   row = apart_leaves (floor_at Two b) 16 (row_at fuses.profile (manifest_type (other_bank b))) (row_width fuses.profile) op r.within (any_row b (other_bank b) fuses.profile);
 }
 
+-- each floor, and the other bank's row of its manifests' keys, lie outside of the row of a type of a bank in profile 2
+floor_before : (which : Bank) (type : ContentType) → IsSigning type → (p : Profile) → AreOutside (row_at Two type) 32 (floor_at p which) (floor_width p)
+floor_before which type s One = inl (omega (arith, low_floor which, (row_in_sector type s).0))
+floor_before which type s Two = inl (row_behind_floors which type s)
+
+other_row : (b : Bank) (type : ContentType) → IsTypeOf b type → (p : Profile) → AreOutside (row_at Two type) 32 (row_at p (manifest_type (other_bank b))) (row_width p)
+other_row bank.Bmc type (inl e) One = subst (λ (t : ContentType). AreOutside (row_at Two t) 32 0x900 16) (sym e) (inl (omega arith))
+other_row bank.Bmc type (inl e) Two = subst (λ (t : ContentType). AreOutside (row_at Two t) 32 0x7020 32) (sym e) (inl (omega arith))
+other_row bank.Bmc type (inr e) One = subst (λ (t : ContentType). AreOutside (row_at Two t) 32 0x900 16) (sym e) (inl (omega arith))
+other_row bank.Bmc type (inr e) Two = subst (λ (t : ContentType). AreOutside (row_at Two t) 32 0x7020 32) (sym e) (inl (omega arith))
+other_row bank.Pch type (inl e) One = subst (λ (t : ContentType). AreOutside (row_at Two t) 32 0x920 16) (sym e) (inl (omega arith))
+other_row bank.Pch type (inl e) Two = subst (λ (t : ContentType). AreOutside (row_at Two t) 32 0x7060 32) (sym e) (inr (omega arith))
+other_row bank.Pch type (inr e) One = subst (λ (t : ContentType). AreOutside (row_at Two t) 32 0x920 16) (sym e) (inl (omega arith))
+other_row bank.Pch type (inr e) Two = subst (λ (t : ContentType). AreOutside (row_at Two t) 32 0x7060 32) (sym e) (inr (omega arith))
+
+-- the cancellation of a key of a bank leaves what the other bank's trust reads
+cancel_leaves : (b : Bank) (type : ContentType) → IsTypeOf b type → (op : Operation) → IsWithin (row_at Two type) 32 op → (fuses : FusesState) → LeavesStore fuses (other_bank b) op
+cancel_leaves b type own op w fuses =
+    let s = own_signs b type own in
+    record {
+      slots = inr (omega (arith, w.low, (row_in_sector type s).0));
+      gate = inr (omega (arith, w.low, (row_in_sector type s).0));
+      floor = apart_leaves (row_at Two type) 32 (floor_at fuses.profile (other_bank b)) (floor_width fuses.profile) op w (floor_before (other_bank b) type s fuses.profile);
+      row = apart_leaves (row_at Two type) 32 (row_at fuses.profile (manifest_type (other_bank b))) (row_width fuses.profile) op w (other_row b type own fuses.profile);
+    }
+
 -- ---- a settled store stays so
 settled_same : (old new : List ℕ) → SameProvision old new → IsSettled old → IsSettled new
 settled_same old new same q =
@@ -95,7 +127,7 @@ settled_same old new same q =
       two = same.profile ∙ sym (ap (λ (x : FusesState). x.profile) found.2) ∙ q.two;
     }
 
-two_same : (old new : List ℕ) → SameProvision old new → NotOne old → NotOne new
+pub two_same : (old new : List ℕ) → SameProvision old new → NotOne old → NotOne new
 two_same old new same two fuses f =
     let found = fuses_of-ok new fuses f in
     ap (λ (x : FusesState). x.profile) found.2 ∙ same.profile
@@ -110,14 +142,14 @@ behind_same from len image op low w size =
       profile = profile-outside from len image (applied image op) (inl low) outside;
     }
 
-log_same : (b : Bank) (image : List ℕ) (op : Operation) → IsInLog b op → length image ≡ 32768 → SameProvision image (applied image op)
+pub log_same : (b : Bank) (image : List ℕ) (op : Operation) → IsInLog b op → length image ≡ 32768 → SameProvision image (applied image op)
 log_same b image op w size = behind_same (log_at b) 0x3000 image op (omega (arith, log_low b)) w size
 
-raise_same : (b : Bank) (image : List ℕ) (op : Operation) → IsRaise b image op → length image ≡ 32768 → SameProvision image (applied image op)
+pub raise_same : (b : Bank) (image : List ℕ) (op : Operation) → IsRaise b image op → length image ≡ 32768 → SameProvision image (applied image op)
 raise_same b image op r size = behind_same (floor_at Two b) 16 image op (omega (arith, (floor_in_sector b).0)) r.within size
 
 -- ---- the spans of a bank while a job is done
-other_one : (which b : Bank) → same_bank which b ≡ false → other_bank b ≡ which
+pub other_one : (which b : Bank) → same_bank which b ≡ false → other_bank b ≡ which
 other_one bank.Bmc bank.Bmc e = absurd cc
 other_one bank.Bmc bank.Pch e = refl
 other_one bank.Pch bank.Bmc e = refl
@@ -136,7 +168,7 @@ pub record IsAside (which : Bank) (that : What) : Type 0 where
 module _ (accepts : Acceptance) (which : Bank) where
   module _ (b : Bank) where
     -- an operation of the store that leaves the slots and the profile, and what this bank's trust reads where b is another one
-    store_kept : (op : Operation) (story : Story) → (length (store story) ≡ 32768 → SameProvision (store story) (applied (store story) op))
+    pub store_kept : (op : Operation) (story : Story) → (length (store story) ≡ 32768 → SameProvision (store story) (applied (store story) op))
         → (same_bank which b ≡ false → (fuses : FusesState) → LeavesStore fuses which op) → Carrying (AtWork accepts which b) (InWork accepts which) (Does device.Nv op) story
     store_kept op story same leaves at =
         let is : store (operated device.Nv op story) ≡ applied (store story) op = image_operated device.Nv op story in
@@ -166,6 +198,17 @@ module _ (accepts : Acceptance) (which : Bank) where
       raises = λ op story raise. store_kept op story (λ size. raise_same b (store story) op raise size)
           (λ other fuses. subst (λ (w : Bank). LeavesStore fuses w op) (other_one which b other) (raise_leaves b fuses (store story) op raise));
     }
+
+    -- and so is the cancellation of one of its keys
+    pub cancels_leave : (type : ContentType) (id : ℕ) → IsTypeOf b type → id < 256 → (story : Story) → AllSafe (Carrying (AtWork accepts which b) (InWork accepts which)) (called device.Nv (cancellation type id)) story
+    cancels_leave type id own few story =
+        let op : Operation = Program (row_at Two type + id / 8) (fuse_byte id ∷ []) in
+        let within : IsWithin (row_at Two type) 32 op = (clearing-within (row_at Two type) 32 id (omega (arith, few))).0 in
+        let low = (row_in_sector type (own_signs b type own)).0 in
+        let kept : (done : Operation) → IsWithin (row_at Two type) 32 done → Carrying (AtWork accepts which b) (InWork accepts which) (Does device.Nv done) story =
+        λ done w. store_kept done story (λ size. behind_same (row_at Two type) 32 (store story) done (omega (arith, low)) w size)
+        (λ other fuses. subst (λ (c : Bank). LeavesStore fuses c done) (other_one which b other) (cancel_leaves b type own done w fuses)) in
+        ((kept op within, λ done t. kept done (torn_within (row_at Two type) 32 (store story) op done t within)), (λ p. ((tt, tt), p), tt))
 
     pub aside_told : (that : What) → IsAside which that → (story : Story) → Carrying (AtWork accepts which b) (InWork accepts which) (Says (λ _. that)) story
     aside_told that aside story p = (

@@ -22,18 +22,15 @@ use Rattle.pfr_strokes.specs.Deeds.{Deed, Asks as AsksSide, Does as DoesSide}
 use Rattle.pfr_strokes.specs.declared.side.Side.TheVariants as side
 use Rattle.pfr_report.specs.declared.note.What.{What}
 use Rattle.pfr_report.specs.declared.note.What.TheVariants.{Restored, Updated}
-use Rattle.pfr_story.specs.Story.{Story, Move, Says, Does, Asks, Plan, then, says, after, moved_by, noted, counts_of, device_of}
+use Rattle.pfr_story.specs.Story.{Story, Plan, then, says, after, noted, device_of}
 use Rattle.pfr_story.specs.Deeds.{deed_moves}
-use Rattle.pfr_story.specs.Safety.{AllSafe, AllMake}
+use Rattle.pfr_story.specs.Safety.{AllMake}
 use Rattle.pfr_story.specs.Plans.{mine, store, asks, judged_recovery}
 use Rattle.pfr_story.specs.JobPlans.{begun_job, finished_job, abandoned, worked, written_over, done_with, by_log, with_job, copied_over, copied_again, raised_to, concluded, by_second_pass, second_pass, same_digest, by_digest, by_first_pass, recovery_work, recovery_job, judged_source, JobNotes, work_of, resumed_if, by_source, by_open, resumed}
-use Rattle.pfr_story.specs.Recovery.{LeavesTrue}
 use Rattle.pfr_story.proofs.SafetyLaws.{AllMake-append, AllMake-called}
-use Rattle.pfr_story.proofs.Traces.{IsStamped}
-use Rattle.pfr_story.proofs.MomentLaws.{StaysTrue}
 
 module _ (D : Device → Type 0) (S : (Counts → What) → Type 0) (b : Bank) (nv : D device.Nv) (own : D (device_of b)) where
-  deeds_make : (deeds : List Deed) → AllMake D S (deed_moves b deeds)
+  pub deeds_make : (deeds : List Deed) → AllMake D S (deed_moves b deeds)
   deeds_make [] = tt
   deeds_make (AsksSide side.Bank ∷ deeds) = (own, deeds_make deeds)
   deeds_make (AsksSide side.Store ∷ deeds) = (nv, deeds_make deeds)
@@ -49,12 +46,12 @@ module _ (D : Device → Type 0) (S : (Counts → What) → Type 0) (b : Bank) (
   begun_makes : (kind : JobKind) (digest : List ℕ) (story : Story) → AllMake D S (begun_job b kind digest story)
   begun_makes kind digest story = AllMake-called D S device.Nv (begin_plan (store story) b kind digest) nv
 
-  abandoned_makes : (that : What) (story : Story) → S (λ _. that) → AllMake D S (abandoned that b story)
+  pub abandoned_makes : (that : What) (story : Story) → S (λ _. that) → AllMake D S (abandoned that b story)
   abandoned_makes that story s = then_makes (finished_job b) (says (λ _. that)) story (finished_makes story) (s, tt)
 
   -- ---- a job on the active image
   module _ (kind : JobKind) (fuses : FusesState) (capsule : CapsuleState) (that : What) (s : S (λ _. that)) where
-    done_makes : (story : Story) → AllMake D S (done_with b kind fuses capsule that story)
+    pub done_makes : (story : Story) → AllMake D S (done_with b kind fuses capsule that story)
     done_makes story =
         then_makes (worked b kind fuses capsule) ((then) (finished_job b) (says (λ _. that))) story
         (deeds_make (active_heeding kind b (mine b story) (store story) capsule (layout_of fuses.provision b)))
@@ -71,7 +68,7 @@ module _ (D : Device → Type 0) (S : (Counts → What) → Type 0) (b : Bank) (
 
   -- ---- a job on the recovery area
   module _ (given_up : What) (told : ℕ → What) (gives : S (λ _. given_up)) (tells : (svn : ℕ) → S (λ _. told svn)) (accepts : Acceptance) (fuses : FusesState) where
-    concluded_makes : (found : CapsuleState) (story : Story) → AllMake D S (concluded told b fuses found story)
+    pub concluded_makes : (found : CapsuleState) (story : Story) → AllMake D S (concluded told b fuses found story)
     concluded_makes found story =
         then_makes (raised_to found.manifest.svn b fuses) ((then) (finished_job b) (says (λ _. told found.manifest.svn))) story
         (AllMake-called D S device.Nv (raise_plan (floor_of fuses b) b found.manifest.svn) nv)
@@ -137,12 +134,3 @@ module _ (D : Device → Type 0) (S : (Counts → What) → Type 0) (b : Bank) (
 
     pub resumed_makes : (story : Story) → AllMake D S (resumed notes accepts b fuses story)
     resumed_makes story = (nv, open_makes (open_job (store story) b) story)
-
--- ---- along the moments of a step
--- Moves that leave something true, and whose notes with counts are of their moments, leave it true from moment to moment.
-pub stays_moves : (R : List ℕ → List ℕ → Type 0) (b : Bank) (moves : List Move) (story : Story) → AllSafe (LeavesTrue R b) moves story
-    → AllMake (λ which. Unit {0}) (λ w. (at : Counts) → IsStamped (w at) at) moves → AllSafe (StaysTrue R b) moves story
-stays_moves R b [] story safe makes = tt
-stays_moves R b (Says w ∷ moves) story safe makes = (makes.0 (counts_of story), stays_moves R b moves (noted w story) safe.1 makes.1)
-stays_moves R b (Does which op ∷ moves) story safe makes = (safe.0, stays_moves R b moves (moved_by (Does which op) story) safe.1 makes.1)
-stays_moves R b (Asks which ∷ moves) story safe makes = (tt, stays_moves R b moves story safe.1 makes.1)

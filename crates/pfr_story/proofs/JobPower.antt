@@ -1,11 +1,10 @@
 -- A bank that can be recovered ends released: the job that is open is resumed, and then the bank is checked and recovered.
-use Rattle.std.proofs.Common.{◌≡◌, ◌∙◌, ℕ, ◌+◌, ◌*◌, ◌/◌, ◌≤◌, refl, sym, ap, subst, arith, Bool, true, false, List, [], ◌∷◌, ◌++◌, length, length-append, inl, inr, Result, Ok, Err}
+use Rattle.std.proofs.Common.{◌≡◌, ◌∙◌, ℕ, ◌+◌, ◌*◌, ◌/◌, ◌≤◌, sym, ap, subst, arith, Bool, true, false, List, [], ◌∷◌, ◌++◌, length, inl, inr, Result, Ok, Err}
 use Rattle.pfr_flash.specs.Bytes.{AreBytes}
 use Rattle.pfr_flash.specs.Layout.{IsBankSize}
 use Rattle.pfr_flash.specs.Operation.{Operation}
 use Rattle.pfr_flash.specs.declared.layout.Layout.{Layout}
 use Rattle.pfr_flash.specs.declared.names.Bank.{Bank}
-use Rattle.pfr_flash.specs.declared.names.Bank.TheVariants as bank
 use Rattle.pfr_flash.specs.declared.names.Counts.{Counts}
 use Rattle.pfr_engine.specs.Acceptance.{Acceptance}
 use Rattle.pfr_fuses.specs.FusesState.{FusesState}
@@ -20,53 +19,29 @@ use Rattle.pfr_jobs.specs.LogState.{is_spent}
 use Rattle.pfr_jobs.specs.declared.job.JobKind.{JobKind}
 use Rattle.pfr_jobs.specs.declared.job.JobKind.TheVariants.{ActiveFromRecovery}
 use Rattle.pfr_jobs.specs.declared.job.OpenJob.TheVariants as job
-use Rattle.pfr_jobs.proofs.SlotLaw.{IsDigest}
-use Rattle.pfr_strokes.proofs.ReplacedLaws.{strokes_of_few}
-use Rattle.pfr_rebuilt.specs.ActiveCopying.{active_page, active_pages}
+use Rattle.pfr_rebuilt.specs.ActiveCopying.{active_pages}
 use Rattle.pfr_rebuilt.specs.Copying.{recovery_pages}
 use Rattle.pfr_recoverable.specs.Recoverable.{HasGoodRecovery, IsRecoverable}
 use Rattle.pfr_report.specs.declared.note.What.{What}
 use Rattle.pfr_report.specs.declared.note.What.TheVariants.{Restored}
-use Rattle.pfr_story.specs.Story.{Past, Story, Move, Says, Plan, after, then, noted, past_at, device_of, called}
+use Rattle.pfr_story.specs.Story.{Story, Move, Says, Plan, after, then, noted}
 use Rattle.pfr_story.specs.Safety.{AllSafe}
 use Rattle.pfr_story.specs.Recovery.{KeepsRecoverable}
-use Rattle.pfr_story.specs.Plans.{mine, store, job_ops, copied, restored}
+use Rattle.pfr_story.specs.Plans.{mine, store, restored}
 use Rattle.pfr_story.specs.JobPlans.{begun_job, finished_job, worked, written_over, done_with, by_log, with_job, JobNotes, resumed}
 use Rattle.pfr_story.specs.JobContents.{CanWork, image_resumed, fuses_resumed}
 use Rattle.pfr_story.proofs.Sequence.{after-append}
-use Rattle.pfr_story.proofs.SafetyLaws.{past_called, safe_whole, kept_by}
+use Rattle.pfr_story.proofs.SafetyLaws.{safe_whole, kept_by}
 use Rattle.pfr_story.proofs.RecoverableLaws.{true_kept}
-use Rattle.pfr_story.proofs.AnewLaws.{MadeFrom}
-use Rattle.pfr_story.proofs.RestoreLaws.{RestoresFrom, found_good, restored_judged, not_recovery}
+use Rattle.pfr_story.proofs.RestoreLaws.{RestoresFrom, not_recovery}
+use Rattle.pfr_story.proofs.JobRestores.{made_restored, anew_judged}
 use Rattle.pfr_story.proofs.JobSteps.{bank_called}
-use Rattle.pfr_story.proofs.JobDone.{done_is, with_job_done}
+use Rattle.pfr_story.proofs.JobDone.{done_is}
 use Rattle.pfr_story.proofs.JobCounts.{done_on, noted_count, store_count, worked_few, written_few}
 use Rattle.pfr_story.proofs.JobResumed.{IsFew, IsResumedTo, resumed_ends}
 use Rattle.pfr_story.proofs.JobTail.{recovery_few, Restoring, tail_with, EndsReleased, ends_behind, RestoresWell, tail_ends}
 
--- ---- a restore as it stands, without a job
-count_is : (b : Bank) (story : Story) → done_on b story ≡ length (past_at (device_of b) story).ops
-count_is bank.Bmc story = refl
-count_is bank.Pch story = refl
-
-called_count : (b : Bank) (ops : List Operation) (story : Story) → done_on b (after (called (device_of b) ops) story) ≡ done_on b story + length ops
-called_count b ops story =
-    count_is b (after (called (device_of b) ops) story) ∙ ap (λ (p : Past). length p.ops) (past_called (device_of b) ops story)
-    ∙ length-append (past_at (device_of b) story).ops ops ∙ ap (λ (n : ℕ). n + length ops) (sym (count_is b story))
-
-pub restored_well : (accepts : Acceptance) (b : Bank) (fuses : FusesState) (capsule : CapsuleState) (story : Story) → RestoresFrom accepts b fuses capsule story → RestoresWell accepts b fuses capsule (restored b 1 fuses capsule) story
-restored_well accepts b fuses capsule story from =
-    let layout : Layout = layout_of fuses.provision b in
-    let kind : JobKind = ActiveFromRecovery 1 in
-    let ops : List Operation = job_ops kind (mine b story) capsule layout in
-    let there : Story = after (copied b kind fuses capsule story) story in
-    let end = ap (λ (s : Story). done_on b s) (after-append (copied b kind fuses capsule story) (Says (λ _. Restored b 1) ∷ []) story) in
-    record {
-      judged = restored_judged accepts b 1 fuses capsule story from;
-      few = omega (arith, end, noted_count b (λ _. Restored b 1) there, called_count b ops story, strokes_of_few (active_page (mine b story) capsule layout) (active_pages kind (mine b story) capsule layout));
-    }
-
--- ---- one by a job
+-- ---- a restore by a job
 module _ (b : Bank) (kind : JobKind) (fuses : FusesState) (capsule : CapsuleState) (that : What) where
   done_few : (story : Story) → done_on b (after (done_with b kind fuses capsule that story) story) ≤ done_on b story + 17 * length (active_pages kind (mine b story) capsule (layout_of fuses.provision b))
   done_few story =
@@ -90,22 +65,11 @@ module _ (b : Bank) (kind : JobKind) (fuses : FusesState) (capsule : CapsuleStat
           omega (arith, end, pages, done_few begun, store_count b plan story)
 
 pub job_well : (accepts : Acceptance) (b : Bank) (fuses : FusesState) (capsule : CapsuleState) (that : What) (story : Story) → RestoresFrom accepts b fuses capsule story → length (store story) ≡ 32768
-    → open_job (store story) b ≡ job.None → IsDigest capsule.digest → RestoresWell accepts b fuses capsule (with_job b (ActiveFromRecovery 1) fuses capsule that) story
-job_well accepts b fuses capsule that story from size none d =
-    let layout : Layout = layout_of fuses.provision b in
-    let found = found_good accepts b fuses capsule story from.provisioned from.layout from.bytes from.judged in
-    let made : MadeFrom accepts b fuses capsule story = record {
-      place = layout.recovery_at;
-      len = layout.area_len;
-      good = found.0;
-      capsule_is = found.1;
-      provisioned = from.provisioned;
-      inside = from.layout.inside.recovery;
-      size = from.size;
-      bytes = from.bytes;
-    } in
-    let end = with_job_done accepts b (ActiveFromRecovery 1) (not_recovery 1) fuses capsule that story made size none d (omega arith, omega arith) in
-    record { judged = end.judged; few = with_job_few b (ActiveFromRecovery 1) fuses capsule that story }
+    → open_job (store story) b ≡ job.None → RestoresWell accepts b fuses capsule (with_job b (ActiveFromRecovery 1) fuses capsule that) story
+job_well accepts b fuses capsule that story from size none = record {
+  judged = anew_judged accepts b (ActiveFromRecovery 1) (not_recovery 1) fuses capsule that story (made_restored accepts b fuses capsule story from) size none (omega arith, omega arith);
+  few = with_job_few b (ActiveFromRecovery 1) fuses capsule that story;
+}
 
 -- ---- the whole plan
 -- the tail goes by the fuses as they are then
@@ -168,21 +132,13 @@ module _ (notes : JobNotes) (accepts : Acceptance) (b : Bank) (fuses : FusesStat
           few = omega (arith, end, power_few (after tail_moves there) resumed_so.few t.few);
         })
 
--- ---- both ways to restore
+-- ---- with the restore as it is
 module _ (notes : JobNotes) (accepts : Acceptance) (b : Bank) (fuses : FusesState) (story : Story) (h : CanWork b fuses story)
     (recoverable : IsRecoverable b (mine b story) (store story) accepts) (safe : AllSafe (KeepsRecoverable accepts b) (resumed notes accepts b fuses story) story) where
-  -- as it stands, without a job
+  -- A bank that can be recovered, whatever job is open, ends released.
   pub power_releases : PowerEnds b (power_with (restored b 1) notes accepts b fuses story) story
   power_releases =
-      let then_fuses : FusesState = fuses_resumed accepts b (mine b story) (store story) fuses in
-      power_ends notes accepts b fuses story h recoverable safe (restored b 1) (λ capsule w e from. restored_well accepts b then_fuses capsule (noted w (after (resumed notes accepts b fuses story) story)) from)
-
-  -- A bank that can be recovered, whatever job is open, ends released, where it is restored by a job.
-  pub power_releases_job : IsDigest (resumed_good notes accepts b fuses story h recoverable safe).good.capsule.digest
-      → PowerEnds b (power_with (λ then_fuses capsule. with_job b (ActiveFromRecovery 1) then_fuses capsule (Restored b 1)) notes accepts b fuses story) story
-  power_releases_job digest =
-      let restores : Restoring = λ then_fuses capsule. with_job b (ActiveFromRecovery 1) then_fuses capsule (Restored b 1) in
       let there : Story = after (resumed notes accepts b fuses story) story in
       let so = resumed_so notes accepts b fuses story h recoverable safe in
-      power_ends notes accepts b fuses story h recoverable safe restores (λ capsule w e from.
-      job_well accepts b (fuses_resumed accepts b (mine b story) (store story) fuses) capsule (Restored b 1) (noted w there) from so.size so.opened (subst (λ (c : CapsuleState). IsDigest c.digest) (sym e) digest))
+      power_ends notes accepts b fuses story h recoverable safe (restored b 1) (λ capsule w e from.
+      job_well accepts b (fuses_resumed accepts b (mine b story) (store story) fuses) capsule (Restored b 1) (noted w there) from so.size so.opened)

@@ -1,8 +1,6 @@
--- While a job on a bank is done, only its device and the store are called, and all that is told is of the job.
-use Rattle.std.proofs.Common.{◌≡◌, ◌∙◌, refl, sym, subst, ℕ, ◌≤◌, Bool, false, List, length, inl, inr, Ok}
-use Rattle.pfr_flash.specs.Operation.{Operation}
+-- Rules that ask only which devices are called, or only what is told, and what a job on a bank does of both.
+use Rattle.std.proofs.Common.{◌≡◌, refl, ℕ, ◌≤◌, Bool, false, length, inl, inr, Ok}
 use Rattle.pfr_flash.specs.declared.names.Bank.{Bank}
-use Rattle.pfr_flash.specs.declared.names.Bank.TheVariants as bank
 use Rattle.pfr_flash.specs.declared.names.Counts.{Counts}
 use Rattle.pfr_flash.specs.declared.names.Device.{Device}
 use Rattle.pfr_flash.specs.declared.names.Device.TheVariants as device
@@ -16,16 +14,11 @@ use Rattle.pfr_report.specs.declared.note.What.{What}
 use Rattle.pfr_report.specs.declared.note.What.TheVariants as what
 use Rattle.pfr_story.specs.JobPlans.{JobNotes, with_job, resumed}
 use Rattle.pfr_story.specs.Plans.{store, judged_recovery}
-use Rattle.pfr_story.specs.Safety.{Rule, AllSafe, AllMake, Keeps}
-use Rattle.pfr_story.specs.Story.{Past, Story, Says, Does, Asks, past_at, device_of}
+use Rattle.pfr_story.specs.Safety.{Rule, AllMake}
+use Rattle.pfr_story.specs.Story.{Story, Says}
 use Rattle.pfr_story.proofs.BringRules.{IsOwn, Making, safe_made}
-use Rattle.pfr_story.proofs.Facts.{IsLoss, IsNoLoss}
-use Rattle.pfr_story.proofs.FilterLaws.{past_noted, past_other}
 use Rattle.pfr_story.proofs.JobRules.{AllInLog, AllowsJobs}
-use Rattle.pfr_story.proofs.JobWalks.{TellsJobs, AllNotes, job_allowed, resumed_allowed}
-use Rattle.pfr_story.proofs.Made.{Whichever}
-use Rattle.pfr_story.proofs.StepTraces.{LeavesOther}
-use Rattle.pfr_story.proofs.TailLaws.{Apart}
+use Rattle.pfr_story.proofs.JobWalks.{TellsJobs, job_allowed, resumed_allowed}
 use Rattle.pfr_story.proofs.Traces.{Saying}
 
 -- ---- what is told of a job
@@ -51,7 +44,7 @@ all_told G P b notes tell all = record {
 pub own_jobs : (b : Bank) (S : (Counts → What) → Type 0) → AllowsJobs (Making (IsOwn b) S) b
 own_jobs b S = record { asks = λ which story own. own; works = λ op story. inl refl; logs = λ op story own. inr refl; raises = λ op story raise. inr refl }
 
-pub made_jobs : (b : Bank) (S : (Counts → What) → Type 0) → AllowsJobs (Making Whichever S) b
+pub made_jobs : (b : Bank) (S : (Counts → What) → Type 0) → AllowsJobs (Making (λ which. Unit {0}) S) b
 made_jobs b S = record { asks = λ which story own. tt; works = λ op story. tt; logs = λ op story own. tt; raises = λ op story raise. tt }
 
 pub told_jobs : (b : Bank) (F : What → Story → Type 0) → AllowsJobs (Saying F) b
@@ -63,51 +56,6 @@ making_told D S b notes all = all_told (Making D S) (λ that. S (λ _. that)) b 
 -- of a fact that doesn't ask where it is told
 pub saying_told : (P : What → Type 0) (b : Bank) (notes : JobNotes) → AllTold P b notes → TellsJobs (Saying (λ that story. P that)) b notes
 saying_told P b notes all = all_told (Saying (λ that story. P that)) P b notes (λ that story p. p) all
-
--- ---- no loss is told
-pub quiet_told : (D : Device → Type 0) (b : Bank) (notes : JobNotes) → AllNotes (λ that. ¬ IsLoss that) notes → TellsJobs (Making D IsNoLoss) b notes
-quiet_told D b notes none = making_told D IsNoLoss b notes (record {
-  resumed = λ kind at. none.resumed kind;
-  given_up = λ at. none.given_up;
-  restored = λ level at loss. loss;
-  updated = λ dynamic svn at loss. loss;
-  recovery_updated = λ svn at. none.recovery_updated svn;
-})
-
--- ---- nothing that guards the other bank is told
-restored_leaves : (b : Bank) (level : ℕ) → LeavesOther b (λ _. what.Restored b level)
-restored_leaves bank.Bmc level at guard = refl
-restored_leaves bank.Pch level at guard = refl
-
-updated_leaves : (b : Bank) (dynamic : Bool) (svn : ℕ) → LeavesOther b (λ _. what.Updated b dynamic svn)
-updated_leaves bank.Bmc dynamic svn at guard = refl
-updated_leaves bank.Pch dynamic svn at guard = refl
-
-pub guardless_told : (D : Device → Type 0) (b : Bank) (notes : JobNotes) → AllNotes (λ that. LeavesOther b (λ _. that)) notes → TellsJobs (Making D (LeavesOther b)) b notes
-guardless_told D b notes leave = making_told D (LeavesOther b) b notes (record {
-  resumed = leave.resumed;
-  given_up = leave.given_up;
-  restored = restored_leaves b;
-  updated = updated_leaves b;
-  recovery_updated = leave.recovery_updated;
-})
-
--- ---- nothing is told of another bank
-pub others_told : (D : Device → Type 0) (which b : Bank) (notes : JobNotes) → ¬ (b ≡ which) → AllNotes (Apart which) notes → TellsJobs (Making D (λ w. (at : Counts) → Apart which (w at))) b notes
-others_told D which b notes other apart = making_told D (λ w. (at : Counts) → Apart which (w at)) b notes (record {
-  resumed = λ kind at. apart.resumed kind;
-  given_up = λ at. apart.given_up;
-  restored = λ level at e. other e;
-  updated = λ dynamic svn at e. other e;
-  recovery_updated = λ svn at. apart.recovery_updated svn;
-})
-
--- ---- the devices that aren't called are as before
-pub uncalled_same : (D : Device → Type 0) (S : (Counts → What) → Type 0) (from : Story) → Keeps (Making D S) (λ story. (other : Device) → ¬ D other → past_at other story ≡ past_at other from)
-uncalled_same D S from (Says w) story g p = λ other apart. past_noted other w story ∙ p other apart
-uncalled_same D S from (Does which op) story g p =
-    λ other apart. past_other which other op story (λ e. apart (subst D (sym e) g)) ∙ p other apart
-uncalled_same D S from (Asks which) story g p = p
 
 -- ---- which moves a whole job makes
 pub job_makes : (b : Bank) (S : (Counts → What) → Type 0) (kind : JobKind) (fuses : FusesState) (capsule : CapsuleState) (that : What) → S (λ _. that) → (story : Story)

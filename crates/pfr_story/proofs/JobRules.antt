@@ -37,7 +37,7 @@ IsInLog b op = IsWithin (log_at b) 0x3000 op
 abbrev pub AllInLog : Bank → List Operation → Type 0
 AllInLog b ops = AllWithin (log_at b) 0x3000 ops
 
-torn_within : (from len : ℕ) (image : List ℕ) (op done : Operation) → IsTorn image op done → IsWithin from len op → IsWithin from len done
+pub torn_within : (from len : ℕ) (image : List ℕ) (op done : Operation) → IsTorn image op done → IsWithin from len op → IsWithin from len done
 torn_within from len image op done t w = let same = IsTorn-within image op done t in record { low = omega (arith, w.low, same.0); high = omega (arith, w.high, same.0, same.1) }
 
 -- or it clears bits in the row of its floor

@@ -63,7 +63,7 @@ other_apart bank.Bmc e = absurd cc
 other_apart bank.Pch e = absurd cc
 
 -- one bank's log lies outside of the other's
-logs_apart : (b : Bank) (op : Operation) → IsWithin (log_at b) 0x3000 op → (place_of op + len_of op ≤ log_at (other_bank b)) ⊎ (log_at (other_bank b) + 0x3000 ≤ place_of op)
+pub logs_apart : (b : Bank) (op : Operation) → IsWithin (log_at b) 0x3000 op → (place_of op + len_of op ≤ log_at (other_bank b)) ⊎ (log_at (other_bank b) + 0x3000 ≤ place_of op)
 logs_apart bank.Bmc op w = inl (omega (arith, w.high))
 logs_apart bank.Pch op w = inr (omega (arith, w.low))
 

@@ -70,7 +70,7 @@ module _ (accepts : Acceptance) (m : Manifest) where
   }
 
   -- nor does a note
-  noted_trust : (which : Bank) (w : Counts → What) (story : Story) → KeepsTrust accepts which m (Says w) story
+  pub noted_trust : (which : Bank) (w : Counts → What) (story : Story) → KeepsTrust accepts which m (Says w) story
   noted_trust which w story t = subst (λ (image : List ℕ). IsTrustedBy m image (store story) which accepts) (sym (image_noted (device_of which) w story)) t
 
   pub jobs_trust_told : (b : Bank) (notes : JobNotes) → TellsJobs (KeepsTrust accepts (other_bank b) m) b notes

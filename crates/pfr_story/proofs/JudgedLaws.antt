@@ -1,6 +1,7 @@
--- Banks are judged anew at a power-on alone: one that runs is trusted, so at no other event it is called untrusted.
+-- Banks are judged anew at a power-on, and where fuses change: one that runs is trusted, so at no other event it is called untrusted.
 use Rattle.std.proofs.Common.{◌≡◌, refl, sym, subst, ℕ, Bool, true, false, List, [], ◌∷◌, ◌++◌, ◌⊎◌, inl, inr, Result, Ok, Err}
 use Rattle.std.specs.Prelude.{◌&&◌}
+use Rattle.pfr_flash.specs.FlashState.{size_of}
 use Rattle.pfr_flash.specs.declared.names.Bank.{Bank}
 use Rattle.pfr_flash.specs.declared.names.Bank.TheVariants as bank
 use Rattle.pfr_flash.specs.declared.names.Counts.{Counts}
@@ -10,10 +11,10 @@ use Rattle.pfr_engine.specs.Acceptance.{Acceptance}
 use Rattle.pfr_fuses.specs.FusesState.{FusesState}
 use Rattle.pfr_fuses.specs.FusesOf.{fuses_of}
 use Rattle.pfr_fuses.specs.Provisioning.{provision_plan}
-use Rattle.pfr_fuses.specs.RootSlot.{layout_of}
 use Rattle.pfr_fuses.specs.declared.fuse_fail.FuseFail.{FuseFail}
 use Rattle.pfr_fuses.specs.declared.root_slot.RootSlot.{RootSlot}
 use Rattle.pfr_capsule.specs.CapsuleState.{CapsuleState}
+use Rattle.pfr_manifest.specs.declared.manifest.Manifest.{Manifest}
 use Rattle.pfr_auth.specs.Trusted.{IsTrusted}
 use Rattle.pfr_auth.specs.declared.fail.ActiveFail.{ActiveFail}
 use Rattle.pfr_auth.proofs.TrustedLaw.{stands_whole, trusted_found}
@@ -22,6 +23,7 @@ use Rattle.pfr_jobs.specs.declared.job.JobKind.TheVariants.{ActiveFromRecovery, 
 use Rattle.pfr_script.specs.declared.event.Event.{Event}
 use Rattle.pfr_script.specs.declared.event.Event.TheVariants as event
 use Rattle.pfr_script.specs.declared.event.Intent.{Intent}
+use Rattle.pfr_script.specs.declared.event.Intent.TheVariants.{Active, Full, Recovery, Cert}
 use Rattle.pfr_watch.specs.Stages.{next_stage}
 use Rattle.pfr_watch.specs.Watching.{expires}
 use Rattle.pfr_watch.specs.declared.stage.Stage.{Stage}
@@ -30,21 +32,28 @@ use Rattle.pfr_report.specs.declared.note.Refusal.TheVariants as refusing
 use Rattle.pfr_report.specs.declared.note.What.{What}
 use Rattle.pfr_report.specs.declared.note.What.TheVariants as what
 use Rattle.pfr_story.specs.Guards.{guard_at}
-use Rattle.pfr_story.specs.Story.{Story, Move, Says, Does, Asks, after, noted, device_of, called, IsCut}
+use Rattle.pfr_story.specs.JobPlans.{job_notes, with_job}
+use Rattle.pfr_story.specs.Story.{Story, Move, Says, after, noted, device_of, other_bank, called, IsCut}
 use Rattle.pfr_story.specs.World.{World, story_of}
-use Rattle.pfr_story.specs.Safety.{Rule, AllGood, AllSafe, Keeps}
-use Rattle.pfr_story.specs.Plans.{mine, store, ready_of, judged_active, job_ops, copied, provisioned, provisioned_in, smbus_judged, is_dynamic, expired}
-use Rattle.pfr_story.specs.Course.{Stretch, Follows}
+use Rattle.pfr_story.specs.Safety.{Rule, AllGood, AllSafe}
+use Rattle.pfr_story.specs.Plans.{mine, store, ready_of, judged_active, provisioned_in, expired}
+use Rattle.pfr_story.specs.UpdatePlans.{updating}
+use Rattle.pfr_story.specs.Course.{Follows}
 use Rattle.pfr_story.specs.Standing.{Standing, Off, Held, Running, Locked, standing_of, is_running}
-use Rattle.pfr_story.specs.Turn.{fault_of, provision_stretch, spi_stretch, expiry_stretch, update_stretch, is_due, stage_at, pass_note, ignored, off_course, tick_course, boot_course, begun, Turn}
-use Rattle.pfr_story.specs.Promises.{IsFaultLock, IsWatchLock, IsPower, JudgesAtPower}
+use Rattle.pfr_story.specs.Turn.{fault_of, expiry_stretch, is_due, stage_at, pass_note, ignored, off_course, tick_course, boot_course, begun, Turn}
+use Rattle.pfr_story.specs.Promises.{IsFaultLock, IsWatchLock, IsPower, IsFuseUpdate, JudgesAtPower}
 use Rattle.pfr_story.proofs.WorldLaws.{AllMoved-refl}
 use Rattle.pfr_story.proofs.SafetyLaws.{AllSafe-append, safe_whole, safe_cut, kept_by, image_noted}
 use Rattle.pfr_story.proofs.Courses.{IsTakenBy, Turn-cases, taken_runs, taken_boots}
-use Rattle.pfr_story.proofs.BringRules.{Any, ready_found, ready_is, level_at, Walks, WalksBack, expired_safe, WalksAnew, updating_safe, AllowsBank, expired_allowed}
+use Rattle.pfr_story.proofs.BringAllowed.{IsSized, AllowsBank, expired_allowed}
+use Rattle.pfr_story.proofs.BringMakes.{Whenever, made_told}
+use Rattle.pfr_story.proofs.BringRules.{Any, ready_found, ready_is, level_at, Walks, WalksBack, expired_safe, WalksAnew, WalksUpdate, updating_safe}
 use Rattle.pfr_story.proofs.BusRules.{AllowsSpi, spi_safe, AllowsSmbus, smbus_safe}
 use Rattle.pfr_story.proofs.Traces.{Saying, call_says, Traced, Traced-known}
-use Rattle.pfr_story.proofs.StepTraces.{Between, AllowsLosses, IsGoodStretch, noted_along, single_along, tick_along, pass_noted}
+use Rattle.pfr_story.proofs.JobMakes.{with_job_makes}
+use Rattle.pfr_story.proofs.JobTrust.{IsTrustedNow, KeepsTrust, trust_kept, jobs_trust, noted_trust, jobs_trust_told}
+use Rattle.pfr_story.proofs.Made.{Whichever}
+use Rattle.pfr_story.proofs.StepTraces.{IsGoodStretch, AllowsFaults, tick_along, pass_noted, noted_by, provision_by, spi_by, smbus_by, failed_by, update_by, sized}
 use Rattle.pfr_story.proofs.StoreLaws.{judged_here}
 use Rattle.pfr_story.proofs.Entry.{TrustedRunning, trusted_here}
 
@@ -90,9 +99,12 @@ module _ (accepts : Acceptance) (b : Bank) where
   not_against fuses cause story (t, provisioned) e =
       absurd (let found = trusted_found (mine b story) (store story) b accepts fuses (stands_whole (store story) fuses b provisioned) t in cc)
 
-  trusted_walks : Walks Unjudged accepts b IsTrustedIn IsReadIn (λ fuses cause story. ⊥) (λ fuses story. Unit {0})
+  -- no job is open where its watch expires, or where it is updated
+  trusted_walks : Walks Unjudged accepts b (λ story. ⊥) IsTrustedIn IsReadIn (λ fuses cause story. ⊥) (λ fuses story. Unit {0})
   trusted_walks = record {
     asks = λ which story own. tt;
+    resumes = λ fuses story never e. absurd never;
+    unset = λ cause story never e. absurd never;
     ready = λ fuses story q e. (q, (ready_found b fuses story e).provisioned);
     unready = λ cause story q e. absurd (not_unready cause story q e);
     released = λ fuses m story p j. tt;
@@ -102,11 +114,10 @@ module _ (accepts : Acceptance) (b : Bank) where
     again = λ fuses m story r j. tt;
   }
 
-  -- a job's copy, and what is noted behind it
-  job_unjudged : (kind : JobKind) (fuses : FusesState) (capsule : CapsuleState) (that : What) (story : Story) → IsUnjudged that → AllSafe Unjudged (copied b kind fuses capsule story ++ Says (λ _. that) ∷ []) story
+  -- a job, and what is noted behind it
+  job_unjudged : (kind : JobKind) (fuses : FusesState) (capsule : CapsuleState) (that : What) (story : Story) → IsUnjudged that → AllSafe Unjudged (with_job b kind fuses capsule that story) story
   job_unjudged kind fuses capsule that story tells =
-      AllSafe-append Unjudged (copied b kind fuses capsule story) (Says (λ _. that) ∷ []) story
-      (call_says (λ note here. IsUnjudged note) (device_of b) (job_ops kind (mine b story) capsule (layout_of fuses.provision b)) story) (tells, tt)
+      made_told Whichever IsUnjudged (with_job b kind fuses capsule that story) story (with_job_makes Whichever (Whenever IsUnjudged) b tt tt kind fuses capsule that (λ at. tells) story)
 
   trusted_back : (level : ℕ) → WalksBack Unjudged accepts b level IsTrustedIn IsReadIn (λ fuses story. Unit {0})
   trusted_back level = record {
@@ -121,105 +132,92 @@ module _ (accepts : Acceptance) (b : Bank) where
     refused = λ fuses cause story p j. (tt, (trusted_noted (λ _. what.Refused b (refusing.Capsule cause)) story p.0, p.1));
   }
 
+  -- an update of the active image
+  trusted_update : (intent : Intent) → ¬ IsFuseUpdate (event.Update b intent) → WalksUpdate Unjudged accepts b intent IsTrustedIn IsReadIn (λ fuses story. Unit {0})
+  trusted_update Active other = trusted_anew false
+  trusted_update Full other = trusted_anew true
+  trusted_update Recovery other = absurd (other tt)
+  trusted_update Cert other = absurd (other tt)
+
+  updating_unjudged : (intent : Intent) (story : Story) → ¬ IsFuseUpdate (event.Update b intent) → IsTrustedIn story → AllSafe Unjudged (updating accepts b intent story) story
+  updating_unjudged intent story other t =
+      updating_safe Unjudged accepts b (λ there. ⊥) IsTrustedIn IsReadIn (λ fuses cause there. ⊥) (λ fuses there. Unit {0}) trusted_walks intent story (trusted_update intent other) tt
+      (trusted_noted (what.Held b) story t)
+
   expired_unjudged : (story : Story) → IsTrustedIn story → AllSafe Unjudged (expired accepts b story) story
   expired_unjudged story t =
       let level : ℕ = level_at b story in
       let told : Story = noted (λ _. what.Expired b level) story in
-      expired_safe Unjudged accepts b IsTrustedIn IsReadIn (λ fuses cause there. ⊥) (λ fuses there. Unit {0}) trusted_walks story (trusted_back level) tt tt
+      expired_safe Unjudged accepts b (λ there. ⊥) IsTrustedIn IsReadIn (λ fuses cause there. ⊥) (λ fuses there. Unit {0}) trusted_walks story (trusted_back level) tt tt
       (trusted_noted (what.Held b) told (trusted_noted (λ _. what.Expired b level) story t))
 
--- ---- the work on the BMC leaves the PCH trusted
--- a rule for moves that write neither the PCH nor the store
-abbrev LeavesPch : Rule
-LeavesPch (Says w) story = Unit {0}
-LeavesPch (Does device.Bmc op) story = Unit {0}
-LeavesPch (Does which op) story = ⊥
-LeavesPch (Asks which) story = Unit {0}
+-- ---- the work on a bank leaves the other one trusted
+module _ (accepts : Acceptance) (b : Bank) (m : Manifest) where
+  abbrev KeepsOther : Rule
+  KeepsOther = KeepsTrust accepts (other_bank b) m
 
-keeps_pch : (accepts : Acceptance) → Keeps LeavesPch (IsTrustedIn accepts bank.Pch)
-keeps_pch accepts (Says w) story g t = t
-keeps_pch accepts (Does device.Bmc op) story g t = t
-keeps_pch accepts (Does device.Pch op) story g t = absurd g
-keeps_pch accepts (Does device.Nv op) story g t = absurd g
-keeps_pch accepts (Asks which) story g t = t
+  other_told : (w : Counts → What) (story : Story) → KeepsOther (Says w) story
+  other_told w story = noted_trust accepts m (other_bank b) w story
 
-bmc_leaves : AllowsBank LeavesPch bank.Bmc
-bmc_leaves = record {
-  released = λ svn story. tt;
-  locked = λ cause story. tt;
-  untrusted = λ cause story. tt;
-  restored = λ level story. tt;
-  asks = λ which story own. tt;
-  works = λ op story. tt;
-}
+  bank_keeps : AllowsBank KeepsOther b
+  bank_keeps = record {
+    released = λ svn story. other_told (what.Released b svn) story;
+    locked = λ cause story. other_told (what.Locked b cause) story;
+    untrusted = λ cause story. other_told (λ _. what.Untrusted b cause) story;
+    jobs = jobs_trust accepts m b;
+    tells = jobs_trust_told accepts m b (job_notes b);
+  }
 
-expired_leaves_pch : (accepts : Acceptance) (story : Story) → AllSafe LeavesPch (expired accepts bank.Bmc story) story
-expired_leaves_pch accepts story = expired_allowed LeavesPch accepts bank.Bmc bmc_leaves story tt tt
+  expired_keeps : (story : Story) → IsSized story → AllSafe KeepsOther (expired accepts b story) story
+  expired_keeps story size =
+      expired_allowed KeepsOther accepts b bank_keeps story size (other_told (λ _. what.Expired b (level_at b story)) story) (other_told (what.Held b) (noted (λ _. what.Expired b (level_at b story)) story))
+
+  pub good_keeps : (moves : List Move) (story : Story) → AllGood KeepsOther moves story → IsTrustedNow accepts (other_bank b) m story → IsTrustedNow accepts (other_bank b) m (after moves story)
+  good_keeps moves story good t = kept_by KeepsOther (IsTrustedNow accepts (other_bank b) m) (trust_kept accepts (other_bank b) m) moves story good t
+
+-- behind the whole work, and where a call failed on the way
+module _ (accepts : Acceptance) (b : Bank) (story : Story) (size : IsSized story) (t : IsTrustedIn accepts (other_bank b) story) where
+  other_behind : IsTrustedIn accepts (other_bank b) (after (expired accepts b story) story)
+  other_behind =
+      let moves : List Move = expired accepts b story in
+      (good_keeps accepts b t.manifest moves story (safe_whole (KeepsTrust accepts (other_bank b) t.manifest) moves story (expired_keeps accepts b t.manifest story size)) (t, refl)).0
+
+  other_cut : (which : Device) (trace : List Move) → IsCut which (expired accepts b story) story trace → IsTrustedIn accepts (other_bank b) (noted (what.Locked b (fault_of which)) (after trace story))
+  other_cut which trace cut =
+      let good = safe_cut (KeepsTrust accepts (other_bank b) t.manifest) which (expired accepts b story) trace story (expired_keeps accepts b t.manifest story size) cut in
+      trusted_noted accepts (other_bank b) (what.Locked b (fault_of which)) (after trace story) (good_keeps accepts b t.manifest trace story good (t, refl)).0
 
 -- ---- stretch by stretch
+faults_unjudged : AllowsFaults Unjudged
+faults_unjudged = record { held = λ b story. tt; locked = λ b which story. fault_unjudged which; lost = λ which story. tt }
+
+provision_unjudged : (root : RootSlot) (judged : Result ℕ FuseFail) (story : Story) → AllSafe Unjudged (provisioned_in root judged story) story
+provision_unjudged root (Ok number) story =
+    AllSafe-append Unjudged (called device.Nv (provision_plan number root)) (Says (λ _. what.Provisioned) ∷ []) story
+    (call_says (λ note here. IsUnjudged note) device.Nv (provision_plan number root) story) (tt, tt)
+provision_unjudged root (Err cause) story = (tt, tt)
+
 module _ (begin new : World) where
-  within : Between begin new begin new
-  within = record { before = AllMoved-refl begin; behind = AllMoved-refl new }
-
-  allows : AllowsLosses Unjudged begin new
-  allows which story fell = (tt, tt)
-
-  abbrev IsUnjudgedStretch : (Story → Type 0) → Stretch → (Story → Type 0) → Type 0
-  IsUnjudgedStretch P stretch Q = IsGoodStretch Unjudged begin new Any P stretch Q
-
   noted_unjudged : (moves : List Move) → AllGood Unjudged moves (story_of begin) → Follows (record { first = moves; stretches = [] }) begin new → Traced Unjudged begin new
-  noted_unjudged moves good t = noted_along Unjudged begin new Any (λ w moved. tt) allows begin new within moves t good
+  noted_unjudged moves good t = noted_by Unjudged faults_unjudged begin new Any (λ w moved. tt) moves t good
 
-  single_unjudged : (P : Story → Type 0) (stretch : Stretch) → IsUnjudgedStretch P stretch Any → P (story_of begin) → Follows (record { first = []; stretches = stretch ∷ [] }) begin new → Traced Unjudged begin new
-  single_unjudged P stretch good p t = single_along Unjudged begin new Any (λ w moved. tt) allows begin new within stretch P Any good p t
-
-  provision_unjudged : (root : RootSlot) (judged : Result ℕ FuseFail) (story : Story) → AllSafe Unjudged (provisioned_in root judged story) story
-  provision_unjudged root (Ok number) story =
-      AllSafe-append Unjudged (called device.Nv (provision_plan number root)) (Says (λ _. what.Provisioned) ∷ []) story
-      (call_says (λ note here. IsUnjudged note) device.Nv (provision_plan number root) story) (tt, tt)
-  provision_unjudged root (Err cause) story = (tt, tt)
-
-  provision_good : (root : RootSlot) → IsUnjudgedStretch Any (provision_stretch root) Any
-  provision_good root = record {
-    plan = record { safe = λ story p. (tt, provision_unjudged root (judged_here root story) story); ends = λ story p. tt };
-    noted = λ which story trace p cut rose. (inl tt, (inl tt, tt));
-    on = λ which story trace p cut e. tt;
-  }
-
-  spi_good : (accepts : Acceptance) (b : Bank) (frame : List ℕ) → IsUnjudgedStretch Any (spi_stretch accepts b frame) Any
-  spi_good accepts b frame =
-      let frames : AllowsSpi Unjudged b = record { passed = λ op story. tt; blocked = λ cause story. tt; asks = λ story. tt; works = λ op story. tt } in
-      record {
-        plan = record { safe = λ story p. spi_safe Unjudged accepts b frame frames story; ends = λ story p. tt };
-        noted = λ which story trace p cut rose. (tt, (inl tt, tt));
-        on = λ which story trace p cut e. tt;
-      }
-
-  update_good : (accepts : Acceptance) (b : Bank) (intent : Intent) → IsUnjudgedStretch (IsTrustedIn accepts b) (update_stretch accepts b intent) Any
-  update_good accepts b intent = record {
-    plan = record {
-      safe = λ story p.
-          updating_safe Unjudged accepts b (IsTrustedIn accepts b) (IsReadIn accepts b) (λ fuses cause there. ⊥) (λ fuses there. Unit {0}) (trusted_walks accepts b)
-          intent story (trusted_anew accepts b (is_dynamic intent)) tt (trusted_noted accepts b (what.Held b) story p.1);
-      ends = λ story p. tt;
-    };
-    noted = λ which story trace p cut rose. (fault_unjudged which, tt);
-    on = λ which story trace p cut e. tt;
-  }
+  -- a stage that was passed, or a boot that failed
+  boot_unjudged : (accepts : Acceptance) (b : Bank) (pass : Bool) (story : Story) → IsTrustedIn accepts b (story_of begin) → Follows (boot_course accepts b pass story) begin new → Traced Unjudged begin new
+  boot_unjudged accepts b true story trusted t =
+      let at : Stage = stage_at b story in
+      noted_unjudged (Says (λ _. pass_note b at (next_stage at)) ∷ []) (pass_noted IsUnjudged b at (next_stage at) (λ e. tt) (λ e. tt), tt) t
+  boot_unjudged accepts b false story trusted t = failed_by Unjudged faults_unjudged begin new Any (λ w moved. tt) accepts b (λ any. expired_unjudged accepts b (story_of begin) trusted) t
 
   -- an expiry, from where its bank is trusted; what holds behind it is told of both its ends
   expiry_good : (accepts : Acceptance) (b : Bank) (P Q : Story → Type 0) → ((story : Story) → P story → IsTrustedIn accepts b story)
-      → ((story : Story) → P story → Q (after (expired accepts b story) story))
-      → ((which : Device) (story : Story) (trace : List Move) → P story → IsCut which (expired accepts b story) story trace → Q (noted (what.Locked b (fault_of which)) (after trace story)))
-      → IsUnjudgedStretch P (expiry_stretch accepts b) Q
+      → ((story : Story) → IsSized story → P story → Q (after (expired accepts b story) story))
+      → ((which : Device) (story : Story) (trace : List Move) → IsSized story → P story → IsCut which (expired accepts b story) story trace → Q (noted (what.Locked b (fault_of which)) (after trace story)))
+      → IsGoodStretch Unjudged begin new IsSized P (expiry_stretch accepts b) Q
   expiry_good accepts b P Q trusted ends on = record {
-    plan = record { safe = λ story p. expired_unjudged accepts b story (trusted story p.1); ends = λ story p. ends story p.1 };
+    plan = record { safe = λ story p. expired_unjudged accepts b story (trusted story p.1); ends = λ story p. ends story p.0 p.1 };
     noted = λ which story trace p cut rose. (fault_unjudged which, tt);
-    on = λ which story trace p cut e. on which story trace p.1 cut;
+    on = λ which story trace p cut e. on which story trace p.0 p.1 cut;
   }
-
-  last_expiry : (accepts : Acceptance) (b : Bank) (P : Story → Type 0) → ((story : Story) → P story → IsTrustedIn accepts b story) → IsUnjudgedStretch P (expiry_stretch accepts b) Any
-  last_expiry accepts b P trusted = expiry_good accepts b P Any trusted (λ story p. tt) (λ which story trace p cut. tt)
 
   -- ---- ticks, by the story that they are judged by
   module _ (accepts : Acceptance) (n : ℕ) (judged : Story) where
@@ -230,70 +228,62 @@ module _ (begin new : World) where
     abbrev AreTrustedDue : Story → Type 0
     AreTrustedDue story = (b : Bank) → IsTrustedDue b story
 
-    first_expiry : is_due bank.Bmc n judged ≡ true → IsUnjudgedStretch AreTrustedDue (expiry_stretch accepts bank.Bmc) (IsTrustedDue bank.Pch)
+    first_expiry : is_due bank.Bmc n judged ≡ true → IsGoodStretch Unjudged begin new IsSized AreTrustedDue (expiry_stretch accepts bank.Bmc) (IsTrustedDue bank.Pch)
     first_expiry due =
-        let keeps = keeps_pch accepts in
         expiry_good accepts bank.Bmc AreTrustedDue (IsTrustedDue bank.Pch) (λ story p. p bank.Bmc due)
-        (λ story p pch.
-        let moves : List Move = expired accepts bank.Bmc story in
-        kept_by LeavesPch (IsTrustedIn accepts bank.Pch) keeps moves story (safe_whole LeavesPch moves story (expired_leaves_pch accepts story)) (p bank.Pch pch))
-        (λ which story trace p cut pch.
-        let good = safe_cut LeavesPch which (expired accepts bank.Bmc story) trace story (expired_leaves_pch accepts story) cut in
-        trusted_noted accepts bank.Pch (what.Locked bank.Bmc (fault_of which)) (after trace story)
-        (kept_by LeavesPch (IsTrustedIn accepts bank.Pch) keeps trace story good (p bank.Pch pch)))
+        (λ story size p pch. other_behind accepts bank.Bmc story size (p bank.Pch pch))
+        (λ which story trace size p cut pch. other_cut accepts bank.Bmc story size (p bank.Pch pch) which trace cut)
 
-    tick_unjudged : AreTrustedDue (story_of begin) → Follows (tick_course accepts n judged) begin new → Traced Unjudged begin new
-    tick_unjudged trusted t =
-        tick_along Unjudged begin new Any (λ w moved. tt) allows begin new within accepts n judged AreTrustedDue (IsTrustedDue bank.Pch) Any
-        first_expiry (λ there p. p bank.Pch) (λ due. last_expiry accepts bank.Pch (IsTrustedDue bank.Pch) (λ story p. p due)) (λ there p. tt) trusted t
+    last_expiry : is_due bank.Pch n judged ≡ true → IsGoodStretch Unjudged begin new IsSized (IsTrustedDue bank.Pch) (expiry_stretch accepts bank.Pch) Any
+    last_expiry due = expiry_good accepts bank.Pch (IsTrustedDue bank.Pch) Any (λ story p. p due) (λ story size p. tt) (λ which story trace size p cut. tt)
 
-  -- ---- a stage that was passed, or a boot that failed
-  boot_unjudged : (accepts : Acceptance) (b : Bank) (pass : Bool) (story : Story) → IsTrustedIn accepts b (story_of begin) → Follows (boot_course accepts b pass story) begin new → Traced Unjudged begin new
-  boot_unjudged accepts b true story trusted t =
-      let at : Stage = stage_at b story in
-      noted_unjudged (Says (λ _. pass_note b at (next_stage at)) ∷ []) (pass_noted IsUnjudged b at (next_stage at) (λ e. tt) (λ e. tt), tt) t
-  boot_unjudged accepts b false story trusted t = single_unjudged (IsTrustedIn accepts b) (expiry_stretch accepts b) (last_expiry accepts b (IsTrustedIn accepts b) (λ there p. p)) trusted t
-
-  smbus_unjudged : (accepts : Acceptance) (b : Bank) (frame : List ℕ) (story : Story) → Follows (record { first = smbus_judged accepts b frame story; stretches = [] }) begin new → Traced Unjudged begin new
-  smbus_unjudged accepts b frame story t =
-      let frames : AllowsSmbus Unjudged b = record { passed = λ there. tt; blocked = λ cause there. tt } in
-      let moves : List Move = smbus_judged accepts b frame story in
-      noted_unjudged moves (safe_whole Unjudged moves (story_of begin) (smbus_safe Unjudged accepts b frame frames story (story_of begin))) t
+    tick_unjudged : size_of begin.nv ≡ 32768 → AreTrustedDue (story_of begin) → Follows (tick_course accepts n judged) begin new → Traced Unjudged begin new
+    tick_unjudged size trusted t =
+        tick_along Unjudged begin new IsSized (sized begin new size (tick_course accepts n judged) t) (λ which story fell. (tt, tt)) begin new (record { before = AllMoved-refl begin; behind = AllMoved-refl new })
+        accepts n judged AreTrustedDue (IsTrustedDue bank.Pch) Any first_expiry (λ there p. p bank.Pch) last_expiry (λ there p. tt) trusted t
 
 -- ---- a whole step
-module _ (accepts : Acceptance) (old new : World) (trusted : TrustedRunning accepts old) where
+module _ (accepts : Acceptance) (old new : World) (size : size_of old.nv ≡ 32768) (trusted : TrustedRunning accepts old) where
   abbrev here : Event → World
   here e = begun e old
 
   trusted_at : (e : Event) (b : Bank) → standing_of b old.notes.list ≡ Running → IsTrustedIn accepts b (story_of (here e))
   trusted_at e b runs = trusted_here accepts e old trusted b runs
 
-  taken_unjudged : (e : Event) → ¬ IsPower e → IsTakenBy accepts e old new → Traced Unjudged (here e) new
-  taken_unjudged event.Power other on = absurd (other tt)
-  taken_unjudged event.Off other on = noted_unjudged (here event.Off) new off_course.first (tt, tt) on.1
-  taken_unjudged (event.Provision root) other on = single_unjudged (here (event.Provision root)) new Any (provision_stretch root) (provision_good (here (event.Provision root)) new root) tt on.1
-  taken_unjudged (event.Spi b frame) other on = single_unjudged (here (event.Spi b frame)) new Any (spi_stretch accepts b frame) (spi_good (here (event.Spi b frame)) new accepts b frame) tt on.1
-  taken_unjudged (event.Smbus b frame) other on = smbus_unjudged (here (event.Smbus b frame)) new accepts b frame (story_of old) on.1
-  taken_unjudged (event.Tick n) other on =
+  taken_unjudged : (e : Event) → ¬ IsPower e → ¬ IsFuseUpdate e → IsTakenBy accepts e old new → Traced Unjudged (here e) new
+  taken_unjudged event.Power other own on = absurd (other tt)
+  taken_unjudged event.Off other own on = noted_unjudged (here event.Off) new off_course.first (tt, tt) on.1
+  taken_unjudged (event.Provision root) other own on =
+      provision_by Unjudged faults_unjudged (here (event.Provision root)) new Any (λ w moved. tt) Any root (λ story any. (tt, provision_unjudged root (judged_here root story) story)) tt on.1
+  taken_unjudged (event.Spi b frame) other own on =
+      let frames : AllowsSpi Unjudged b = record { passed = λ op story. tt; blocked = λ cause story. tt; asks = λ story. tt; works = λ op story. tt } in
+      spi_by Unjudged faults_unjudged (here (event.Spi b frame)) new Any (λ w moved. tt) Any accepts b frame (λ story any. spi_safe Unjudged accepts b frame frames story) tt on.1
+  taken_unjudged (event.Smbus b frame) other own on =
+      let first : World = here (event.Smbus b frame) in
+      smbus_by Unjudged faults_unjudged first new Any (λ w moved. tt) accepts b frame (story_of old)
+      (smbus_safe Unjudged accepts b frame (record { passed = λ there. tt; blocked = λ cause there. tt }) (story_of old) (story_of first)) on.1
+  taken_unjudged (event.Tick n) other own on =
       let e : Event = event.Tick n in
-      tick_unjudged (here e) new accepts n (story_of old) (λ b due. trusted_at e b (due_runs (standing_of b old.notes.list) (expires (guard_at b old.guards).watch n) due)) on.1
-  taken_unjudged (event.Boot b pass) other on =
+      tick_unjudged (here e) new accepts n (story_of old) size (λ b due. trusted_at e b (due_runs (standing_of b old.notes.list) (expires (guard_at b old.guards).watch n) due)) on.1
+  taken_unjudged (event.Boot b pass) other own on =
       let e : Event = event.Boot b pass in
       boot_unjudged (here e) new accepts b pass (story_of old) (trusted_at e b (taken_boots (standing_of b old.notes.list) (stage_at b (story_of old)) on.0).0) on.1
-  taken_unjudged (event.Update b intent) other on =
+  taken_unjudged (event.Update b intent) other own on =
       let e : Event = event.Update b intent in
-      single_unjudged (here e) new (IsTrustedIn accepts b) (update_stretch accepts b intent) (update_good (here e) new accepts b intent) (trusted_at e b (taken_runs (standing_of b old.notes.list) on.0)) on.1
+      update_by Unjudged faults_unjudged (here e) new Any (λ w moved. tt) accepts b intent
+      (λ any. updating_unjudged accepts b intent (story_of (here e)) own (trusted_at e b (taken_runs (standing_of b old.notes.list) on.0))) on.1
 
-  all_unjudged : (e : Event) → ¬ IsPower e → Turn accepts e old new → Traced Unjudged (here e) new
-  all_unjudged e other t = elim (Turn-cases accepts e old new t) [
+  all_unjudged : (e : Event) → ¬ IsPower e → ¬ IsFuseUpdate e → Turn accepts e old new → Traced Unjudged (here e) new
+  all_unjudged e other own t = elim (Turn-cases accepts e old new t) [
     | inl idle ↦ noted_unjudged (here e) new ignored.first (tt, tt) idle.1
-    | inr on ↦ taken_unjudged e other on
+    | inr on ↦ taken_unjudged e other own on
   ]
 
--- Banks that run are trusted where a step begins, so none is locked for its contents or called untrusted, but at a power-on.
-pub Turn-judges : (accepts : Acceptance) (e : Event) (old new : World) → Turn accepts e old new → TrustedRunning accepts old → JudgesAtPower e old new
-Turn-judges accepts e old new t trusted other =
-    let known = Traced-known (λ that story. IsUnjudged that) (begun e old) new (all_unjudged accepts old new trusted e other t) in
+-- Banks that run are trusted where a step begins, so none is locked for its contents or called untrusted, but at a power-on, and
+-- where fuses change.
+pub Turn-judges : (accepts : Acceptance) (e : Event) (old new : World) → size_of old.nv ≡ 32768 → Turn accepts e old new → TrustedRunning accepts old → JudgesAtPower e old new
+Turn-judges accepts e old new size t trusted other own =
+    let known = Traced-known (λ that story. IsUnjudged that) (begun e old) new (all_unjudged accepts old new size trusted e other own t) in
     record {
       locked = λ which cause at n. (known (what.Locked which cause at) n).1;
       trusted = λ which cause n. (known (what.Untrusted which cause) n).1;

@@ -1,7 +1,8 @@
 -- What a platform carries of its banks' spans, from step to step.
 use Rattle.std.proofs.Common.{◌≡◌, ◌∙◌, ℕ, ◌≤◌, refl, sym, ap, subst, arith, List, [], ◌∷◌, ◌++◌, length, take, inl, inr, append_assoc}
 use Rattle.std.proofs.lemmas.List.{take-append-le}
-use Rattle.pfr_flash.specs.FlashState.{now}
+use Rattle.pfr_flash.specs.FlashState.{now, size_of}
+use Rattle.pfr_flash.specs.Layout.{IsBankSize}
 use Rattle.pfr_flash.specs.Operation.{Operation, play}
 use Rattle.pfr_flash.specs.declared.names.Bank.{Bank}
 use Rattle.pfr_flash.specs.declared.names.Bank.TheVariants as bank
@@ -26,6 +27,7 @@ use Rattle.pfr_story.specs.Keeping.{IsSettled, HasTrustedSpans}
 use Rattle.pfr_story.specs.Turn.{Turn}
 use Rattle.pfr_story.proofs.Bytes.{HaveBytes}
 use Rattle.pfr_story.proofs.Traces.{Begins, Precedes, begins_at}
+use Rattle.pfr_story.proofs.IdleLaws.{Turn-idle}
 use Rattle.pfr_story.proofs.NoteLaws.{Turn-releases}
 use Rattle.pfr_story.proofs.RunLaws.{IsLater-turn, trusted_at, adds_added, turn_adds}
 use Rattle.pfr_story.proofs.SpanLaws.{past_upto, AreSpared, IsKept, IsTrustedAt, IsOpen, Kept, AllOpen, AllEnded, open_none, ended_append, begins, running_spans, none_or_running, ReleasedSpans-begun, settled_running, upto_last}
@@ -125,9 +127,10 @@ begin_more which P notes more closed opened f =
     )
 
 -- A step keeps it.
-pub Turn-trusted_spans : (accepts : Acceptance) (which : Bank) (e : Event) (old new : World) → Turn accepts e old new → HaveBytes new → length old.nv.start ≡ 32768
-    → HasTrustedSpans accepts which (story_of old) → HasTrustedSpans accepts which (story_of new)
-Turn-trusted_spans accepts which e old new t held size h =
+pub Turn-trusted_spans : (accepts : Acceptance) (which : Bank) (e : Event) (old new : World) → Turn accepts e old new → HaveBytes new → IsBankSize (size_of old.bmc) → IsBankSize (size_of old.pch) → size_of old.nv ≡ 32768
+    → ((c : Bank) → HasTrustedSpans accepts c (story_of old)) → HasTrustedSpans accepts which (story_of new)
+Turn-trusted_spans accepts which e old new t held bmc pch size spans =
+    let h : HasTrustedSpans accepts which (story_of old) = spans which in
     let a : Story = story_of old in
     let b : Story = story_of new in
     let p : Precedes a b = (IsLater-turn accepts e old new t).precedes in
@@ -135,7 +138,7 @@ Turn-trusted_spans accepts which e old new t held size h =
     let later : (begin end : Counts) → IsSpan accepts which (past_at (device_of which) a) a.nv begin end → P begin =
     λ begin end s. trusted_later accepts which (past_at (device_of which) a) a.nv (past_at (device_of which) b) b.nv begin end (begins_at (device_of which) a b p) p.nv s in
     let begun = begin_more which P old.notes.list (added old new) (all_ended accepts which a h (λ begin end. P begin) later) (all_open accepts which a h P (λ begin s. later begin (counts_of a) s))
-    (λ svn at n. trusted_at accepts which svn at new (Turn-releases accepts e old new t held which svn at n)) in
+    (λ svn at n. trusted_at accepts which svn at new (Turn-releases accepts e old new size t held which svn at n)) in
     let notes : old.notes.list ++ added old new ≡ new.notes.list = sym (adds_added old new (turn_adds accepts e old new t)) in
     let kept : Kept accepts which b = Turn-spans accepts which e old new t size (kept_so accepts which a h) in
     record {
@@ -143,6 +146,7 @@ Turn-trusted_spans accepts which e old new t held size h =
           (subst (λ (ns : List Note). AllEnded (λ begin end. P begin) (ended_from which [] ns)) notes begun.0)
           (subst (λ (ns : List Note). AllOpen P (opens_from which [] ns)) notes begun.1);
       settled = λ runs. settled_running accepts which b kept runs;
+      idle = Turn-idle accepts which e old new t held bmc pch size spans;
     }
 
 -- ---- a bank that stands released is trusted now

@@ -1,6 +1,6 @@
 -- A loss of power ends a step, and is noted exactly where it was counted.
 use Rattle.std.proofs.Common.{◌≡◌, ◌↔◌, ◌∙◌, ◌<◌, refl, sym, ap, subst, arith, ℕ, Bool, true, false, List, [], ◌∷◌, ◌++◌, Option, Some, None, ◌⊎◌, inl, inr}
-use Rattle.pfr_flash.specs.FlashState.{FlashState}
+use Rattle.pfr_flash.specs.FlashState.{FlashState, size_of}
 use Rattle.pfr_flash.specs.declared.names.Bank.{Bank}
 use Rattle.pfr_flash.specs.declared.names.Bank.TheVariants as bank
 use Rattle.pfr_flash.specs.declared.names.Counts.{Counts}
@@ -23,7 +23,8 @@ use Rattle.pfr_story.specs.Goes.{Ran}
 use Rattle.pfr_story.specs.Safety.{AllMake}
 use Rattle.pfr_story.specs.Course.{Stretch, Steps, Course, Follows}
 use Rattle.pfr_story.specs.Standing.{standing_of, standing_from, standing_after, Standing, Off}
-use Rattle.pfr_story.specs.Plans.{brought_up, expired, updating, migrated, provisioned, filtered, smbus_judged}
+use Rattle.pfr_story.specs.Plans.{brought_up, expired, migrated, provisioned, filtered, smbus_judged}
+use Rattle.pfr_story.specs.UpdatePlans.{updating}
 use Rattle.pfr_story.specs.Turn.{bank_stretch, fuse_stretch, provision_stretch, spi_stretch, expiry_stretch, update_stretch, is_due, stretch_if, stage_at, ignored, off_course, power_course, provision_course, spi_course, smbus_course, tick_course, boot_course, update_course, taken, begun, Turn}
 use Rattle.pfr_story.specs.Promises.{HasLost, LossesAreNoted, IsLast, LostEnds, IsSwitchedOff, NotesOff}
 use Rattle.pfr_story.proofs.WorldLaws.{NoneLost-trans, NoneLost-at, LostAt-later, LostAt-on, each_at}
@@ -223,7 +224,7 @@ module _ (old new : World) (l : EndsLost old new) where
       let item : new.item ≡ there.item = ap (λ (s : Story). s.item) l.is in
       ap (λ (s : Story). s.notes) l.is ∙ ap (λ (n : ℕ). there.notes ++ record { item = n; what = what.Lost l.device (counts_of there) } ∷ []) (sym item)
 
-standing_push : (which : Bank) (s : Standing) (notes : List Note) (one : Note) → standing_from which s (notes ++ one ∷ []) ≡ standing_after which one.what (standing_from which s notes)
+pub standing_push : (which : Bank) (s : Standing) (notes : List Note) (one : Note) → standing_from which s (notes ++ one ∷ []) ≡ standing_after which one.what (standing_from which s notes)
 standing_push which s [] one = refl
 standing_push which s (first ∷ notes) one = standing_push which (standing_after which first.what s) notes one
 
@@ -311,6 +312,6 @@ switched_off accepts (event.Tick n) old new t off = absurd off
 switched_off accepts (event.Boot b pass) old new t off = absurd off
 switched_off accepts (event.Update b intent) old new t off = absurd off
 
-pub Turn-off : (accepts : Acceptance) (e : Event) (old new : World) → Turn accepts e old new → NotesOff e old new
+pub Turn-off : (accepts : Acceptance) (e : Event) (old new : World) → size_of old.nv ≡ 32768 → Turn accepts e old new → NotesOff e old new
 unfolding step_of
-Turn-off accepts e old new t = record { only = λ at n. (Turn-known accepts e old new t (what.Lost None at) n).1.1; all = switched_off accepts e old new t }
+Turn-off accepts e old new size t = record { only = λ at n. (Turn-known accepts e old new size t (what.Lost None at) n).1.1; all = switched_off accepts e old new t }

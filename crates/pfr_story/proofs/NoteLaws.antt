@@ -1,11 +1,12 @@
 -- Each step keeps its promises about releases, locks, restores and faults.
 use Rattle.std.proofs.Common.{◌≡◌, ◌∙◌, refl, sym, ap, subst, ℕ, List, [], ◌∷◌, ◌++◌, length, drop, inl, inr}
 use Rattle.pfr_flash.specs.Bytes.{AreBytes}
-use Rattle.pfr_flash.specs.FlashState.{upto}
+use Rattle.pfr_flash.specs.FlashState.{upto, size_of}
 use Rattle.pfr_flash.specs.declared.names.Bank.{Bank}
 use Rattle.pfr_flash.specs.declared.names.Bank.TheVariants as bank
 use Rattle.pfr_flash.specs.declared.names.Counts.{Counts}
 use Rattle.pfr_engine.specs.Acceptance.{Acceptance}
+use Rattle.pfr_jobs.specs.declared.job.JobKind.TheVariants.{ActiveFromRecovery}
 use Rattle.pfr_script.specs.declared.event.Event.{Event}
 use Rattle.pfr_report.specs.declared.note.LockWhy.{LockWhy}
 use Rattle.pfr_report.specs.declared.note.LockWhy.TheVariants as why
@@ -61,34 +62,34 @@ until_last F (Says w ∷ trace) story last e good =
 until_last F (Does which op ∷ trace) story last e good = (tt, until_last F trace (operated which op story) last e good.1)
 until_last F (Asks which ∷ trace) story last e good = (tt, until_last F trace story last e good.1)
 
-module _ (accepts : Acceptance) (e : Event) (old new : World) (t : Turn accepts e old new) where
+module _ (accepts : Acceptance) (e : Event) (old new : World) (size : size_of old.nv ≡ 32768) (t : Turn accepts e old new) where
   -- A bank is locked for a fault only where a count of faults rose.
   pub Turn-faults : FaultsHaveCauses old new
   unfolding step_of
   Turn-faults = record {
-    flash = λ which at n. (Turn-known accepts e old new t (what.Locked which why.FlashFault at) n).1.1;
-    store = λ which at n. (Turn-known accepts e old new t (what.Locked which why.StoreFault at) n).1.1;
+    flash = λ which at n. (Turn-known accepts e old new size t (what.Locked which why.FlashFault at) n).1.1;
+    store = λ which at n. (Turn-known accepts e old new size t (what.Locked which why.StoreFault at) n).1.1;
   }
 
   -- A bank's image is called untrusted only with the cause against it.
   pub Turn-distrusts : DistrustsWithCause accepts old new
   unfolding step_of
   Turn-distrusts which cause n =
-      let k = Turn-since accepts e old new t (what.Untrusted which cause) n in
+      let k = Turn-since accepts e old new size t (what.Untrusted which cause) n in
       (counts_of k.0, record { behind = not_before (story_of (begun e old)) k.0 k.1.1; before = not_before k.0 (story_of new) k.2 }, at_moment (λ image nv. IsAgainst cause which image nv accepts) which k.0 (counts_of k.0) new refl k.2 k.1.0)
 
   -- A bank is released only where it was trusted.
   pub Turn-releases : HaveBytes new → ReleasesTrusted accepts old new
   unfolding step_of
   Turn-releases held which svn at n =
-      let k = Turn-known accepts e old new t (what.Released which svn at) n in
+      let k = Turn-known accepts e old new size t (what.Released which svn at) n in
       at_moment (λ image nv. IsTrustedWith svn image nv which accepts) which k.0 at new k.1.0 k.2 (k.1.1 (images_then k.0 new k.2 held (device_of which)))
 
   -- A bank is locked, but for a fault or by an expired watch, only with a cause in its contents.
   pub Turn-locks : HaveBytes new → LocksHaveCauses accepts old new
   unfolding step_of
   Turn-locks held which cause at n no_fault no_watch =
-      let k = Turn-known accepts e old new t (what.Locked which cause at) n in
+      let k = Turn-known accepts e old new size t (what.Locked which cause at) n in
       at_moment (λ image nv. IsDue cause which image nv accepts) which k.0 at new k.1.0 k.2
       (lock_due (step_of accepts e old new) cause which k.0 no_fault no_watch (images_then k.0 new k.2 held (device_of which)) k.1.1)
 
@@ -96,7 +97,7 @@ module _ (accepts : Acceptance) (e : Event) (old new : World) (t : Turn accepts 
   known_within : (that : What) → IsNoted (added old new) that → KnownBefore (λ note at. Fact (step_of accepts e old new) note at × IsFront at.notes new.notes.list) that (story_of new)
   known_within that n =
       let s : Setting = step_of accepts e old new in
-      let traced = Turn-traced accepts e old new t in
+      let traced = Turn-traced accepts e old new size t in
       let last : (after traced.trace (story_of (begun e old))).notes ≡ new.notes.list = ap (λ (story : Story). story.notes) (sym traced.is) in
       Traced-known (λ note at. Fact s note at × IsFront at.notes new.notes.list) (begun e old) new
       (record { trace = traced.trace; is = traced.is; good = until_last (Fact s) traced.trace (story_of (begun e old)) new.notes.list last traced.good; moved = traced.moved }) that n
@@ -106,9 +107,13 @@ module _ (accepts : Acceptance) (e : Event) (old new : World) (t : Turn accepts 
       → CallsForRestore accepts which level (added old new) image nv
   unfolding step_of
   called_for which level notes image nv front (inl first) = inl first
-  called_for which level notes image nv front (inr (expired, good)) =
+  called_for which level notes image nv front (inr (inl (expired, good))) =
       let whole = noted_dropped (length old.notes.list) notes front.more (what.Expired which level) expired in
-      inr (subst (λ (all : List Note). IsNoted (drop (length old.notes.list) all) (what.Expired which level)) (sym front.is) whole, good)
+      inr (inl (subst (λ (all : List Note). IsNoted (drop (length old.notes.list) all) (what.Expired which level)) (sym front.is) whole, good))
+  called_for which level notes image nv front (inr (inr (resumed, good))) =
+      let that : What = what.Resumed which (ActiveFromRecovery level) in
+      let whole = noted_dropped (length old.notes.list) notes front.more that resumed in
+      inr (inr (subst (λ (all : List Note). IsNoted (drop (length old.notes.list) all) that) (sym front.is) whole, good))
 
   -- A bank is restored only where it was to be.
   pub Turn-restores : HaveBytes new → RestoresGood accepts old new

@@ -1,9 +1,8 @@
--- All that is noted of a bank behind Held, where no call fails, has its cause in the contents then.
-use Rattle.std.proofs.Common.{◌≡◌, ◌∙◌, refl, sym, ap, subst, ℕ, List, [], ◌∷◌, ◌++◌, length, append_assoc, ◌⊎◌, inl, inr, Result, Ok, Err}
+-- All that is noted of a bank where it is checked, and no call fails, has its cause in the contents then.
+use Rattle.std.proofs.Common.{◌≡◌, ◌∙◌, refl, sym, ap, subst, ℕ, List, [], ◌∷◌, ◌++◌, length, ◌⊎◌, inl, inr, Result, Ok, Err}
 use Rattle.pfr_flash.specs.Bytes.{AreBytes}
 use Rattle.pfr_flash.specs.Judging.{◌>>◌, told_as}
 use Rattle.pfr_flash.specs.Layout.{judge_layout}
-use Rattle.pfr_flash.specs.Operation.{Operation}
 use Rattle.pfr_flash.specs.declared.layout.LayoutRule.{LayoutRule}
 use Rattle.pfr_flash.specs.declared.names.Bank.{Bank}
 use Rattle.pfr_flash.specs.declared.names.Counts.{Counts}
@@ -24,17 +23,17 @@ use Rattle.pfr_report.specs.declared.note.LockWhy.TheVariants as why
 use Rattle.pfr_report.specs.declared.note.Note.{Note}
 use Rattle.pfr_report.specs.declared.note.What.{What}
 use Rattle.pfr_report.specs.declared.note.What.TheVariants as what
-use Rattle.pfr_story.specs.Story.{Story, Move, Says, after, noted, counts_of, device_of, called}
-use Rattle.pfr_story.specs.Plans.{mine, store, lock_of, ready_in, ready_of, judged_active, judged_recovery, job_ops, restored, by_second, checked_again, by_recovery, by_active, by_ready}
+use Rattle.pfr_story.specs.Story.{Story, Move, after, noted, counts_of}
+use Rattle.pfr_story.specs.Plans.{mine, store, lock_of, ready_in, ready_of, judged_active, judged_recovery, restored, by_second, checked_again, by_recovery, by_active, by_fuses}
 use Rattle.pfr_story.specs.Causes.{IsAgainst, IsRestorable}
 use Rattle.pfr_story.specs.Promises.{IsWatchLock}
 use Rattle.pfr_story.specs.Bringing.{IsNotedBehind}
 use Rattle.pfr_story.proofs.BringRules.{IsReady, ready_found}
-use Rattle.pfr_story.proofs.SafetyLaws.{AllMake-append, AllMake-called}
 use Rattle.pfr_story.proofs.Facts.{not_trusted, good_recovery}
-use Rattle.pfr_story.proofs.Traces.{noted_append}
-use Rattle.pfr_story.proofs.Made.{said, said_append, Whichever, AllSay, said_all}
-use Rattle.pfr_story.proofs.TailLaws.{behind, distrusted, by_against, judged_told}
+use Rattle.pfr_story.proofs.JobMakes.{with_job_makes}
+use Rattle.pfr_story.proofs.Traces.{noted_append, noted_right}
+use Rattle.pfr_story.proofs.Made.{said, said_append, behind_next, Whichever, AllSay, said_all}
+use Rattle.pfr_story.proofs.TailLaws.{job_noted, behind, distrusted, by_against, judged_told}
 
 -- ---- a bank that can't be checked isn't locked for its watch
 lock_unwatched : (cause : FuseFail) → ¬ IsWatchLock (lock_of cause)
@@ -53,8 +52,14 @@ pub unready_unwatched : (b : Bank) (cause : LockWhy) (story : Story) → ready_o
 unready_unwatched b cause story e = read_unwatched b (length (mine b story)) (fuses_of (store story)) cause e
 
 -- ---- what is noted
+-- what is noted behind notes stands behind each of them
+pub behind_noted : (this that : What) (notes more : List Note) → IsNoted notes this → IsNoted more that → IsNotedBehind this that (notes ++ more)
+behind_noted this that [] more n m = absurd n
+behind_noted this that (note ∷ notes) more (inl e) m = record { before = []; item = note.item; behind = notes ++ more; is = ap (λ (w : What). record { item = note.item; what = w } ∷ (notes ++ more)) e; noted = noted_right notes more that m }
+behind_noted this that (note ∷ notes) more (inr n) m = behind_next this that note (notes ++ more) (behind_noted this that notes more n m)
+
 module _ (accepts : Acceptance) (b : Bank) (story : Story) where
-  -- the cause of a note of a bank that is held in this story
+  -- the cause of a note of a bank that is checked in this story
   abbrev pub Cause : What → Type 0
   Cause (what.Held c at) = ⊥
   Cause (what.Released c svn at) = (at ≡ counts_of story) ⊎ IsNotedBehind (what.Restored b 1) (what.Released c svn at) (behind accepts b story)
@@ -71,19 +76,12 @@ module _ (accepts : Acceptance) (b : Bank) (story : Story) where
       → behind accepts b story ≡ record { item = story.item; what = what.Untrusted b cause } ∷ said (restored b 1 fuses capsule (told cause) ++ more) (told cause)
       → IsNoted (said more (after (restored b 1 fuses capsule (told cause)) (told cause))) that → IsNotedBehind (what.Restored b 1) that (behind accepts b story)
   restored_behind fuses cause capsule more that is n =
-      let copy : List Move = called (device_of b) (job_ops (ActiveFromRecovery 1) (mine b (told cause)) capsule (layout_of fuses.provision b)) in
-      let tells : List Move = Says (λ _. what.Restored b 1) ∷ [] in
+      let moves : List Move = restored b 1 fuses capsule (told cause) in
       let first : Note = record { item = story.item; what = what.Untrusted b cause } in
-      let rest : List Note = said more (after (copy ++ tells) (told cause)) in
-      record {
-        before = first ∷ said copy (told cause);
-        item = (after copy (told cause)).item;
-        behind = rest;
-        is = is ∙ ap (λ (notes : List Note). first ∷ notes)
-            (said_append (copy ++ tells) more (told cause) ∙ ap (λ (notes : List Note). notes ++ rest) (said_append copy tells (told cause))
-            ∙ append_assoc (said copy (told cause)) (said tells (after copy (told cause))) rest);
-        noted = n;
-      }
+      let rest : List Note = said more (after moves (told cause)) in
+      subst (λ (notes : List Note). IsNotedBehind (what.Restored b 1) that notes) (sym (is ∙ ap (λ (notes : List Note). first ∷ notes) (said_append moves more (told cause))))
+      (behind_next (what.Restored b 1) that first (said moves (told cause) ++ rest)
+      (behind_noted (what.Restored b 1) that (said moves (told cause)) rest (job_noted b (ActiveFromRecovery 1) fuses capsule (what.Restored b 1) (told cause)) n))
 
   second_caused : (judged : Result Manifest ActiveFail) (there : Story)
       → ((that : What) → IsNoted (said (by_second b judged there) there) that → IsNotedBehind (what.Restored b 1) that (behind accepts b story))
@@ -94,9 +92,7 @@ module _ (accepts : Acceptance) (b : Bank) (story : Story) where
 
   restored_caused : (fuses : FusesState) (capsule : CapsuleState) (here : Story) → IsRestorable b (mine b story) (store story) accepts → AllSay Cause (restored b 1 fuses capsule here)
   restored_caused fuses capsule here h =
-      let ops : List Operation = job_ops (ActiveFromRecovery 1) (mine b here) capsule (layout_of fuses.provision b) in
-      AllMake-append Whichever (λ w. (at : Counts) → Cause (w at)) (called (device_of b) ops) (Says (λ _. what.Restored b 1) ∷ [])
-      (AllMake-called Whichever (λ w. (at : Counts) → Cause (w at)) (device_of b) ops tt) ((λ at. (refl, h)), tt)
+      with_job_makes Whichever (λ w. (at : Counts) → Cause (w at)) b tt tt (ActiveFromRecovery 1) fuses capsule (what.Restored b 1) (λ at. (refl, h)) here
 
   module _ (bytes : AreBytes (mine b story)) where
     recovery_caused : (fuses : FusesState) (cause : ActiveFail) (judged : Result CapsuleState CapsuleFail) → IsReady b fuses story → IsAgainst cause b (mine b story) (store story) accepts
@@ -126,11 +122,11 @@ module _ (accepts : Acceptance) (b : Bank) (story : Story) where
           | inr m ↦ recovery_caused fuses cause judged r against (sym (judged_told accepts b fuses (λ _. what.Untrusted b cause) story)) (by_against accepts b cause story judged against refl) that m
         ]
 
-    ready_caused : (ready : Result FusesState LockWhy) → ready_of b story ≡ ready → (that : What) → IsNoted (said (by_ready accepts b ready story) story) that → Cause that
+    ready_caused : (ready : Result FusesState LockWhy) → ready_of b story ≡ ready → (that : What) → IsNoted (said (by_fuses accepts b ready story) story) that → Cause that
     ready_caused (Ok fuses) e that n = active_caused fuses (judged_active accepts b fuses story) (ready_found b fuses story e) refl that n
     ready_caused (Err cause) e that (inl same) = subst Cause same (refl, unready_unwatched b cause story e)
     ready_caused (Err cause) e that (inr none) = absurd none
 
-    -- Each note behind Held has its cause.
+    -- Each note has its cause.
     pub tail_caused : (that : What) → IsNoted (behind accepts b story) that → Cause that
     tail_caused that n = ready_caused (ready_of b story) refl that n

@@ -40,8 +40,9 @@ use Rattle.pfr_story.proofs.SafetyLaws.{AllSafe-append, with_all, past_called}
 use Rattle.pfr_story.proofs.Courses.{Turn-cases}
 use Rattle.pfr_story.proofs.Traces.{Saying, call_says, Begins, Traced-known, noted_right}
 use Rattle.pfr_story.proofs.Made.{Made, said, said_append, added_said}
-use Rattle.pfr_story.proofs.StepTraces.{AllowsBanks, provision_traced}
-use Rattle.pfr_story.proofs.StoreLaws.{Stored, judged_here, operations_in, Turn-stored}
+use Rattle.pfr_story.proofs.BringRules.{Any}
+use Rattle.pfr_story.proofs.StepTraces.{AllowsFaults, provision_by}
+use Rattle.pfr_story.proofs.StoreLaws.{Stored, judged_here, operations_in, provision_stored}
 use Rattle.pfr_story.proofs.EventLaws.{outcome_of}
 
 -- ---- a store where the plan was done is provisioned so
@@ -100,20 +101,6 @@ abbrev Backing : RootSlot → Result ℕ FuseFail → Past → Rule
 Backing root judged base = Saying (IsBacked root judged base)
 
 module _ (root : RootSlot) (judged : Result ℕ FuseFail) (base : Past) where
-  backing_banks : AllowsBanks (Backing root judged base)
-  backing_banks = record {
-    held = λ b story. tt;
-    bank = λ b. record {
-      released = λ svn story. tt;
-      locked = λ cause story. tt;
-      untrusted = λ cause story. tt;
-      restored = λ level story. tt;
-      asks = λ which story own. tt;
-      works = λ op story. tt;
-    };
-    lost = λ which story. tt;
-  }
-
   provision_backed : (r : Result ℕ FuseFail) (story : Story) → judged ≡ r → story.nv ≡ base → AllSafe (Backing root judged base) (provisioned_in root r story) story
   provision_backed (Ok number) story j e =
       let plan : List Operation = provision_plan number root in
@@ -177,7 +164,7 @@ judged_noted root old new (inr (inr l)) calm =
     absurd (calm.on (Some l.which) (counts_of (after l.stopped.trace (story_of old))) (made_note old new l.stopped.trace (what.Lost (Some l.which)) [] is))
 
 -- ---- a provision of banks that aren't off
-module _ (accepts : Acceptance) (root : RootSlot) (old new : World) where
+module _ (root : RootSlot) (old new : World) where
   abbrev judged : Result ℕ FuseFail
   judged = judged_here root (story_of old)
 
@@ -190,11 +177,12 @@ module _ (accepts : Acceptance) (root : RootSlot) (old new : World) where
       let so = provisioned_so (now old.nv) root (size_of old.bmc) (size_of old.pch) number (length-play old.nv.start old.nv.ops ∙ size) slot j in
       rw image so
 
-  tries : size_of old.nv ≡ 32768 → IsSlot root → Turn accepts (event.Provision root) old new → FollowsCourse (provision_course root) (begun (event.Provision root) old) new → TriesProvision root old new
-  tries size slot t (mid, first, rest) =
+  tries : size_of old.nv ≡ 32768 → IsSlot root → FollowsCourse (provision_course root) (begun (event.Provision root) old) new → TriesProvision root old new
+  tries size slot (mid, first, rest) =
       let base : Past = past_of old.nv in
-      let stored : Stored (operations_in root judged) base (past_of new.nv) = Turn-stored accepts (event.Provision root) old new t in
-      let traced = provision_traced (Backing root judged base) (backing_banks root judged base) (λ story. story ≡ story_of (begun (event.Provision root) old)) root (begun (event.Provision root) old) new
+      let stored : Stored (operations_in root judged) base (past_of new.nv) = provision_stored root old new (mid, first, rest) in
+      let faults : AllowsFaults (Backing root judged base) = record { held = λ b story. tt; locked = λ b which story. tt; lost = λ which story. tt } in
+      let traced = provision_by (Backing root judged base) faults (begun (event.Provision root) old) new Any (λ w moved. tt) (λ story. story ≡ story_of (begun (event.Provision root) old)) root
       (λ story e. (tt, provision_backed root judged base (judged_here root story) story (sym (ap (λ (s : Story). judged_here root s) e)) (ap (λ (s : Story). s.nv) e))) refl (mid, first, rest) in
       let known = Traced-known (IsBacked root judged base) (begun (event.Provision root) old) new traced in
       let made : IsUntroubled bank.Bmc (added old new) → IsNoted (added old new) (outcome_of judged) = outcome mid first.is rest in
@@ -227,7 +215,7 @@ Turn-provisions accepts event.Power old new size slot t = tt
 Turn-provisions accepts event.Off old new size slot t = tt
 Turn-provisions accepts (event.Provision root) old new size slot t = λ on. elim (Turn-cases accepts (event.Provision root) old new t) [
   | inl idle ↦ absurd (on idle.0)
-  | inr taken ↦ tries accepts root old new size (slot on) t taken.1
+  | inr taken ↦ tries root old new size (slot on) taken.1
 ]
 Turn-provisions accepts (event.Spi b frame) old new size slot t = tt
 Turn-provisions accepts (event.Smbus b frame) old new size slot t = tt

@@ -1,4 +1,4 @@
--- What is judged well in an area of a bank is good, and behind a restore from that the active image is judged well.
+-- What is judged well in an area of a bank is good.
 use Rattle.std.proofs.Common.{◌≡◌, refl, ℕ, Bool, List, length, Ok}
 use Rattle.pfr_flash.specs.Bytes.{AreBytes}
 use Rattle.pfr_flash.specs.Layout.{IsBankSize, IsValidLayout}
@@ -12,10 +12,8 @@ use Rattle.pfr_capsule.specs.CapsuleState.{CapsuleState}
 use Rattle.pfr_capsule.specs.Good.{IsGood, StandForBank}
 use Rattle.pfr_capsule.proofs.GoodLaw.{judged_good}
 use Rattle.pfr_jobs.specs.declared.job.JobKind.TheVariants.{ActiveFromRecovery, ActiveFromStaging, RecoveryFromStaging}
-use Rattle.pfr_report.specs.declared.note.What.TheVariants.{Restored}
-use Rattle.pfr_story.specs.Story.{Story, after}
-use Rattle.pfr_story.specs.Plans.{mine, store, judged_active, judged_staging, judged_recovery, restored}
-use Rattle.pfr_story.proofs.AnewLaws.{anew_judged}
+use Rattle.pfr_story.specs.Story.{Story}
+use Rattle.pfr_story.specs.Plans.{mine, store, judged_staging, judged_recovery}
 
 -- restores and updates are jobs on the active image
 pub not_recovery : (level : ℕ) → ¬ (ActiveFromRecovery level ≡ RecoveryFromStaging)
@@ -51,20 +49,3 @@ pub found_staged : (accepts : Acceptance) (b : Bank) (fuses : FusesState) (capsu
 found_staged accepts b fuses capsule story provisioned layout bytes judged =
     let l : Layout = layout_of fuses.provision b in
     judged_good (mine b story) (store story) l.staging_at l.area_len b accepts fuses capsule (stand_for (store story) fuses b provisioned) layout bytes judged
-
--- Behind a restore from a good capsule the active image is judged well, by the capsule's manifest.
-pub restored_judged : (accepts : Acceptance) (b : Bank) (level : ℕ) (fuses : FusesState) (capsule : CapsuleState) (story : Story) → RestoresFrom accepts b fuses capsule story
-    → judged_active accepts b fuses (after (restored b level fuses capsule story) story) ≡ Ok capsule.manifest
-restored_judged accepts b level fuses capsule story r =
-    let found = found_good accepts b fuses capsule story r.provisioned r.layout r.bytes r.judged in
-    let layout : Layout = layout_of fuses.provision b in
-    anew_judged accepts b (ActiveFromRecovery level) (not_recovery level) (Restored b level) story fuses capsule (record {
-      place = layout.recovery_at;
-      len = layout.area_len;
-      good = found.0;
-      capsule_is = found.1;
-      provisioned = r.provisioned;
-      inside = r.layout.inside.recovery;
-      size = r.size;
-      bytes = r.bytes;
-    })

@@ -1,5 +1,6 @@
 -- The counts of a step's notes rise.
 use Rattle.std.proofs.Common.{◌≡◌, sym, subst, arith, Some, None, List, [], ◌∷◌, ◌++◌}
+use Rattle.pfr_flash.specs.FlashState.{size_of}
 use Rattle.pfr_flash.specs.declared.names.Counts.{Counts}
 use Rattle.pfr_engine.specs.Acceptance.{Acceptance}
 use Rattle.pfr_script.specs.declared.event.Event.{Event}
@@ -52,9 +53,9 @@ moves_rise s (Does which op ∷ trace) story last from p good is =
 moves_rise s (Asks which ∷ trace) story last from p good is = moves_rise s trace story last from p good.1 is
 
 -- The counts of a step's notes rise, from those at its begin to those at its end.
-pub Turn-counted : (accepts : Acceptance) (e : Event) (old new : World) → Turn accepts e old new → CountsRise old new
-Turn-counted accepts e old new t =
-    let traced = Turn-traced accepts e old new t in
+pub Turn-counted : (accepts : Acceptance) (e : Event) (old new : World) → size_of old.nv ≡ 32768 → Turn accepts e old new → CountsRise old new
+Turn-counted accepts e old new size t =
+    let traced = Turn-traced accepts e old new size t in
     let made : Made (begun e old) new = record { trace = traced.trace; is = traced.is } in
     let first : Story = story_of (begun e old) in
     subst (λ (notes : List Note). Rise (counts_in old) (moments_of notes ++ counts_in new ∷ [])) (sym (added_said (begun e old) new made))

@@ -175,7 +175,7 @@ noted_left (x ∷ xs) ys that (inr n) = inr (noted_left xs ys that n)
 
 -- ---- what holds of a run so far
 unfoldable pub running : Acceptance → World → World → Setting
-running accepts first last = record { accepts = accepts; first = first; last = last; IsSwitched = Unit {0}; HasExpired = λ b level notes. Unit {0} }
+running accepts first last = record { accepts = accepts; first = first; last = last; IsSwitched = Unit {0}; HasExpired = λ b level notes. Unit {0}; HasResumed = λ b level notes. Unit {0} }
 
 -- what is known of a note of a step is known of it in the run
 fact_later : (accepts : Acceptance) (e : Event) (old new first last : World) → IsLater first old → IsLater new last → (that : What) (at : Story)
@@ -200,7 +200,7 @@ fact_later accepts e old new first last before behind (what.Restored b level) at
   at = f.at;
   since = Precedes-trans (story_of first) (story_of old) f.at before.precedes f.since;
   before = f.before;
-  was = λ bytes. elim (f.was bytes) [ inl here ↦ inl here | inr back ↦ inr (tt, back.1) ];
+  was = λ bytes. elim (f.was bytes) [ inl here ↦ inl here | inr more ↦ elim more [ inl back ↦ inr (inl (tt, back.1)) | inr again ↦ inr (inr (tt, again.1)) ] ];
 }
 fact_later accepts e old new first last before behind _ at f = tt
 
@@ -223,7 +223,7 @@ module _ (accepts : Acceptance) (first last : World) where
       record {
         known = λ that n. elim (noted_append old.notes.list (added old new) that (subst (λ (notes : List Note). IsNoted notes that) (adds_added old new (turn_adds accepts e old new t)) n)) [
           | inl was ↦ (let k = p.known that was in (k.0, k.1, Precedes-trans k.0 (story_of old) (story_of new) k.2 later.precedes))
-          | inr now ↦ (let k = Turn-known accepts e old new t that now in (k.0, fact_later accepts e old new first last before behind that k.0 k.1, k.2))
+          | inr now ↦ (let k = Turn-known accepts e old new p.size t that now in (k.0, fact_later accepts e old new first last before behind that k.0 k.1, k.2))
         ];
         kept = λ which. Turn-spans accepts which e old new t p.size (p.kept which);
         size = ap (λ (xs : List ℕ). length xs) later.precedes.nv.start ∙ p.size;

@@ -1,11 +1,9 @@
--- What is noted of a bank that is brought up where no call fails.
-use Rattle.std.proofs.Common.{◌≡◌, ◌∙◌, ℕ, ◌+◌, ◌*◌, ◌/◌, ◌≤◌, refl, sym, ap, subst, arith, List, [], ◌∷◌, length, length-append, inl, inr, Result, Ok, Err}
+-- What is noted of a bank where it is checked, and no call fails.
+use Rattle.std.proofs.Common.{◌≡◌, ◌∙◌, ℕ, refl, sym, ap, subst, List, [], ◌∷◌, length, inl, inr, Result, Ok, Err}
 use Rattle.pfr_flash.specs.Bytes.{AreBytes}
-use Rattle.pfr_flash.specs.Layout.{IsBankSize, IsValidLayout}
-use Rattle.pfr_flash.specs.Operation.{Operation}
+use Rattle.pfr_flash.specs.Layout.{IsValidLayout}
 use Rattle.pfr_flash.specs.declared.layout.Layout.{Layout}
 use Rattle.pfr_flash.specs.declared.names.Bank.{Bank}
-use Rattle.pfr_flash.specs.declared.names.Bank.TheVariants as bank
 use Rattle.pfr_flash.specs.declared.names.Counts.{Counts}
 use Rattle.pfr_engine.specs.Acceptance.{Acceptance}
 use Rattle.pfr_fuses.specs.FusesState.{FusesState}
@@ -23,9 +21,6 @@ use Rattle.pfr_auth.specs.declared.fail.ActiveFail.{ActiveFail}
 use Rattle.pfr_auth.proofs.TrustedLaw.{judged_trusted, stands_whole, trusted_judged}
 use Rattle.pfr_jobs.specs.declared.job.JobKind.{JobKind}
 use Rattle.pfr_jobs.specs.declared.job.JobKind.TheVariants.{ActiveFromRecovery}
-use Rattle.pfr_rebuilt.specs.ActiveCopying.{active_page, active_pages}
-use Rattle.pfr_rebuilt.proofs.ActiveLaw.{active_few}
-use Rattle.pfr_strokes.proofs.ReplacedLaws.{strokes_of_few}
 use Rattle.pfr_recoverable.specs.Recoverable.{HasGoodRecovery}
 use Rattle.pfr_recoverable.proofs.StaysLaw.{fuses_one}
 use Rattle.pfr_report.specs.Texts.{IsNoted}
@@ -34,44 +29,39 @@ use Rattle.pfr_report.specs.declared.note.LockWhy.TheVariants as why
 use Rattle.pfr_report.specs.declared.note.Note.{Note}
 use Rattle.pfr_report.specs.declared.note.What.{What}
 use Rattle.pfr_report.specs.declared.note.What.TheVariants as what
-use Rattle.pfr_story.specs.Story.{Past, Story, Move, Says, Plan, after, then, noted, counts_of, past_at, device_of, called}
-use Rattle.pfr_story.specs.Plans.{mine, store, ready_of, judged_active, judged_recovery, job_ops, restored, by_second, checked_again, by_recovery, by_active, by_ready, brought_up}
-use Rattle.pfr_story.specs.Promises.{count_at}
+use Rattle.pfr_story.specs.Story.{Story, Move, Says, after, then, noted, counts_of, device_of}
+use Rattle.pfr_story.specs.JobPlans.{with_job}
+use Rattle.pfr_story.specs.Plans.{mine, store, ready_of, judged_active, judged_recovery, restored, checked_again, by_recovery, by_active, by_fuses, checked_then, brought_up}
 use Rattle.pfr_story.specs.Causes.{IsNotTrusted, IsAgainst, IsDue, IsRestorable}
-use Rattle.pfr_story.proofs.Sequence.{after-append}
-use Rattle.pfr_story.proofs.SafetyLaws.{image_noted, past_called}
+use Rattle.pfr_story.proofs.SafetyLaws.{image_noted}
 use Rattle.pfr_story.proofs.Made.{said, noted_first, noted_next, Whichever, AllSay}
 use Rattle.pfr_story.specs.Safety.{Rule}
-use Rattle.pfr_story.proofs.BringRules.{ready_is, AllowsBank, allowed_safe, Making, safe_made}
-use Rattle.pfr_story.proofs.RestoreLaws.{stand_for, RestoresFrom, restored_judged}
+use Rattle.pfr_story.proofs.BringRules.{ready_is, Making, safe_made}
+use Rattle.pfr_story.proofs.BringAllowed.{IsSized, AllowsBank, allowed_safe}
+use Rattle.pfr_story.proofs.RestoreLaws.{stand_for}
+use Rattle.pfr_story.proofs.JobRestores.{told_last}
 
--- ---- what is noted behind Held
-count_is : (b : Bank) (story : Story) → count_at b (counts_of story) ≡ length (past_at (device_of b) story).ops
-count_is bank.Bmc story = refl
-count_is bank.Pch story = refl
-
--- it is noted to be released, after at most so many operations of its device
-pub record ReleasesSoon (b : Bank) (at : Counts) (most : ℕ) (notes : List Note) : Type 0 where
-  pub svn : ℕ
-  pub then : Counts
-  pub noted : IsNoted notes (what.Released b svn then)
-  pub forth : count_at b at ≤ count_at b then
-  pub few : count_at b then ≤ count_at b at + most
+-- ---- what is noted where it is checked
+-- a job's own note is made
+pub job_noted : (b : Bank) (kind : JobKind) (fuses : FusesState) (capsule : CapsuleState) (that : What) (story : Story) → IsNoted (said (with_job b kind fuses capsule that story) story) that
+job_noted b kind fuses capsule that story =
+    let e = told_last b kind fuses capsule that story in
+    subst (λ (moves : List Move). IsNoted (said moves story) that) (sym e.is) (noted_next e.front (Says (λ _. that) ∷ []) story that (inl refl))
 
 module _ (accepts : Acceptance) (b : Bank) where
-  -- what is noted behind Held
+  -- what is noted where it is checked
   abbrev pub behind : Story → List Note
-  behind story = said (by_ready accepts b (ready_of b story) story) story
+  behind story = said (checked_then accepts b story) story
 
   -- ---- the bank's fuses
   by_check : (fuses : FusesState) (story : Story) (checked : Result Manifest ActiveFail) → fuses_of (store story) ≡ Ok fuses → IsValidLayout (layout_of fuses.provision b) (length (mine b story))
       → judged_active accepts b fuses story ≡ checked → behind story ≡ said (by_active accepts b fuses checked story) story
   by_check fuses story checked f l j =
-      ap (λ (r : Result FusesState LockWhy). said (by_ready accepts b r story) story) (ready_is b fuses story f l)
+      ap (λ (r : Result FusesState LockWhy). said (by_fuses accepts b r story) story) (ready_is b fuses story f l)
       ∙ ap (λ (r : Result Manifest ActiveFail). said (by_active accepts b fuses r story) story) j
 
   unready : (cause : LockWhy) (story : Story) → ready_of b story ≡ Err cause → IsNoted (behind story) (what.Locked b cause (counts_of story))
-  unready cause story e = subst (λ (r : Result FusesState LockWhy). IsNoted (said (by_ready accepts b r story) story) (what.Locked b cause (counts_of story))) (sym e) (inl refl)
+  unready cause story e = subst (λ (r : Result FusesState LockWhy). IsNoted (said (by_fuses accepts b r story) story) (what.Locked b cause (counts_of story))) (sym e) (inl refl)
 
   -- ---- a trusted image
   pub tail_trusted : (story : Story) (t : IsTrusted (mine b story) (store story) b accepts) → IsNoted (behind story) (what.Released b t.manifest.svn (counts_of story))
@@ -135,17 +125,8 @@ module _ (accepts : Acceptance) (b : Bank) where
   restored_noted : (level : ℕ) (fuses : FusesState) (capsule : CapsuleState) (story : Story)
       → IsNoted (said (then (restored b level fuses capsule) (checked_again accepts b fuses) story) story) (what.Restored b level)
   restored_noted level fuses capsule story =
-      let ops : List Operation = job_ops (ActiveFromRecovery level) (mine b story) capsule (layout_of fuses.provision b) in
       noted_first (restored b level fuses capsule story) (checked_again accepts b fuses (after (restored b level fuses capsule story) story)) story (what.Restored b level)
-      (noted_next (called (device_of b) ops) (Says (λ _. what.Restored b level) ∷ []) story (what.Restored b level) (inl refl))
-
-  -- and released behind what made its image anew
-  released_noted : (anew : Plan) (fuses : FusesState) (m : Manifest) (story : Story) → judged_active accepts b fuses (after (anew story) story) ≡ Ok m
-      → IsNoted (said (then anew (checked_again accepts b fuses) story) story) (what.Released b m.svn (counts_of (after (anew story) story)))
-  released_noted anew fuses m story j =
-      let end : Story = after (anew story) story in
-      noted_next (anew story) (checked_again accepts b fuses end) story (what.Released b m.svn (counts_of end))
-      (subst (λ (r : Result Manifest ActiveFail). IsNoted (said (by_second b r end) end) (what.Released b m.svn (counts_of end))) (sym j) (inl refl))
+      (job_noted b (ActiveFromRecovery level) fuses capsule (what.Restored b level) story)
 
   against_by : (story : Story) (n : IsNotTrusted b (mine b story) (store story) accepts) (checked : Result Manifest ActiveFail) → AreBytes (mine b story) → judged_active accepts b n.fuses story ≡ checked
       → (cause : ActiveFail) × IsAgainst cause b (mine b story) (store story) accepts
@@ -161,61 +142,6 @@ module _ (accepts : Acceptance) (b : Bank) where
       subst (λ (notes : List Note). IsNoted notes (what.Restored b 1)) (sym (by_against k.0 story (Ok h.1.good.capsule) k.1 judged))
       (inr (restored_noted 1 k.1.fuses h.1.good.capsule (untrusted k.0 story)))
 
-  -- ---- and released then
-  restored_count : (fuses : FusesState) (capsule : CapsuleState) (story : Story) → count_at b (counts_of (after (restored b 1 fuses capsule story) story))
-      ≡ count_at b (counts_of story) + length (job_ops (ActiveFromRecovery 1) (mine b story) capsule (layout_of fuses.provision b))
-  restored_count fuses capsule story =
-      let ops : List Operation = job_ops (ActiveFromRecovery 1) (mine b story) capsule (layout_of fuses.provision b) in
-      let then_story : Story = after (called (device_of b) ops) story in
-      ap (λ (s : Story). count_at b (counts_of s)) (after-append (called (device_of b) ops) (Says (λ _. what.Restored b 1) ∷ []) story)
-      ∙ count_is b then_story ∙ ap (λ (p : Past). length p.ops) (past_called (device_of b) ops story)
-      ∙ length-append (past_at (device_of b) story).ops ops ∙ ap (λ (n : ℕ). n + length ops) (sym (count_is b story))
-
-  job_few : (kind : JobKind) (image : List ℕ) (capsule : CapsuleState) (layout : Layout) → length (job_ops kind image capsule layout) ≤ 17 * (length image / 4096)
-  job_few kind image capsule layout =
-      let strokes = strokes_of_few (active_page image capsule layout) (active_pages kind image capsule layout) in
-      omega (arith, strokes, active_few kind image capsule layout)
-
-  good_releases : (story : Story) (g : HasGoodRecovery b (mine b story) (store story) accepts) (checked : Result Manifest ActiveFail) → judged_active accepts b g.fuses story ≡ checked
-      → AreBytes (mine b story) → IsBankSize (length (mine b story)) → ReleasesSoon b (counts_of story) (34 * (length (mine b story) / 4096)) (behind story)
-  good_releases story g (Ok m) j bytes size = record {
-    svn = m.svn;
-    then = counts_of story;
-    noted = subst (λ (notes : List Note). IsNoted notes (what.Released b m.svn (counts_of story))) (sym (by_check g.fuses story (Ok m) g.provisioned (good_layout story g) j)) (inl refl);
-    forth = omega arith;
-    few = omega arith;
-  }
-  good_releases story g (Err cause) j bytes size =
-      let a : IsAgainst cause b (mine b story) (store story) accepts = record { fuses = g.fuses; provisioned = g.provisioned; layout = good_layout story g; judged = j } in
-      let told : Story = untrusted cause story in
-      let capsule : CapsuleState = g.good.capsule in
-      let same : mine b story ≡ mine b told = sym (image_noted (device_of b) (λ _. what.Untrusted b cause) story) in
-      let judged : judged_recovery accepts b g.fuses told ≡ Ok capsule = judged_told g.fuses (λ _. what.Untrusted b cause) story ∙ good_is story g g.fuses g.provisioned in
-      let from : RestoresFrom accepts b g.fuses capsule told = record {
-        provisioned = g.provisioned;
-        layout = subst (λ (image : List ℕ). IsValidLayout (layout_of g.fuses.provision b) (length image)) same (good_layout story g);
-        size = subst (λ (image : List ℕ). IsBankSize (length image)) same size;
-        bytes = subst AreBytes same bytes;
-        judged = judged;
-      } in
-      let end : Story = after (restored b 1 g.fuses capsule told) told in
-      let count : count_at b (counts_of end) ≡ count_at b (counts_of story) + length (job_ops (ActiveFromRecovery 1) (mine b told) capsule (layout_of g.fuses.provision b)) = restored_count g.fuses capsule told in
-      let few : length (job_ops (ActiveFromRecovery 1) (mine b told) capsule (layout_of g.fuses.provision b)) ≤ 17 * (length (mine b story) / 4096) =
-      subst (λ (image : List ℕ). length (job_ops (ActiveFromRecovery 1) (mine b told) capsule (layout_of g.fuses.provision b)) ≤ 17 * (length image / 4096)) (sym same) (job_few (ActiveFromRecovery 1) (mine b told) capsule (layout_of g.fuses.provision b)) in
-      record {
-        svn = capsule.manifest.svn;
-        then = counts_of end;
-        noted = subst (λ (notes : List Note). IsNoted notes (what.Released b capsule.manifest.svn (counts_of end))) (sym (by_against cause story (Ok capsule) a judged))
-            (inr (released_noted (restored b 1 g.fuses capsule) g.fuses capsule.manifest told (restored_judged accepts b 1 g.fuses capsule told from)));
-        forth = omega (arith, count);
-        few = omega (arith, count, few);
-      }
-
-  -- A bank with a good recovery area ends released.
-  pub tail_releases : (story : Story) → HasGoodRecovery b (mine b story) (store story) accepts → AreBytes (mine b story) → IsBankSize (length (mine b story))
-      → ReleasesSoon b (counts_of story) (34 * (length (mine b story) / 4096)) (behind story)
-  tail_releases story g bytes size = good_releases story g (judged_active accepts b g.fuses story) refl bytes size
-
 -- ---- what is noted of the other bank
 -- it is noted of this bank
 abbrev pub IsOf : Bank → What → Type 0
@@ -229,6 +155,9 @@ IsOf which (what.Passed b stage) = b ≡ which
 IsOf which (what.Booted b) = b ≡ which
 IsOf which (what.Updated b dynamic svn) = b ≡ which
 IsOf which (what.Refused b cause) = b ≡ which
+IsOf which (what.Resumed b kind) = b ≡ which
+IsOf which (what.Abandoned b) = b ≡ which
+IsOf which (what.RecoveryUpdated b svn) = b ≡ which
 IsOf which that = ⊥
 
 abbrev pub Apart : Bank → What → Type 0
@@ -248,10 +177,15 @@ module _ (accepts : Acceptance) (which b : Bank) (other : ¬ (b ≡ which)) wher
     released = λ svn story at e. other e;
     locked = λ cause story at e. other e;
     untrusted = λ cause story at e. other e;
-    restored = λ level story at e. other e;
-    asks = λ d story own. tt;
-    works = λ op story. tt;
+    jobs = record { asks = λ d story own. tt; works = λ op story. tt; logs = λ op story own. tt; raises = λ op story raise. tt };
+    tells = record {
+      resumed = λ kind story at e. other e;
+      given_up = λ story at e. other e;
+      restored = λ level story at e. other e;
+      updated = λ dynamic svn story at e. other e;
+      recovery_updated = λ svn story at e. other e;
+    };
   }
 
-  pub brought_apart : (story : Story) → NoneOf which (brought_up accepts b story)
-  brought_apart story = safe_made Whichever _ (brought_up accepts b story) story (allowed_safe Others accepts b others_alone story (λ at e. other e))
+  pub brought_apart : (story : Story) → IsSized story → NoneOf which (brought_up accepts b story)
+  brought_apart story size = safe_made Whichever _ (brought_up accepts b story) story (allowed_safe Others accepts b others_alone story size (λ at e. other e))

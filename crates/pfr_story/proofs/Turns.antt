@@ -2,7 +2,7 @@
 use Rattle.std.proofs.Common.{◌≡◌, ◌∙◌, ◌≤◌, refl, sym, ap, subst, arith, ℕ, length, length-append, drop, Bool, true, false, List, [], ◌∷◌, Result, Ok, Err, inl, inr}
 use Rattle.std.proofs.lemmas.Bool.{false≢true}
 use Rattle.std.proofs.lemmas.List.{drop-append-le}
-use Rattle.pfr_flash.specs.FlashState.{Rose}
+use Rattle.pfr_flash.specs.FlashState.{Rose, size_of}
 use Rattle.pfr_flash.specs.declared.names.Bank.{Bank}
 use Rattle.pfr_flash.specs.declared.names.Bank.TheVariants as bank
 use Rattle.pfr_flash.specs.declared.names.Device.{Device}
@@ -12,6 +12,7 @@ use Rattle.pfr_fuses.specs.FusesOf.{fuses_of}
 use Rattle.pfr_fuses.specs.Provisioning.{judge_provision, provision_plan}
 use Rattle.pfr_fuses.specs.declared.fuse_fail.FuseFail.{FuseFail}
 use Rattle.pfr_fuses.specs.declared.root_slot.RootSlot.{RootSlot}
+use Rattle.pfr_jobs.specs.declared.job.JobKind.TheVariants.{ActiveFromRecovery}
 use Rattle.pfr_script.specs.declared.event.Event.{Event}
 use Rattle.pfr_script.specs.declared.event.Event.TheVariants as event
 use Rattle.pfr_script.specs.declared.event.Intent.{Intent}
@@ -25,7 +26,8 @@ use Rattle.pfr_story.specs.Story.{Story, Move, Says, called, after, noted, count
 use Rattle.pfr_story.specs.World.{World, story_of, state_at, AllMoved, NoneLost, NoneRose, added}
 use Rattle.pfr_story.specs.Safety.{AllGood, AllSafe, AllMake}
 use Rattle.pfr_story.specs.Course.{Stretch, Follows, Calm}
-use Rattle.pfr_story.specs.Plans.{store, brought_up, migrated, provisioned, provisioned_in, migration_in, filtered, smbus_judged, expired, updating}
+use Rattle.pfr_story.specs.Plans.{store, brought_up, migrated, provisioned, provisioned_in, migration_in, filtered, smbus_judged, expired}
+use Rattle.pfr_story.specs.UpdatePlans.{updating}
 use Rattle.pfr_story.specs.Turn.{fault_of, unreadable, bank_stretch, fuse_stretch, provision_stretch, spi_stretch, expiry_stretch, update_stretch, stage_at, pass_note, ignored, power_course, off_course, tick_course, boot_course, is_idle, taken, course, begun, Turn}
 use Rattle.pfr_story.specs.Promises.{IsSwitchedOff}
 use Rattle.pfr_story.proofs.WorldLaws.{AllMoved-refl, AllMoved-trans}
@@ -66,37 +68,15 @@ tried_makes root (Err cause) story = ((λ at loss. loss), tt)
 pub provisioned_makes : (root : RootSlot) (story : Story) → AllMake IsStore IsNoLoss (provisioned root story)
 provisioned_makes root story = (refl, tried_makes root (judge_provision (store story) root (length story.bmc.start) (length story.pch.start)) story)
 
-module _ (s : Setting) where
+module _ (s : Setting) (size : size_of s.first.nv ≡ 32768) where
   abbrev pub IsTrueStretch : Stretch → Type 0
   IsTrueStretch stretch = IsGoodStretch (IsTrue s) s.first s.last Any (IsBehind s) stretch (IsBehind s)
 
   behind_moves : (moves more : List Move) (story : Story) → IsBehind s story → IsBehind s (after more (after moves story))
   behind_moves moves more story p = Precedes-after (story_of s.first) (after moves story) more (Precedes-after (story_of s.first) story moves p)
 
-  bank_true : (b : Bank) → IsTrueStretch (bank_stretch s.accepts b)
-  bank_true b = record {
-    plan = record {
-      safe = λ story p. brought_true s b story p.1;
-      ends = λ story p. Precedes-after (story_of s.first) story (brought_up s.accepts b story) p.1;
-    };
-    noted = λ which story trace p cut rose. ((refl, lock_true s b which (after trace story) (cut_makes (IsOwn b) IsNoLoss which _ trace story (brought_makes s.accepts b story) cut).0 rose), tt);
-    on = λ which story trace p cut e. behind_moves trace (Says (what.Locked b (fault_of which)) ∷ []) story p.1;
-  }
-
   rose_at : (other which : Device) → which ≡ other → Rose (state_at which s.first).faults (state_at which s.last).faults → Rose (state_at other s.first).faults (state_at other s.last).faults
   rose_at other which e rose = subst (λ (d : Device). Rose (state_at d s.first).faults (state_at d s.last).faults) e rose
-
-  fuse_true : IsTrueStretch fuse_stretch
-  fuse_true = record {
-    plan = record {
-      safe = λ story p. (tt, call_says (Fact s) device.Nv (migration_in (fuses_of (store story))) story);
-      ends = λ story p. Precedes-after (story_of s.first) story (migrated story) p.1;
-    };
-    noted = λ which story trace p cut rose.
-        let nv = rose_at device.Nv which (cut_makes IsStore IsNoLoss which _ trace story (migrated_makes story) cut).0 rose in
-        (refl, ((refl, nv), (refl, ((refl, nv), tt))));
-    on = λ which story trace p cut e. behind_moves trace unreadable story p.1;
-  }
 
   provisioned_true : (root : RootSlot) (judged : Result ℕ FuseFail) (story : Story) → AllSafe (IsTrue s) (provisioned_in root judged story) story
   provisioned_true root (Ok number) story =
@@ -151,9 +131,18 @@ module _ (s : Setting) where
       (subst (λ (notes : List Note). IsNoted notes (what.Expired b level)) (sym (drop-append-le (length base) story.notes (note ∷ []) front))
       (noted_right (drop (length base) story.notes) (note ∷ []) (what.Expired b level) (inl refl)))
 
-  -- an expiry that was noted behind these is one that counts
-  abbrev pub MayExpire : List Note → Type 0
-  MayExpire base = (b : Bank) (level : ℕ) (notes : List Note) → IsNoted (drop (length base) notes) (what.Expired b level) → s.HasExpired b level notes
+  resume_noted : (base : List Note) (b : Bank) (level : ℕ) (story : Story) → HasFront base story
+      → IsNoted (drop (length base) (noted (λ _. what.Resumed b (ActiveFromRecovery level)) story).notes) (what.Resumed b (ActiveFromRecovery level))
+  resume_noted base b level story front =
+      let that : What = what.Resumed b (ActiveFromRecovery level) in
+      let note : Note = record { item = story.item; what = that } in
+      subst (λ (notes : List Note). IsNoted notes that) (sym (drop-append-le (length base) story.notes (note ∷ []) front))
+      (noted_right (drop (length base) story.notes) (note ∷ []) that (inl refl))
+
+  -- an expiry, or a restore that is resumed, that was noted behind these is one that counts
+  pub record MayExpire (base : List Note) : Type 0 where
+    pub expires : (b : Bank) (level : ℕ) (notes : List Note) → IsNoted (drop (length base) notes) (what.Expired b level) → s.HasExpired b level notes
+    pub resumes : (b : Bank) (level : ℕ) (notes : List Note) → IsNoted (drop (length base) notes) (what.Resumed b (ActiveFromRecovery level)) → s.HasResumed b level notes
 
   module _ (base : List Note) (may : MayExpire base) where
     abbrev IsSince : Story → Type 0
@@ -162,10 +151,34 @@ module _ (s : Setting) where
     since_moves : (moves more : List Move) (story : Story) → IsSince story → IsSince (after more (after moves story))
     since_moves moves more story p = (behind_moves moves more story p.0, front_after base more (after moves story) (front_after base moves story p.1))
 
+    bank_true : (b : Bank) → IsGoodStretch (IsTrue s) s.first s.last Any IsSince (bank_stretch s.accepts b) IsSince
+    bank_true b = record {
+      plan = record {
+        safe = λ story p. brought_true s size b (HasFront base) (λ level there front. may.resumes b level _ (resume_noted base b level there front)) story p.1.0
+            (front_after base (Says (what.Held b) ∷ []) story p.1.1);
+        ends = λ story p. since_moves (brought_up s.accepts b story) [] story p.1;
+      };
+      noted = λ which story trace p cut rose.
+          ((refl, lock_true s b which (after trace story) (cut_makes (IsOwn b) IsNoLoss which _ trace story (brought_makes s.accepts b story) cut).0 rose), tt);
+      on = λ which story trace p cut e. since_moves trace (Says (what.Locked b (fault_of which)) ∷ []) story p.1;
+    }
+
+    fuse_true : IsGoodStretch (IsTrue s) s.first s.last Any IsSince fuse_stretch IsSince
+    fuse_true = record {
+      plan = record {
+        safe = λ story p. (tt, call_says (Fact s) device.Nv (migration_in (fuses_of (store story))) story);
+        ends = λ story p. since_moves (migrated story) [] story p.1;
+      };
+      noted = λ which story trace p cut rose.
+          let nv = rose_at device.Nv which (cut_makes IsStore IsNoLoss which _ trace story (migrated_makes story) cut).0 rose in
+          (refl, ((refl, nv), (refl, ((refl, nv), tt))));
+      on = λ which story trace p cut e. since_moves trace unreadable story p.1;
+    }
+
     expiry_true : (b : Bank) → IsGoodStretch (IsTrue s) s.first s.last Any IsSince (expiry_stretch s.accepts b) IsSince
     expiry_true b = record {
       plan = record {
-        safe = λ story p. expired_true s b story p.1.0 (may b (level_at b story) _ (expiry_noted base b (level_at b story) story p.1.1));
+        safe = λ story p. expired_true s size b story p.1.0 (may.expires b (level_at b story) _ (expiry_noted base b (level_at b story) story p.1.1));
         ends = λ story p. since_moves (expired s.accepts b story) [] story p.1;
       };
       noted = λ which story trace p cut rose. ((refl, lock_true s b which (after trace story) (cut_makes (IsOwn b) IsNoLoss which _ trace story (expired_makes s.accepts b story) cut).0 rose), tt);
@@ -175,7 +188,7 @@ module _ (s : Setting) where
   update_true : (b : Bank) (intent : Intent) → IsTrueStretch (update_stretch s.accepts b intent)
   update_true b intent = record {
     plan = record {
-      safe = λ story p. updating_true s b intent story p.1;
+      safe = λ story p. updating_true s size b intent story p.1;
       ends = λ story p. behind_moves (updating s.accepts b intent story) [] story p.1;
     };
     noted = λ which story trace p cut rose. ((refl, lock_true s b which (after trace story) (cut_makes (IsOwn b) IsNoLoss which _ trace story (updating_makes s.accepts b intent story) cut).0 rose), tt);
@@ -201,15 +214,17 @@ module _ (s : Setting) where
     single_true : (P : Story → Type 0) (stretch : Stretch) → IsGoodStretch (IsTrue s) s.first s.last Any P stretch P → P (story_of begin) → Follows (record { first = []; stretches = stretch ∷ [] }) begin new → Traced (IsTrue s) begin new
     single_true P stretch good p t = single_along (IsTrue s) s.first s.last Any (λ w moved. tt) allows begin new within stretch P P good p t
 
-    power_true : Follows (power_course s.accepts) begin new → Traced (IsTrue s) begin new
-    power_true t =
-        power_along (IsTrue s) s.first s.last Any (λ w moved. tt) allows begin new within s.accepts (IsBehind s) (IsBehind s) (IsBehind s) (IsBehind s) fuse_true (bank_true bank.Bmc) (bank_true bank.Pch) tt (Precedes-after (story_of s.first) (story_of begin) (power_course s.accepts).first behind) t
-
     -- a stage that was passed, by the story that it is noted by
     passed_true : (b : Bank) (at next : Stage) → Follows (record { first = Says (λ _. pass_note b at next) ∷ []; stretches = [] }) begin new → Traced (IsTrue s) begin new
     passed_true b at next t = noted_true (Says (λ _. pass_note b at next) ∷ []) t (pass_noted (λ (that : What). Fact s that (story_of begin)) b at next (λ e. tt) (λ e. tt), tt)
 
     module _ (base : List Note) (may : MayExpire base) (front : HasFront base (story_of begin)) where
+      power_true : Follows (power_course s.accepts) begin new → Traced (IsTrue s) begin new
+      power_true t =
+          let since : Story → Type 0 = IsSince base may in
+          power_along (IsTrue s) s.first s.last Any (λ w moved. tt) allows begin new within s.accepts since since since since (fuse_true base may) (bank_true base may bank.Bmc) (bank_true base may bank.Pch) tt
+          (since_moves base may (power_course s.accepts).first [] (story_of begin) (behind, front)) t
+
       tick_true : (n : ℕ) (story : Story) → Follows (tick_course s.accepts n story) begin new → Traced (IsTrue s) begin new
       tick_true n story t =
           let since : Story → Type 0 = IsSince base may in
@@ -222,7 +237,7 @@ module _ (s : Setting) where
 
   taken_true : (e : Event) (old new : World) → Between s.first s.last (begun e old) new → MaySwitch e old → MayExpire old.notes.list → is_idle e (story_of old) ≡ false → Follows (taken s.accepts e (story_of old)) (begun e old) new
       → Traced (IsTrue s) (begun e old) new
-  taken_true event.Power old new within may expires on t = power_true (begun event.Power old) new within t
+  taken_true event.Power old new within may expires on t = power_true (begun event.Power old) new within old.notes.list expires (omega arith) t
   taken_true event.Off old new within may expires on t = noted_true (begun event.Off old) new within off_course.first t ((refl, may (λ off. false≢true (sym on ∙ off))), tt)
   taken_true (event.Provision root) old new within may expires on t =
       let begin : World = begun (event.Provision root) old in
@@ -254,26 +269,27 @@ step_of accepts e old new = record {
   last = new;
   IsSwitched = IsSwitchedOff e old;
   HasExpired = λ b level notes. IsNoted (drop (length old.notes.list) notes) (what.Expired b level);
+  HasResumed = λ b level notes. IsNoted (drop (length old.notes.list) notes) (what.Resumed b (ActiveFromRecovery level));
 }
 
 -- Each note of a step is true where it is made.
-pub Turn-traced : (accepts : Acceptance) (e : Event) (old new : World) → Turn accepts e old new → Traced (IsTrue (step_of accepts e old new)) (begun e old) new
+pub Turn-traced : (accepts : Acceptance) (e : Event) (old new : World) → size_of old.nv ≡ 32768 → Turn accepts e old new → Traced (IsTrue (step_of accepts e old new)) (begun e old) new
 unfolding step_of
-Turn-traced accepts e old new t =
+Turn-traced accepts e old new size t =
     let same = AllMoved-refl old in
     let within : Between old new (begun e old) new = record { before = record { bmc = same.bmc; pch = same.pch; nv = same.nv }; behind = AllMoved-refl new } in
-    Turn-true (step_of accepts e old new) e old new within (λ off. off) (λ b level notes n. n) t
+    Turn-true (step_of accepts e old new) size e old new within (λ off. off) (record { expires = λ b level notes n. n; resumes = λ b level notes n. n }) t
 
 -- what is known of each note that a step added
-pub Turn-known : (accepts : Acceptance) (e : Event) (old new : World) → Turn accepts e old new → (that : What) → IsNoted (added old new) that
+pub Turn-known : (accepts : Acceptance) (e : Event) (old new : World) → size_of old.nv ≡ 32768 → Turn accepts e old new → (that : What) → IsNoted (added old new) that
     → KnownBefore (Fact (step_of accepts e old new)) that (story_of new)
-Turn-known accepts e old new t that n =
+Turn-known accepts e old new size t that n =
     let s : Setting = step_of accepts e old new in
-    Traced-known (Fact s) (begun e old) new (Turn-traced accepts e old new t) that n
+    Traced-known (Fact s) (begun e old) new (Turn-traced accepts e old new size t) that n
 
 -- and at a moment of the step
-pub Turn-since : (accepts : Acceptance) (e : Event) (old new : World) → Turn accepts e old new → (that : What) → IsNoted (added old new) that
+pub Turn-since : (accepts : Acceptance) (e : Event) (old new : World) → size_of old.nv ≡ 32768 → Turn accepts e old new → (that : What) → IsNoted (added old new) that
     → KnownBefore (λ note at. Fact (step_of accepts e old new) note at × Precedes (story_of (begun e old)) at) that (story_of new)
-Turn-since accepts e old new t that n =
+Turn-since accepts e old new size t that n =
     let s : Setting = step_of accepts e old new in
-    Traced-since (Fact s) (begun e old) new (Turn-traced accepts e old new t) that n
+    Traced-since (Fact s) (begun e old) new (Turn-traced accepts e old new size t) that n

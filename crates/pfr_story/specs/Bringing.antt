@@ -8,6 +8,7 @@ use Rattle.pfr_flash.specs.declared.names.Device.{Device}
 use Rattle.pfr_engine.specs.Acceptance.{Acceptance}
 use Rattle.pfr_auth.specs.Trusted.{IsTrusted}
 use Rattle.pfr_auth.specs.declared.fail.ActiveFail.{ActiveFail}
+use Rattle.pfr_jobs.specs.declared.job.JobKind.TheVariants.{ActiveFromRecovery}
 use Rattle.pfr_script.specs.declared.event.Event.{Event}
 use Rattle.pfr_script.specs.declared.event.Event.TheVariants as event
 use Rattle.pfr_report.specs.Texts.{IsNoted}
@@ -15,11 +16,11 @@ use Rattle.pfr_report.specs.declared.note.LockWhy.{LockWhy}
 use Rattle.pfr_report.specs.declared.note.LockWhy.TheVariants as why
 use Rattle.pfr_report.specs.declared.note.Note.{Note}
 use Rattle.pfr_report.specs.declared.note.What.{What}
-use Rattle.pfr_report.specs.declared.note.What.TheVariants.{Held, Released, Locked, Lost, Untrusted, Restored}
+use Rattle.pfr_report.specs.declared.note.What.TheVariants.{Held, Released, Locked, Lost, Untrusted, Restored, Resumed}
 use Rattle.pfr_story.specs.Story.{device_of}
 use Rattle.pfr_story.specs.World.{World, state_at, added}
-use Rattle.pfr_story.specs.Causes.{IsTrustedWith, IsAgainst, IsDue, IsRestorable}
-use Rattle.pfr_story.specs.Promises.{count_at, AtCounts}
+use Rattle.pfr_story.specs.Causes.{IsTrustedWith, IsAgainst, IsDue, IsRestorable, HasOpenJob}
+use Rattle.pfr_story.specs.Promises.{count_at, AtCounts, NotBefore}
 
 -- the work on the bank was over: on the BMC's it was where the PCH is held behind it
 abbrev pub IsOver : Bank → List Note → Type 0
@@ -49,29 +50,36 @@ pub record ReleasedSoon (which : Bank) (at : Counts) (most : ℕ) (notes : List 
   pub forth : count_at which at ≤ count_at which then
   pub few : count_at which then ≤ count_at which at + most
 
--- What is noted of a bank that is held at these counts, by the contents then.
-pub record BringsUp (accepts : Acceptance) (which : Bank) (w : World) (notes : List Note) (at : Counts) : Type 0 where
+-- What is noted of a bank that is held at the first of these counts, and checked at the second, by the contents then. Between these
+-- an open job is done or given up.
+pub record BringsUp (accepts : Acceptance) (which : Bank) (w : World) (notes : List Note) (at from : Counts) : Type 0 where
   -- It is held at these counts alone.
   pub held : IsNoted notes (Held which at)
   pub once : (again : Counts) → IsNoted notes (Held which again) → again ≡ at
+  -- Where no job is open it is checked as it is held, and where it is checked none is open.
+  pub forth : NotBefore at from
+  pub plain : ¬ AtCounts (λ image nv. HasOpenJob which image nv) which at w → from ≡ at
+  pub done : ¬ AtCounts (λ image nv. HasOpenJob which image nv) which from w
   -- It is released where its image is trusted, and else only behind a restore.
-  pub trusted : (t : AtCounts (λ image nv. IsTrusted image nv which accepts) which at w) → IsNoted notes (Released which t.manifest.svn at)
+  pub trusted : (t : AtCounts (λ image nv. IsTrusted image nv which accepts) which from w) → IsNoted notes (Released which t.manifest.svn from)
   pub released : (svn : ℕ) (then : Counts) → IsNoted notes (Released which svn then)
-      → AtCounts (λ image nv. IsTrustedWith svn image nv which accepts) which then w × ((then ≡ at) ⊎ IsNotedBehind (Restored which 1) (Released which svn then) notes)
+      → AtCounts (λ image nv. IsTrustedWith svn image nv which accepts) which then w × ((then ≡ from) ⊎ IsNotedBehind (Restored which 1) (Released which svn then) notes)
   -- It is locked only with a cause, and always where there is one.
   pub locked : (cause : LockWhy) (then : Counts) → IsNoted notes (Locked which cause then)
-      → (then ≡ at) × AtCounts (λ image nv. IsDue cause which image nv accepts) which at w
-  pub due : (cause : LockWhy) → AtCounts (λ image nv. IsDue cause which image nv accepts) which at w → IsNoted notes (Locked which cause at)
+      → (then ≡ from) × AtCounts (λ image nv. IsDue cause which image nv accepts) which from w
+  pub due : (cause : LockWhy) → AtCounts (λ image nv. IsDue cause which image nv accepts) which from w → IsNoted notes (Locked which cause from)
   -- Its image is called untrusted exactly with the first cause against it.
-  pub distrusted : (cause : ActiveFail) → IsNoted notes (Untrusted which cause) → AtCounts (λ image nv. IsAgainst cause which image nv accepts) which at w
-  pub named : (cause : ActiveFail) → AtCounts (λ image nv. IsAgainst cause which image nv accepts) which at w → IsNoted notes (Untrusted which cause)
-  -- It is restored, at level 1, exactly where its image isn't trusted and a good capsule stands in its recovery area.
-  pub restored : (level : ℕ) → IsNoted notes (Restored which level) → (level ≡ 1) × AtCounts (λ image nv. IsRestorable which image nv accepts) which at w
-  pub restorable : AtCounts (λ image nv. IsRestorable which image nv accepts) which at w → IsNoted notes (Restored which 1)
+  pub distrusted : (cause : ActiveFail) → IsNoted notes (Untrusted which cause) → AtCounts (λ image nv. IsAgainst cause which image nv accepts) which from w
+  pub named : (cause : ActiveFail) → AtCounts (λ image nv. IsAgainst cause which image nv accepts) which from w → IsNoted notes (Untrusted which cause)
+  -- But by a job that is resumed it is restored, at level 1, exactly where its image isn't trusted and a good capsule stands in its
+  -- recovery area.
+  pub restored : (level : ℕ) → IsNoted notes (Restored which level)
+      → IsNoted notes (Resumed which (ActiveFromRecovery level)) ⊎ ((level ≡ 1) × AtCounts (λ image nv. IsRestorable which image nv accepts) which from w)
+  pub restorable : AtCounts (λ image nv. IsRestorable which image nv accepts) which from w → IsNoted notes (Restored which 1)
 
 -- A power-on brings each bank up.
 abbrev pub BringsUpCalm : Event → Acceptance → World → World → Type 0
-BringsUpCalm event.Power accepts old new = (which : Bank) → IsCalm which (added old new) → (at : Counts) × BringsUp accepts which new (added old new) at
+BringsUpCalm event.Power accepts old new = (which : Bank) → IsCalm which (added old new) → (at from : Counts) × BringsUp accepts which new (added old new) at from
 BringsUpCalm e accepts old new = Unit {0}
 
 -- A bank that can be recovered, by what R says of its bytes and the store's where it is held, ends a power-on released, after at

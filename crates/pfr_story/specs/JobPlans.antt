@@ -23,7 +23,7 @@ use Rattle.pfr_rebuilt.specs.Passing.{active_heeding, active_ignoring, recovery_
 use Rattle.pfr_report.specs.declared.note.What.{What}
 use Rattle.pfr_report.specs.declared.note.What.TheVariants.{Restored, Updated, Resumed, Abandoned, RecoveryUpdated}
 use Rattle.pfr_story.specs.Deeds.{deed_moves}
-use Rattle.pfr_story.specs.Plans.{mine, store, asks, asks_store, judged_recovery}
+use Rattle.pfr_story.specs.Views.{mine, store, asks, asks_store, judged_recovery}
 use Rattle.pfr_story.specs.Story.{Story, Plan, then, says, called}
 
 -- ---- a bank's log, by the store as it is then

@@ -1,5 +1,5 @@
--- What each step is to promise of jobs, of updates of the recovery area and of cancelled keys.
-use Rattle.std.specs.Prelude.{◌≡◌, ◌≢◌, ◌⊎◌, ℕ, ◌+◌, ◌/◌, ◌≤◌, Bool, true, false, List, [], ◌∷◌, ◌++◌, length, All, Ok, Err}
+-- What each step promises of jobs, of updates of the recovery area and of cancelled keys.
+use Rattle.std.specs.Prelude.{◌≡◌, ◌≢◌, ◌⊎◌, ℕ, ◌+◌, ◌/◌, ◌≤◌, Bool, true, false, List, [], ◌∷◌, ◌++◌, length, All, Result, Ok, Err}
 use Rattle.pfr_flash.specs.FlashState.{now, upto}
 use Rattle.pfr_flash.specs.Layout.{IsValidLayout}
 use Rattle.pfr_flash.specs.Operation.{Operation}
@@ -13,8 +13,9 @@ use Rattle.pfr_fuses.specs.FusesState.{FusesState}
 use Rattle.pfr_fuses.specs.FusesOf.{fuses_of}
 use Rattle.pfr_fuses.specs.RootSlot.{layout_of}
 use Rattle.pfr_capsule.specs.Good.{IsGood}
-use Rattle.pfr_auth.specs.Areas.{place_of as area_at}
+use Rattle.pfr_auth.specs.Areas.{judge_area}
 use Rattle.pfr_auth.specs.Judge.{judge_active}
+use Rattle.pfr_auth.specs.declared.areas.Area.TheVariants as Area
 use Rattle.pfr_cert.specs.Applying.{judge_apply}
 use Rattle.pfr_cert.specs.Judge.{judge_cert}
 use Rattle.pfr_cert.specs.declared.cert.Cert.{Cert}
@@ -29,6 +30,9 @@ use Rattle.pfr_rebuilt.specs.Copying.{recovery_page, recovery_pages}
 use Rattle.pfr_rebuilt.specs.Passing.{group_pages, left_pages}
 use Rattle.pfr_recoverable.specs.Recoverable.{HasGoodRecovery}
 use Rattle.pfr_strokes.specs.Strokes.{strokes_of}
+use Rattle.pfr_script.specs.declared.event.Event.{Event}
+use Rattle.pfr_script.specs.declared.event.Event.TheVariants as event
+use Rattle.pfr_script.specs.declared.event.Intent.TheVariants.{Recovery, Cert as CertIntent}
 use Rattle.pfr_report.specs.Texts.{IsNoted}
 use Rattle.pfr_report.specs.declared.note.Note.{Note}
 use Rattle.pfr_report.specs.declared.note.Refusal.TheVariants as refusing
@@ -36,30 +40,13 @@ use Rattle.pfr_report.specs.declared.note.What.{What}
 use Rattle.pfr_report.specs.declared.note.What.TheVariants.{Held, Resumed, Abandoned, Restored, Updated, RecoveryUpdated, Cancelled, Refused, Released}
 use Rattle.pfr_story.specs.Story.{device_of}
 use Rattle.pfr_story.specs.World.{World, state_at, counts_in, added}
-use Rattle.pfr_story.specs.Causes.{HasBadStaging, HasGoodStaging}
+use Rattle.pfr_story.specs.Causes.{HasBadStaging, HasGoodStaging, IsResumable, IsGivenUp}
 use Rattle.pfr_story.specs.Bringing.{IsCalm, IsNotedBehind}
-use Rattle.pfr_story.specs.JobPlans.{source_of}
-use Rattle.pfr_story.specs.JobUpdates.{has_manifest, standing_capsule}
+use Rattle.pfr_story.specs.UpdatePlans.{has_manifest, standing_capsule}
 use Rattle.pfr_story.specs.Promises.{AtCounts, Runs, count_at}
 use Rattle.pfr_story.specs.Recovery.{moments_of}
 
 -- ---- jobs that are open at a power-on
-
--- the capsule that the open job works on stands good in the area that it is copied from
-pub record IsResumable (kind : JobKind) (which : Bank) (image nv : List ℕ) (accepts : Acceptance) : Type 0 where
-  pub fuses : FusesState
-  pub provisioned : fuses_of nv ≡ Ok fuses
-  pub layout : IsValidLayout (layout_of fuses.provision which) (length image)
-  pub good : IsGood image (area_at (layout_of fuses.provision which) (source_of kind)) (layout_of fuses.provision which).area_len nv which accepts
-  pub opened : open_job nv which ≡ job.Job kind good.capsule.digest
-
--- a job is open that can't be resumed
-pub record IsGivenUp (which : Bank) (image nv : List ℕ) (accepts : Acceptance) : Type 0 where
-  pub fuses : FusesState
-  pub provisioned : fuses_of nv ≡ Ok fuses
-  pub layout : IsValidLayout (layout_of fuses.provision which) (length image)
-  pub opened : open_job nv which ≢ job.None
-  pub never : (kind : JobKind) → ¬ IsResumable kind which image nv accepts
 
 -- what is noted once a job is done
 abbrev pub done_note : Bank → JobKind → ℕ → What
@@ -73,15 +60,15 @@ pub record TakesUp (accepts : Acceptance) (which : Bank) (new : World) (notes : 
   pub resumes : (kind : JobKind) → IsCalm which notes → AtCounts (λ image nv. IsResumable kind which image nv accepts) which at new → IsNotedBehind (Held which at) (Resumed which kind) notes
   pub abandoned : IsNoted notes (Abandoned which) → AtCounts (λ image nv. IsGivenUp which image nv accepts) which at new
   pub abandons : IsCalm which notes → AtCounts (λ image nv. IsGivenUp which image nv accepts) which at new → IsNotedBehind (Held which at) (Abandoned which) notes
-  -- what was taken up is done
+  -- What was taken up is done, with the capsule's security version number; of the recovery area that of the capsule which stands there
+  -- then is noted.
   pub done : (kind : JobKind) → IsCalm which notes → (r : AtCounts (λ image nv. IsResumable kind which image nv accepts) which at new)
-      → IsNotedBehind (Resumed which kind) (done_note which kind r.good.capsule.manifest.svn) notes
+      → (svn : ℕ) × (¬ (kind ≡ RecoveryFromStaging) → svn ≡ r.good.capsule.manifest.svn) × IsNotedBehind (Resumed which kind) (done_note which kind svn) notes
 
--- ---- a bank that runs
-
--- No job of a bank that runs is open.
-abbrev pub RunningHasNoJob : World → Type 0
-RunningHasNoJob w = (which : Bank) → Runs which w → open_job (now w.nv) which ≡ job.None
+-- Each bank that is held in a power-on takes its open job up.
+abbrev pub TakesJobsUp : Event → Acceptance → World → World → Type 0
+TakesJobsUp event.Power accepts old new = (which : Bank) (at : Counts) → IsNoted (added old new) (Held which at) → TakesUp accepts which new (added old new) at
+TakesJobsUp e accepts old new = Unit {0}
 
 -- ---- marks are heeded
 
@@ -113,6 +100,11 @@ pub record HeedsMarks (accepts : Acceptance) (which : Bank) (kind : JobKind) (ne
   pub since : AddsSince which at ops new
   pub heeds : ((more : List Operation) × (ops ≡ left_strokes kind which _ _ accepts from ++ more))
       ⊎ IsPart (upto (state_at (device_of which) new) (count_at which at)) (left_strokes kind which _ _ accepts from) ops
+
+-- In a power-on each bank's job that is resumed heeds the marks that were set.
+abbrev pub MarksAreHeeded : Event → Acceptance → World → World → Type 0
+MarksAreHeeded event.Power accepts old new = (which : Bank) (kind : JobKind) (at : Counts) → IsNoted (added old new) (Held which at) → IsNoted (added old new) (Resumed which kind) → HeedsMarks accepts which kind new at
+MarksAreHeeded e accepts old new = Unit {0}
 
 -- ---- floors and cancellations
 
@@ -157,10 +149,41 @@ pub record UpdatesRecovery (accepts : Acceptance) (which : Bank) (new : World) (
   pub updates : IsCalm which notes → (s : AtCounts (λ image nv. HasStagedFor true which image nv accepts × (is_spent nv which ≡ false)) which at new)
       → IsNoted notes (RecoveryUpdated which s.0.staged.good.capsule.manifest.svn)
 
+-- An update of the recovery area of a bank that runs is judged before anything is written.
+abbrev pub RecoveryUpdates : Event → Acceptance → World → World → Type 0
+RecoveryUpdates (event.Update which Recovery) accepts old new = Runs which old → UpdatesRecovery accepts which new (added old new) (counts_in old)
+RecoveryUpdates e accepts old new = Unit {0}
+
 -- ---- keys are cancelled
 
--- what stands in the staging area is this certificate, and this becomes of it
+-- what becomes of a certificate by the fuses and the recovery area
+abbrev pub use_of : Bank → List ℕ → FusesState → Acceptance → Cert → Result (Unit {0}) CertFail
+use_of which image fuses accepts cert = judge_apply fuses cert (standing_capsule (judge_area Area.Recovery which image fuses accepts))
+
+-- a certificate stands in the staging area whose key can be cancelled
 pub record HasCert (cert : Cert) (which : Bank) (image nv : List ℕ) (accepts : Acceptance) : Type 0 where
   pub fuses : FusesState
   pub provisioned : fuses_of nv ≡ Ok fuses
   pub judged : judge_cert which image fuses accepts ≡ Ok cert
+  pub free : use_of which image fuses accepts cert ≡ Ok tt
+
+-- this is the first cause against what stands there as a certificate, or against the cancellation of its key
+pub record HasBadCert (cause : CertFail) (which : Bank) (image nv : List ℕ) (accepts : Acceptance) : Type 0 where
+  pub fuses : FusesState
+  pub provisioned : fuses_of nv ≡ Ok fuses
+  pub judged : (judge_cert which image fuses accepts ≡ Err cause) ⊎ ((cert : Cert) × (judge_cert which image fuses accepts ≡ Ok cert) × (use_of which image fuses accepts cert ≡ Err cause))
+
+-- What an update by a certificate comes to, of a bank that is held at these counts.
+pub record CancelsKey (accepts : Acceptance) (which : Bank) (new : World) (notes : List Note) (at : Counts) : Type 0 where
+  pub held : IsNoted notes (Held which at)
+  -- It is refused exactly with the first cause.
+  pub refused : (cause : CertFail) → IsNoted notes (Refused which (refusing.Cert cause)) → AtCounts (λ image nv. HasBadCert cause which image nv accepts) which at new
+  pub refuses : (cause : CertFail) → IsCalm which notes → AtCounts (λ image nv. HasBadCert cause which image nv accepts) which at new → IsNoted notes (Refused which (refusing.Cert cause))
+  -- Else the key of the certificate is cancelled.
+  pub cancelled : (type : ContentType) (id : ℕ) → IsNoted notes (Cancelled type id) → AtCounts (λ image nv. HasCert (record { ty = type; id = id }) which image nv accepts) which at new
+  pub cancels : (cert : Cert) → IsCalm which notes → AtCounts (λ image nv. HasCert cert which image nv accepts) which at new → IsNoted notes (Cancelled cert.ty cert.id)
+
+-- A certificate is judged before anything is written.
+abbrev pub Cancels : Event → Acceptance → World → World → Type 0
+Cancels (event.Update which CertIntent) accepts old new = Runs which old → CancelsKey accepts which new (added old new) (counts_in old)
+Cancels e accepts old new = Unit {0}

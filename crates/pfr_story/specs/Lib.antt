@@ -6,9 +6,10 @@ pub mod Goes
 pub mod Safety
 pub mod Course
 pub mod Standing
-pub mod Plans
+pub mod Views
 pub mod JobPlans
-pub mod JobUpdates
+pub mod Plans
+pub mod UpdatePlans
 pub mod Causes
 pub mod Turn
 pub mod Promises

@@ -1,7 +1,6 @@
 -- What a step does where no device call fails, from the contents as they are.
 use Rattle.std.specs.Prelude.{ℕ, ◌+◌, min, nat_lt, Bool, true, false, List, [], length, Option, Some, None, Result, Ok, Err}
-use Rattle.pfr_flash.specs.Judging.{◌>>=◌, ◌>>◌, told_as}
-use Rattle.pfr_flash.specs.Layout.{judge_layout}
+use Rattle.pfr_flash.specs.Judging.{◌>>=◌}
 use Rattle.pfr_flash.specs.Operation.{Operation}
 use Rattle.pfr_flash.specs.declared.names.Bank.{Bank}
 use Rattle.pfr_flash.specs.declared.names.Device.TheVariants as device
@@ -29,73 +28,25 @@ use Rattle.pfr_smbus.specs.Frames.{judge_frame, judge_allowed}
 use Rattle.pfr_smbus.specs.declared.cause.SmbusCause.{SmbusCause}
 use Rattle.pfr_capsule.specs.CapsuleState.{CapsuleState}
 use Rattle.pfr_capsule.specs.declared.fail.CapsuleFail.{CapsuleFail}
-use Rattle.pfr_auth.specs.Areas.{judge_area}
-use Rattle.pfr_auth.specs.Judge.{judge_active}
-use Rattle.pfr_auth.specs.declared.areas.Area.TheVariants.{Recovery, Staging}
 use Rattle.pfr_auth.specs.declared.fail.ActiveFail.{ActiveFail}
-use Rattle.pfr_jobs.specs.declared.job.JobKind.{JobKind}
-use Rattle.pfr_jobs.specs.declared.job.JobKind.TheVariants.{ActiveFromRecovery, ActiveFromStaging}
-use Rattle.pfr_strokes.specs.Strokes.{strokes_of}
-use Rattle.pfr_rebuilt.specs.ActiveCopying.{active_page, active_pages}
-use Rattle.pfr_script.specs.declared.event.Intent.{Intent}
-use Rattle.pfr_script.specs.declared.event.Intent.TheVariants.{Active, Full}
+use Rattle.pfr_jobs.specs.declared.job.JobKind.TheVariants.{ActiveFromRecovery}
 use Rattle.pfr_watch.specs.declared.watch.Watch.{Watch}
 use Rattle.pfr_report.specs.declared.note.LockWhy.{LockWhy}
 use Rattle.pfr_report.specs.declared.note.LockWhy.TheVariants as lock
 use Rattle.pfr_report.specs.declared.note.ProvisionWhy.{ProvisionWhy}
 use Rattle.pfr_report.specs.declared.note.ProvisionWhy.TheVariants as refusal
-use Rattle.pfr_report.specs.declared.note.Refusal.TheVariants as refusing
 use Rattle.pfr_report.specs.declared.note.What.{What}
-use Rattle.pfr_report.specs.declared.note.What.TheVariants.{Held, Released, Locked, Untrusted, Restored, Provisioned, ProvisionRefused, BusPassed, BusBlocked, SmbusPassed, SmbusBlocked, Expired, Updated, Refused}
+use Rattle.pfr_report.specs.declared.note.What.TheVariants.{Held, Released, Locked, Untrusted, Restored, Provisioned, ProvisionRefused, BusPassed, BusBlocked, SmbusPassed, SmbusBlocked, Expired}
 use Rattle.pfr_story.specs.Guards.{guard_at}
-use Rattle.pfr_story.specs.Story.{Story, Move, Plan, then, says, called, image_at, device_of}
-
--- the bytes of a bank, and of the store
-abbrev pub mine : Bank → Story → List ℕ
-mine bank story = image_at (device_of bank) story
-
-abbrev pub store : Story → List ℕ
-store story = image_at device.Nv story
-
--- a bank's device is only asked, or the store is
-abbrev pub asks : Bank → Plan
-asks bank story = called (device_of bank) []
-
-abbrev pub asks_store : Plan
-asks_store story = called device.Nv []
+use Rattle.pfr_story.specs.JobPlans.{job_notes, with_job, resumed}
+use Rattle.pfr_story.specs.Story.{Story, Move, Plan, then, says, called, device_of}
+pub use Rattle.pfr_story.specs.Views.{mine, store, asks, asks_store, lock_of, ready_in, ready_of, judged_active, judged_staging, judged_recovery}
 
 -- ---- a bank is brought up
 
-abbrev pub lock_of : FuseFail → LockWhy
-lock_of fuse.SlotsSpent = lock.SlotsSpent
-lock_of cause = lock.Unprovisioned
-
--- the fuses by which a bank of this size can be checked, or why it is locked
-abbrev pub ready_in : Bank → ℕ → Result FusesState FuseFail → Result FusesState LockWhy
-ready_in bank size read = told_as lock_of read >>= λ fuses. told_as (λ rule. lock.Layout rule) (judge_layout (layout_of fuses.provision bank) size) >> Ok fuses
-
-abbrev pub ready_of : Bank → Story → Result FusesState LockWhy
-ready_of bank story = ready_in bank (length (mine bank story)) (fuses_of (store story))
-
-abbrev pub judged_active : Acceptance → Bank → FusesState → Story → Result Manifest ActiveFail
-judged_active accepts bank fuses story = judge_active (mine bank story) bank fuses accepts
-
-abbrev pub judged_staging : Acceptance → Bank → FusesState → Story → Result CapsuleState CapsuleFail
-judged_staging accepts bank fuses story = judge_area Staging bank (mine bank story) fuses accepts
-
-abbrev pub judged_recovery : Acceptance → Bank → FusesState → Story → Result CapsuleState CapsuleFail
-judged_recovery accepts bank fuses story = judge_area Recovery bank (mine bank story) fuses accepts
-
--- what makes the active image anew from a capsule, by a job
-abbrev pub job_ops : JobKind → List ℕ → CapsuleState → Layout → List Operation
-job_ops kind image capsule layout = strokes_of (active_page image capsule layout) (active_pages kind image capsule layout)
-
-abbrev pub copied : Bank → JobKind → FusesState → CapsuleState → Plan
-copied bank kind fuses capsule story = called (device_of bank) (job_ops kind (mine bank story) capsule (layout_of fuses.provision bank))
-
--- from the recovery area at a level of recovery
+-- its active image is made anew from the recovery area, at a level of recovery
 abbrev pub restored : Bank → ℕ → FusesState → CapsuleState → Plan
-restored bank level fuses capsule = then (copied bank (ActiveFromRecovery level) fuses capsule) (says (λ _. Restored bank level))
+restored bank level fuses capsule = with_job bank (ActiveFromRecovery level) fuses capsule (Restored bank level)
 
 -- the second check, behind that: what was made anew is released, since it is trusted always
 abbrev pub by_second : Bank → Result Manifest ActiveFail → Plan
@@ -122,8 +73,17 @@ by_active accepts bank fuses (Err why) =
 abbrev pub tail : Acceptance → Bank → FusesState → Plan
 tail accepts bank fuses = then (asks bank) (λ story. by_active accepts bank fuses (judged_active accepts bank fuses story) story)
 
+-- behind work on the store it is checked by the fuses as they are then
+abbrev pub by_fuses : Acceptance → Bank → Result FusesState LockWhy → Plan
+by_fuses accepts bank (Ok fuses) = tail accepts bank fuses
+by_fuses accepts bank (Err why) = says (Locked bank why)
+
+abbrev pub checked_then : Acceptance → Bank → Plan
+checked_then accepts bank story = by_fuses accepts bank (ready_of bank story) story
+
+-- a job that is open is taken up or given up first
 abbrev pub by_ready : Acceptance → Bank → Result FusesState LockWhy → Plan
-by_ready accepts bank (Ok fuses) = tail accepts bank fuses
+by_ready accepts bank (Ok fuses) = then (resumed (job_notes bank) accepts bank fuses) (checked_then accepts bank)
 by_ready accepts bank (Err why) = says (Locked bank why)
 
 -- It is held, its fuses are read off the store, and it is checked.
@@ -154,26 +114,6 @@ expired_to accepts bank level = then (says (λ _. Expired bank level)) (then (sa
 
 abbrev pub expired : Acceptance → Bank → Plan
 expired accepts bank story = expired_to accepts bank (level_after (guard_at bank story.guards).watch) story
-
--- ---- the active image is updated from the staging area
-abbrev pub updated : Bank → Bool → FusesState → CapsuleState → Plan
-updated bank dynamic fuses capsule = then (copied bank (ActiveFromStaging dynamic) fuses capsule) (says (λ _. Updated bank dynamic capsule.manifest.svn))
-
--- from a good capsule; one that isn't is refused, and the bank is checked as it is
-abbrev pub by_staged : Acceptance → Bank → Bool → FusesState → Result CapsuleState CapsuleFail → Plan
-by_staged accepts bank dynamic fuses (Ok capsule) = then (updated bank dynamic fuses capsule) (checked_again accepts bank fuses)
-by_staged accepts bank dynamic fuses (Err cause) = then (says (λ _. Refused bank (refusing.Capsule cause))) (tail accepts bank fuses)
-
-abbrev pub updated_with : Acceptance → Bank → Bool → Result FusesState LockWhy → Plan
-updated_with accepts bank dynamic (Ok fuses) = then (asks bank) (λ story. by_staged accepts bank dynamic fuses (judged_staging accepts bank fuses story) story)
-updated_with accepts bank dynamic (Err why) = says (Locked bank why)
-
-abbrev pub is_dynamic : Intent → Bool
-is_dynamic Active = false
-is_dynamic Full = true
-
-abbrev pub updating : Acceptance → Bank → Intent → Plan
-updating accepts bank intent = then (says (Held bank)) (then asks_store (λ story. updated_with accepts bank (is_dynamic intent) (ready_of bank story) story))
 
 -- ---- the fuses are read and migrated at power-on, where the store is provisioned and of profile 1
 abbrev pub migration_by : Profile → FusesState → List Operation

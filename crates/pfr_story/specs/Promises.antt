@@ -16,22 +16,27 @@ use Rattle.pfr_recoverable.specs.Recoverable.{HasGoodRecovery}
 use Rattle.pfr_watch.specs.Stages.{next_stage}
 use Rattle.pfr_watch.specs.declared.stage.Stage.{Stage}
 use Rattle.pfr_watch.specs.declared.stage.Stage.TheVariants.{Done}
+use Rattle.pfr_jobs.specs.Log.{open_job}
+use Rattle.pfr_jobs.specs.declared.job.JobKind.TheVariants.{ActiveFromRecovery}
+use Rattle.pfr_jobs.specs.declared.job.OpenJob.TheVariants as job
+use Rattle.pfr_script.specs.declared.event.Intent.{Intent}
+use Rattle.pfr_script.specs.declared.event.Intent.TheVariants.{Active, Full, Recovery, Cert}
 use Rattle.pfr_script.specs.declared.event.Event.{Event}
 use Rattle.pfr_script.specs.declared.event.Event.TheVariants as event
 use Rattle.pfr_report.specs.Texts.{IsNoted}
 use Rattle.pfr_report.specs.declared.note.LockWhy.{LockWhy}
 use Rattle.pfr_report.specs.declared.note.LockWhy.TheVariants as why
 use Rattle.pfr_report.specs.declared.note.Note.{Note}
-use Rattle.pfr_report.specs.declared.note.What.TheVariants.{Released, Locked, Lost, Untrusted, Restored, Provisioned, ProvisionRefused, Ignored, BusPassed, BusBlocked, SmbusPassed, SmbusBlocked, Expired, Passed, Booted, Updated, Refused}
+use Rattle.pfr_report.specs.declared.note.What.TheVariants.{Released, Locked, Lost, Untrusted, Restored, Provisioned, ProvisionRefused, Ignored, BusPassed, BusBlocked, SmbusPassed, SmbusBlocked, Expired, Passed, Booted, Updated, Refused, Resumed, Abandoned, RecoveryUpdated, Cancelled}
 use Rattle.pfr_report.specs.declared.note.ProvisionWhy.{ProvisionWhy}
 use Rattle.pfr_report.specs.declared.note.What.{What}
 use Rattle.pfr_story.specs.Story.{device_of}
 use Rattle.pfr_story.specs.World.{World, story_of, counts_in, state_at, NoneFailed, IsOn, IsDark, SameDevices, added}
 use Rattle.pfr_story.specs.Standing.{standing_of, is_off, Off, Running}
 use Rattle.pfr_story.specs.Guards.{guard_at}
-use Rattle.pfr_story.specs.Plans.{refusal_of, level_after, is_dynamic}
+use Rattle.pfr_story.specs.Plans.{refusal_of, level_after}
 use Rattle.pfr_story.specs.Turn.{is_idle, is_due, stage_at}
-use Rattle.pfr_story.specs.Causes.{IsTrustedWith, IsRestorable, IsAgainst, IsDue}
+use Rattle.pfr_story.specs.Causes.{IsTrustedWith, IsRestorable, IsResumable, IsAgainst, IsDue}
 
 -- the count of a bank's operations
 abbrev pub count_at : Bank → Counts → ℕ
@@ -87,10 +92,11 @@ DistrustsWithCause accepts old new = (which : Bank) (cause : ActiveFail) → IsN
     → (at : Counts) × IsMoment old new at × AtCounts (λ image nv. IsAgainst cause which image nv accepts) which at new
 
 -- A bank is restored only where a good capsule stands in its recovery area, at a moment of the step: at level 1 where its image
--- isn't trusted, and else at the level to which its watch expired.
+-- isn't trusted, and else at the level to which its watch expired, or at that of the job which is resumed.
 abbrev pub CallsForRestore : Acceptance → Bank → ℕ → List Note → List ℕ → List ℕ → Type 0
 CallsForRestore accepts which level notes image nv =
     ((level ≡ 1) × IsRestorable which image nv accepts) ⊎ (IsNoted notes (Expired which level) × HasGoodRecovery which image nv accepts)
+    ⊎ (IsNoted notes (Resumed which (ActiveFromRecovery level)) × IsResumable (ActiveFromRecovery level) which image nv accepts)
 
 abbrev pub RestoresGood : Acceptance → World → World → Type 0
 RestoresGood accepts old new = (which : Bank) (level : ℕ) → IsNoted (added old new) (Restored which level)
@@ -207,9 +213,20 @@ abbrev pub IsSmbus : Bank → Event → Type 0
 IsSmbus which (event.Smbus b frame) = b ≡ which
 IsSmbus which e = ⊥
 
+-- intents by which the active image is replaced, with all of its regions where `dynamic` and else with the static ones
+abbrev pub Replaces : Bool → Intent → Type 0
+Replaces dynamic Active = dynamic ≡ false
+Replaces dynamic Full = dynamic ≡ true
+Replaces dynamic Recovery = ⊥
+Replaces dynamic Cert = ⊥
+
 abbrev pub IsUpdate : Bank → Bool → Event → Type 0
-IsUpdate which dynamic (event.Update b intent) = (b ≡ which) × (is_dynamic intent ≡ dynamic)
+IsUpdate which dynamic (event.Update b intent) = (b ≡ which) × Replaces dynamic intent
 IsUpdate which dynamic e = ⊥
+
+abbrev pub IsUpdateTo : Bank → Intent → Event → Type 0
+IsUpdateTo which intent (event.Update b other) = (b ≡ which) × (other ≡ intent)
+IsUpdateTo which intent e = ⊥
 
 abbrev pub IsUpdateOf : Bank → Event → Type 0
 IsUpdateOf which (event.Update b intent) = b ≡ which
@@ -221,6 +238,10 @@ IsPassing which e = ⊥
 
 abbrev pub Runs : Bank → World → Type 0
 Runs which w = standing_of which w.notes.list ≡ Running
+
+-- No job of a bank that runs is open.
+abbrev pub RunningHasNoJob : World → Type 0
+RunningHasNoJob w = (which : Bank) → Runs which w → open_job (now w.nv) which ≡ job.None
 
 -- a bank that runs is at this stage of its boot, which isn't done
 pub record IsAtStage (which : Bank) (stage : Stage) (w : World) : Type 0 where
@@ -236,7 +257,8 @@ IsExpiring e which old = ⊥
 
 -- An event is noted to be ignored only where it isn't taken; what a provision comes to is noted only at a provision of banks that
 -- aren't off; what a frame comes to only at a frame on that bus of that bank, which runs; stages only as they are passed, expiries
--- only where a watch expires, to the next count of recoveries; and updates only at an update of a bank that runs.
+-- only where a watch expires, to the next count of recoveries; updates and cancelled keys only at an update of a bank that runs, and
+-- jobs that are taken up, or given up, only at a power-on.
 abbrev pub BelongsTo : Event → World → What → Type 0
 BelongsTo e old Ignored = IsIdle e old
 BelongsTo e old Provisioned = ¬ AreOff old × IsProvision e
@@ -248,23 +270,33 @@ BelongsTo e old (SmbusBlocked which why) = Runs which old × IsSmbus which e
 BelongsTo e old (Expired which level) = IsExpiring e which old × (level ≡ level_after (guard_at which old.guards).watch)
 BelongsTo e old (Passed which stage) = IsPassing which e × IsAtStage which stage old × (next_stage stage ≢ Done)
 BelongsTo e old (Booted which) = IsPassing which e × (stage : Stage) × IsAtStage which stage old × (next_stage stage ≡ Done)
-BelongsTo e old (Updated which dynamic svn) = Runs which old × IsUpdate which dynamic e
+BelongsTo e old (Updated which dynamic svn) = IsPower e ⊎ (Runs which old × IsUpdate which dynamic e)
+BelongsTo e old (Resumed which kind) = IsPower e
+BelongsTo e old (Abandoned which) = IsPower e ⊎ (Runs which old × IsUpdateTo which Recovery e)
+BelongsTo e old (RecoveryUpdated which svn) = IsPower e ⊎ (Runs which old × IsUpdateTo which Recovery e)
+BelongsTo e old (Cancelled type id) = (which : Bank) × Runs which old × IsUpdateTo which Cert e
 BelongsTo e old (Refused which why) = Runs which old × IsUpdateOf which e
 BelongsTo e old what = Unit {0}
 
 abbrev pub NotesBelong : Event → World → World → Type 0
 NotesBelong e old new = (that : What) → IsNoted (added old new) that → BelongsTo e old that
 
--- ---- what is judged anew at a power-on alone
+-- ---- what is judged anew at a power-on, and where fuses change
 
 -- no bank is locked but for a fault or by an expired watch, and none is called untrusted
 pub record JudgesNone (notes : List Note) : Type 0 where
   pub locked : (which : Bank) (cause : LockWhy) (at : Counts) → IsNoted notes (Locked which cause at) → IsFaultLock cause ⊎ IsWatchLock cause
   pub trusted : (which : Bank) (cause : ActiveFail) → ¬ IsNoted notes (Untrusted which cause)
 
+-- updates behind which the bank is checked by other fuses than before
+abbrev pub IsFuseUpdate : Event → Type 0
+IsFuseUpdate (event.Update which Recovery) = Unit {0}
+IsFuseUpdate (event.Update which Cert) = Unit {0}
+IsFuseUpdate e = ⊥
+
 -- At no other event is a bank locked for its contents or called untrusted, since one that runs is trusted.
 abbrev pub JudgesAtPower : Event → World → World → Type 0
-JudgesAtPower e old new = ¬ IsPower e → JudgesNone (added old new)
+JudgesAtPower e old new = ¬ IsPower e → ¬ IsFuseUpdate e → JudgesNone (added old new)
 
 -- ---- provisions
 

@@ -23,7 +23,8 @@ use Rattle.pfr_story.specs.Story.{Story, Move, Says}
 use Rattle.pfr_story.specs.World.{World, story_of}
 use Rattle.pfr_story.specs.Course.{Stretch, Course, Follows}
 use Rattle.pfr_story.specs.Standing.{standing_of, is_off, is_running}
-use Rattle.pfr_story.specs.Plans.{brought_up, migrated, provisioned, filtered, smbus_judged, expired, updating}
+use Rattle.pfr_story.specs.Plans.{brought_up, migrated, provisioned, filtered, smbus_judged, expired}
+use Rattle.pfr_story.specs.UpdatePlans.{updating}
 
 abbrev pub fault_of : Device → LockWhy
 fault_of device.Bmc = FlashFault

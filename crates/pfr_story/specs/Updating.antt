@@ -1,13 +1,15 @@
 -- What a step promises of an update of a bank's active image.
-use Rattle.std.specs.Prelude.{◌≡◌, ◌≢◌, ℕ, Bool, List}
+use Rattle.std.specs.Prelude.{◌≡◌, ◌≢◌, ℕ, Bool, true, false, List}
 use Rattle.pfr_flash.specs.declared.names.Bank.{Bank}
 use Rattle.pfr_flash.specs.declared.names.Counts.{Counts}
 use Rattle.pfr_flash.specs.FlashState.{upto}
 use Rattle.pfr_flash.specs.declared.names.Device.{Device}
+use Rattle.pfr_flash.specs.declared.names.Device.TheVariants.{Nv}
 use Rattle.pfr_engine.specs.Acceptance.{Acceptance}
 use Rattle.pfr_fuses.specs.RootSlot.{layout_of}
 use Rattle.pfr_jobs.specs.declared.job.JobKind.TheVariants.{ActiveFromStaging}
 use Rattle.pfr_capsule.specs.declared.fail.CapsuleFail.{CapsuleFail}
+use Rattle.pfr_script.specs.declared.event.Intent.TheVariants.{Active, Full}
 use Rattle.pfr_script.specs.declared.event.Event.{Event}
 use Rattle.pfr_script.specs.declared.event.Event.TheVariants as event
 use Rattle.pfr_report.specs.Texts.{IsNoted}
@@ -16,7 +18,6 @@ use Rattle.pfr_report.specs.declared.note.Refusal.TheVariants.{Capsule}
 use Rattle.pfr_report.specs.declared.note.What.TheVariants.{Held, Released, Updated, Refused}
 use Rattle.pfr_story.specs.Story.{device_of}
 use Rattle.pfr_story.specs.World.{World, counts_in, state_at, added}
-use Rattle.pfr_story.specs.Plans.{is_dynamic}
 use Rattle.pfr_story.specs.Causes.{HasBadStaging, HasGoodStaging}
 use Rattle.pfr_story.specs.Making.{IsMadeFrom}
 use Rattle.pfr_story.specs.Promises.{AtCounts, Runs, count_at}
@@ -40,11 +41,12 @@ pub record UpdatesAt (accepts : Acceptance) (which : Bank) (dynamic : Bool) (new
 
 pub record UpdatesBy (accepts : Acceptance) (which : Bank) (dynamic : Bool) (old new : World) : Type 0 where
   pub updates : UpdatesAt accepts which dynamic new (added old new) (counts_in old)
-  -- An update that is refused writes nothing, and none writes another device.
+  -- An update that is refused writes nothing, and none writes the other bank.
   pub writes_nothing : (cause : CapsuleFail) → IsNoted (added old new) (Refused which (Capsule cause)) → counts_in new ≡ counts_in old
-  pub others : (other : Device) → other ≢ device_of which → (state_at other new).ops ≡ (state_at other old).ops
+  pub others : (other : Device) → other ≢ device_of which → other ≢ Nv → (state_at other new).ops ≡ (state_at other old).ops
 
--- An update of a bank that runs is judged before anything is written.
+-- An update of the active image of a bank that runs is judged before anything is written.
 abbrev pub Updates : Event → Acceptance → World → World → Type 0
-Updates (event.Update which intent) accepts old new = Runs which old → UpdatesBy accepts which (is_dynamic intent) old new
+Updates (event.Update which Active) accepts old new = Runs which old → UpdatesBy accepts which false old new
+Updates (event.Update which Full) accepts old new = Runs which old → UpdatesBy accepts which true old new
 Updates e accepts old new = Unit {0}

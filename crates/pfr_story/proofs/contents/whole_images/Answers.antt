@@ -1,11 +1,15 @@
-use Rattle.pfr_story.proofs.ContentsLaws.{restores, updates, migrates, provisions}
+use Rattle.pfr_story.proofs.ContentsLaws.{migrates, provisions}
+use Rattle.pfr_story.proofs.JobContentsLaws.{resumes, rebuilds, copies}
 use Rattle.pfr_story.proofs.contents.whole_images.Goals as goal
 
-pub returns-clause-restores : goal.returns-clause-restores
-returns-clause-restores g = restores
+pub returns-clause-resumes : goal.returns-clause-resumes
+returns-clause-resumes g = resumes
 
-pub returns-clause-updates : goal.returns-clause-updates
-returns-clause-updates g = updates
+pub returns-clause-rebuilds : goal.returns-clause-rebuilds
+returns-clause-rebuilds g = rebuilds
+
+pub returns-clause-copies : goal.returns-clause-copies
+returns-clause-copies g = copies
 
 pub returns-clause-migrates : goal.returns-clause-migrates
 returns-clause-migrates g = migrates

@@ -4,8 +4,8 @@ use Rattle.pfr_machine.proofs.desk.Desk.restore_and_check.Goals as goal
 
 pub check_again-requires-clause-trusted : goal.check_again-requires-clause-trusted
 check_again-requires-clause-trusted g c =
-    restored_trusted (g.E.Engine.accepts c.args.engine.now) c.args.fuses.now c.args.capsule.now c.args.self c.restore.new.self c.requires.found c.requires.valid c.known.ensures.size c.known.ensures.bytes
-    c.args.level c.requires.good c.in-Ok.ensures.goes c.in-Ok.ensures.stays.bank
+    restored_trusted (g.E.Engine.accepts c.args.engine.now) c.args.fuses.now c.args.capsule.now c.args.self c.restore.new.self c.requires.found c.requires.valid c.known.ensures.size c.known.ensures.bytes c.known.ensures.store c.requires.none
+    c.args.level c.requires.level c.requires.good c.in-Ok.ensures.goes c.in-Ok.ensures.stays.bank
 
 pub returns-in-Ok : goal.returns-in-Ok
 returns-in-Ok g c =

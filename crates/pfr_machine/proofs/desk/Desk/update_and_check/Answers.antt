@@ -1,10 +1,10 @@
-use Rattle.pfr_story.specs.Plans.{updated}
+use Rattle.pfr_story.specs.UpdatePlans.{updated}
 use Rattle.pfr_machine.proofs.BringLemmas.{anew_ends, anew_halted, updated_trusted}
 use Rattle.pfr_machine.proofs.desk.Desk.update_and_check.Goals as goal
 
 pub check_again-requires-clause-trusted : goal.check_again-requires-clause-trusted
 check_again-requires-clause-trusted g c =
-    updated_trusted (g.E.Engine.accepts c.args.engine.now) c.args.fuses.now c.args.capsule.now c.args.self c.update.new.self c.requires.found c.requires.valid c.known.ensures.size c.known.ensures.bytes
+    updated_trusted (g.E.Engine.accepts c.args.engine.now) c.args.fuses.now c.args.capsule.now c.args.self c.update.new.self c.requires.found c.requires.valid c.known.ensures.size c.known.ensures.bytes c.known.ensures.store c.requires.none
     c.args.dynamic c.requires.good c.in-Ok.ensures.goes c.in-Ok.ensures.stays.bank
 
 pub returns-in-Ok : goal.returns-in-Ok

@@ -3,7 +3,7 @@ use Rattle.pfr_flash.specs.declared.names.Bank.{Bank}
 use Rattle.pfr_capsule.specs.CapsuleState.{CapsuleState}
 use Rattle.pfr_capsule.specs.declared.fail.CapsuleFail.{CapsuleFail}
 use Rattle.pfr_auth.specs.declared.areas.Area.TheVariants.{Staging}
-use Rattle.pfr_story.specs.Plans.{by_staged}
+use Rattle.pfr_story.specs.UpdatePlans.{by_staged}
 use Rattle.pfr_story.specs.Story.{Plan}
 use Rattle.pfr_machine.proofs.BringLemmas.{found_ends, found_halted}
 use Rattle.pfr_machine.proofs.CapsuleLemmas.{left_valid}

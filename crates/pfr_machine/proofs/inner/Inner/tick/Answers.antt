@@ -4,6 +4,10 @@ use Rattle.pfr_story.specs.Course.{Steps}
 use Rattle.pfr_story.specs.World.{World}
 use Rattle.pfr_machine.specs.Watching.{due_stretches}
 use Rattle.pfr_machine.proofs.WatchLemmas.{due_up, tick_follows, up_mid}
+use Rattle.pfr_machine.proofs.RestLemmas.{rests_running}
+use Rattle.pfr_machine.proofs.WatchLemmas.{due_runs}
+use Rattle.pfr_machine.specs.Inside.{IsAtRest}
+use Rattle.pfr_flash.specs.FlashState.{now}
 use Rattle.pfr_machine.proofs.inner.Inner.tick.Goals as goal
 
 pub expire_due-requires-clause-bmc : goal.expire_due-requires-clause-bmc
@@ -25,3 +29,13 @@ returns-in-Err-clause-follows g c =
     let steps = subst (λ (w : World). Steps (due_stretches accepts c.tick_watches-bmc.result.0 c.tick_watches-bmc.result.1) c.tick_watches-bmc.new.self w) (sym c.off.ensures.same) c.in-Err.ensures.0 in
     tick_follows c.args.n c.args.self c.tick_watches-bmc.new.self c.tick_watches-bmc.ensures.clocked accepts c.tick_watches-bmc.result.0 c.tick_watches-bmc.result.1 c.off.result
     c.tick_watches-bmc.ensures.bmc c.tick_watches-bmc.ensures.pch steps
+
+pub expire_due-requires-clause-bmc_rests : goal.expire_due-requires-clause-bmc_rests
+expire_due-requires-clause-bmc_rests g c = λ due.
+    let runs = due_runs Bmc c.args.n c.args.self (sym c.tick_watches-bmc.ensures.bmc ∙ due) in
+    subst (λ (w : World). IsAtRest Bmc (now w.nv)) (sym c.tick_watches-bmc.ensures.clocked) (rests_running Bmc _ (c.requires.settled Bmc runs) (c.requires.idle Bmc runs))
+
+pub expire_due-requires-clause-pch_rests : goal.expire_due-requires-clause-pch_rests
+expire_due-requires-clause-pch_rests g c = λ due.
+    let runs = due_runs Pch c.args.n c.args.self (sym c.tick_watches-bmc.ensures.pch ∙ due) in
+    subst (λ (w : World). IsAtRest Pch (now w.nv)) (sym c.tick_watches-bmc.ensures.clocked) (rests_running Pch _ (c.requires.settled Pch runs) (c.requires.idle Pch runs))

@@ -11,9 +11,9 @@ use Rattle.pfr_machine.proofs.inner.Inner.update.Goals as goal
 pub returns-in-Ok-clause-follows : goal.returns-in-Ok-clause-follows
 returns-in-Ok-clause-follows g c =
     let accepts = g.E.Engine.accepts c.args.engine.now in
-    let work : Stretch = work_stretch accepts c.args.bank (Update c.is_dynamic-dynamic.result) in
+    let work : Stretch = work_stretch accepts c.args.bank (Update c.args.intent) in
     let update : Stretch = update_stretch accepts c.args.bank c.args.intent in
-    let plan = ap (λ (dynamic : Bool). (work_stretch accepts c.args.bank (Update dynamic)).plan (story_of c.args.self)) (sym c.is_dynamic-dynamic.ensures) in (
+    let plan = refl in (
       c.args.self,
       Ran-refl c.args.self,
       one_brought update c.args.self c.in-Ok.inner
@@ -23,9 +23,9 @@ returns-in-Ok-clause-follows g c =
 pub returns-in-Err-clause-follows : goal.returns-in-Err-clause-follows
 returns-in-Err-clause-follows g c =
     let accepts = g.E.Engine.accepts c.args.engine.now in
-    let work : Stretch = work_stretch accepts c.args.bank (Update c.is_dynamic-dynamic.result) in
+    let work : Stretch = work_stretch accepts c.args.bank (Update c.args.intent) in
     let update : Stretch = update_stretch accepts c.args.bank c.args.intent in
-    let plan = ap (λ (dynamic : Bool). (work_stretch accepts c.args.bank (Update dynamic)).plan (story_of c.args.self)) (sym c.is_dynamic-dynamic.ensures) in
+    let plan = refl in
     rw c.off.ensures.same (
       c.args.self,
       Ran-refl c.args.self,

@@ -2,7 +2,7 @@ use Rattle.std.proofs.Common.{Option, subst, sym}
 use Rattle.pfr_story.specs.World.{World}
 use Rattle.pfr_story.specs.Turn.{Turn}
 use Rattle.pfr_machine.specs.Inside.{IsThere, world_in}
-use Rattle.pfr_machine.proofs.SoundLemmas.{begun_trusted, still_sound}
+use Rattle.pfr_machine.proofs.SoundLemmas.{begun_idle, begun_settled, begun_trusted, still_sound}
 use Rattle.pfr_machine.proofs.TurnLemmas.{turned}
 use Rattle.pfr_machine.proofs.platform.Platform.work.Goals as goal
 
@@ -10,6 +10,16 @@ pub turn-inner-requires-clause-trusted : goal.turn-inner-requires-clause-trusted
 turn-inner-requires-clause-trusted g c =
     let there = subst (λ (o : Option World). IsThere (g.E.Engine.accepts c.self.inside.engine) o) (sym c.in-Some.ensures.value) c.self.invariant in
     begun_trusted _ _ (record { is = c.in-Ok.ensures.begun; list = c.in-Ok.ensures.list }) (g.E.Engine.accepts c.self.inside.engine) there
+
+pub turn-inner-requires-clause-settled : goal.turn-inner-requires-clause-settled
+turn-inner-requires-clause-settled g c =
+    let there = subst (λ (o : Option World). IsThere (g.E.Engine.accepts c.self.inside.engine) o) (sym c.in-Some.ensures.value) c.self.invariant in
+    begun_settled _ _ (record { is = c.in-Ok.ensures.begun; list = c.in-Ok.ensures.list }) (g.E.Engine.accepts c.self.inside.engine) there
+
+pub turn-inner-requires-clause-idle : goal.turn-inner-requires-clause-idle
+turn-inner-requires-clause-idle g c =
+    let there = subst (λ (o : Option World). IsThere (g.E.Engine.accepts c.self.inside.engine) o) (sym c.in-Some.ensures.value) c.self.invariant in
+    begun_idle _ _ (record { is = c.in-Ok.ensures.begun; list = c.in-Ok.ensures.list }) (g.E.Engine.accepts c.self.inside.engine) there
 
 pub returns-in-Ok-clause-turn : goal.returns-in-Ok-clause-turn
 returns-in-Ok-clause-turn g c =

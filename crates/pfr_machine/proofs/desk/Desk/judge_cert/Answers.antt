@@ -1,0 +1,50 @@
+use Rattle.std.proofs.Common.{◌∙◌, ap, false, refl, sym, Some, None, Ok, Err}
+use Rattle.pfr_flash.specs.FlashState.{size_of}
+use Rattle.pfr_machine.specs.Worlds.{flash_in, latch_in, latches_by, line_in, sits_in}
+use Rattle.pfr_machine.proofs.DeskLemmas.{awake_mine, awake_store, desk_worked, mine_read, mine_unread, read_on, read_size, state_store, stays_here}
+use Rattle.pfr_machine.proofs.ClearLemmas.{cert_here}
+use Rattle.pfr_machine.proofs.UpdateLemmas.{lent}
+use Rattle.pfr_machine.proofs.desk.Desk.judge_cert.Goals as goal
+use Rattle.pfr_machine.proofs.desk.Desk.judge_cert.Goals.{in-Ok, in-Err+in-Some, in-Err+in-None}
+
+pub returns-clause-goes : goal.returns-clause-goes
+returns-clause-goes g c =
+    let on = awake_mine c.self.inside.bank (g.F.Flash.device c.self.inside.held.flash) (g.F.Flash.device (flash_in c.self.inside.other)) (g.F.Flash.device c.self.inside.board.nv) (latches_by c.self.inside.bank false (latch_in c.self.inside.other)) c.self.inside.board (rw (← c.self.view_is) at c.requires.on) in
+    let same = ap g.F.Flash.device c.flash.ensures.value in
+    elim c.match-read_cert.branch [
+      | in-Ok w ↦ rw (w.result-is, ← c.self.view_is) (mine_read c.self.inside.bank (g.F.Flash.device c.self.inside.held.flash) (g.F.Flash.device c.read_cert.new.flash) (g.F.Flash.device (flash_in c.self.inside.other)) (g.F.Flash.device c.self.inside.board.nv) (latches_by c.self.inside.bank false (latch_in c.self.inside.other)) c.self.inside.board on (lent None None (g.F.Flash.device c.flash.result.now) (g.F.Flash.device c.self.inside.held.flash) (g.F.Flash.device c.read_cert.new.flash) refl same w.in-Ok.ensures.ends))
+      | in-Err+in-Some w ↦
+          rw (w.result-is, w.device_of.ensures, ← c.self.view_is) (mine_unread c.self.inside.bank (g.F.Flash.device c.self.inside.held.flash) (g.F.Flash.device c.read_cert.new.flash) (g.F.Flash.device (flash_in c.self.inside.other)) (g.F.Flash.device c.self.inside.board.nv) (latches_by c.self.inside.bank false (latch_in c.self.inside.other)) c.self.inside.board on w.in-Some.fail
+          (lent _ (Some w.in-Some.fail) (g.F.Flash.device c.flash.result.now) (g.F.Flash.device c.self.inside.held.flash) (g.F.Flash.device c.read_cert.new.flash) (sym w.failure.ensures ∙ w.in-Some.is) same w.in-Err.ensures.ends))
+      | in-Err+in-None w ↦
+          rw (w.result-is, ← c.self.view_is) (mine_read c.self.inside.bank (g.F.Flash.device c.self.inside.held.flash) (g.F.Flash.device c.read_cert.new.flash) (g.F.Flash.device (flash_in c.self.inside.other)) (g.F.Flash.device c.self.inside.board.nv) (latches_by c.self.inside.bank false (latch_in c.self.inside.other)) c.self.inside.board on (lent _ None (g.F.Flash.device c.flash.result.now) (g.F.Flash.device c.self.inside.held.flash) (g.F.Flash.device c.read_cert.new.flash) (sym w.failure.ensures ∙ w.in-None.is) same w.in-Err.ensures.ends))
+    ]
+
+pub invariant_of-self : goal.invariant_of-self
+invariant_of-self g c =
+    desk_worked c.self.inside.bank c.self.inside.held.bank c.self.inside.held.bank (sits_in c.self.inside.other) (g.F.Flash.device c.self.inside.held.flash) (g.F.Flash.device c.read_cert.new.flash) (g.F.Flash.device (flash_in c.self.inside.other)) (g.F.Flash.device c.self.inside.board.nv) (latches_by c.self.inside.bank false (latch_in c.self.inside.other)) c.self.inside.board refl
+    (read_size _ (g.F.Flash.device c.flash.result.now) (g.F.Flash.device c.read_cert.new.flash) c.read_cert.ensures.ends ∙ ap (λ flash. size_of (g.F.Flash.device flash)) c.flash.ensures.value) c.self.invariant
+
+pub returns-clause-store : goal.returns-clause-store
+returns-clause-store g c =
+    rw (← c.self.view_is) (state_store c.self.inside.bank (g.F.Flash.device c.read_cert.new.flash) (g.F.Flash.device (flash_in c.self.inside.other)) (g.F.Flash.device c.self.inside.board.nv) (latches_by c.self.inside.bank false (latch_in c.self.inside.other)) c.self.inside.board
+    ∙ sym (state_store c.self.inside.bank (g.F.Flash.device c.self.inside.held.flash) (g.F.Flash.device (flash_in c.self.inside.other)) (g.F.Flash.device c.self.inside.board.nv) (latches_by c.self.inside.bank false (latch_in c.self.inside.other)) c.self.inside.board))
+
+pub returns-clause-is : goal.returns-clause-is
+returns-clause-is g c =
+    let here = cert_here c.self.inside.bank (g.F.Flash.device c.self.inside.held.flash) (g.F.Flash.device c.flash.result.now) (g.F.Flash.device (flash_in c.self.inside.other)) (g.F.Flash.device c.self.inside.board.nv) (latches_by c.self.inside.bank false (latch_in c.self.inside.other)) c.self.inside.board c.args.fuses.now (g.E.Engine.accepts c.args.engine.now) in
+    let same = ap g.F.Flash.device c.flash.ensures.value in
+    elim c.match-read_cert.branch [
+      | in-Ok w ↦ rw (w.result-is, ← c.self.view_is) (here (Ok w.in-Ok.cert) same w.in-Ok.ensures.exact)
+      | in-Err+in-Some w ↦ rw w.result-is tt
+      | in-Err+in-None w ↦ rw (w.result-is, ← c.self.view_is) (here (Err w.in-Err.why) same (rw (sym w.failure.ensures ∙ w.in-None.is) at w.in-Err.ensures.exact))
+    ]
+
+pub returns-clause-stays : goal.returns-clause-stays
+returns-clause-stays g c =
+    let awake = rw (← c.self.view_is) at c.requires.on in
+    let on = awake_mine c.self.inside.bank (g.F.Flash.device c.self.inside.held.flash) (g.F.Flash.device (flash_in c.self.inside.other)) (g.F.Flash.device c.self.inside.board.nv) (latches_by c.self.inside.bank false (latch_in c.self.inside.other)) c.self.inside.board awake in
+    let fed = awake_store c.self.inside.bank (g.F.Flash.device c.self.inside.held.flash) (g.F.Flash.device (flash_in c.self.inside.other)) (g.F.Flash.device c.self.inside.board.nv) (latches_by c.self.inside.bank false (latch_in c.self.inside.other)) c.self.inside.board awake in
+    let same = ap g.F.Flash.device c.flash.ensures.value in
+    rw (← c.self.view_is) (stays_here c.self.inside.bank (line_in c.self.inside.other) (g.F.Flash.device c.self.inside.held.flash) (g.F.Flash.device c.read_cert.new.flash) (g.F.Flash.device (flash_in c.self.inside.other)) (g.F.Flash.device c.self.inside.board.nv) (latches_by c.self.inside.bank false (latch_in c.self.inside.other)) c.self.inside.board c.match-read_cert.result
+    (read_on _ (g.F.Flash.device c.self.inside.held.flash) (g.F.Flash.device c.read_cert.new.flash) (lent _ _ (g.F.Flash.device c.flash.result.now) (g.F.Flash.device c.self.inside.held.flash) (g.F.Flash.device c.read_cert.new.flash) refl same c.read_cert.ensures.ends) on) fed)
