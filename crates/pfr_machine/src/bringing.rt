@@ -144,11 +144,7 @@ impl<F: Flash> Desk<F> {
     }
 
     /// Takes the job up that is open, or gives it up, and checks the bank.
-    pub fn bring_up<E: Engine>(
-        mut self,
-        mut fuses: Fuses,
-        engine: &E,
-    ) -> Result<Inner<F>, Halt<F>>
+    pub fn bring_up<E: Engine>(mut self, mut fuses: Fuses, engine: &E) -> Result<Inner<F>, Halt<F>>
         requires room { 5 ≤ self.world.notes.spare }
         requires on { IsAwake self.bank self.world }
         requires found { fuses_of (now self.world.nv) ≡ Ok fuses }
