@@ -31,6 +31,7 @@ use Rattle.pfr_story.proofs.NoteLaws.{Turn-distrusts, Turn-restores}
 use Rattle.pfr_story.proofs.FaultLaws.{Turn-told}
 use Rattle.pfr_story.proofs.BringLaws.{Turn-brings, Turn-powers}
 use Rattle.pfr_story.proofs.CancelLaws.{Turn-cancels}
+use Rattle.pfr_story.proofs.HeedLaws.{Turn-heeds}
 use Rattle.pfr_story.proofs.IdleLaws.{Turn-idle}
 use Rattle.pfr_story.proofs.RecoveryLaws.{Turn-recoverable}
 use Rattle.pfr_story.proofs.RecoveryUpdateLaws.{Turn-updates_recovery}
@@ -156,6 +157,7 @@ later_sizes first w sizes later = record {
 did_brings : (accepts : Acceptance) (tears : List (List ℕ)) (i : Item) (old new : World) → HasSizes old → TrustedRunning accepts old → ((which : Bank) → HasTrustedSpans accepts which (story_of old)) → HaveBytes new → Did accepts tears i old new → BringsUpIn accepts i old new
 did_brings accepts tears (item.Event e) old new sizes trusted spans held t = record {
   takes_up = Turn-takes_up accepts e old new sizes.nv t held sizes.bmc sizes.pch;
+  heeds = Turn-heeds accepts e old new sizes.nv t held sizes.bmc sizes.pch;
   updates_recovery = Turn-updates_recovery accepts e old new t held sizes.bmc sizes.pch sizes.nv trusted (λ which. (spans which).idle) (λ which. (spans which).settled);
   cancels = Turn-cancels accepts e old new t sizes.nv trusted;
   no_job = λ which. Turn-idle accepts which e old new t held sizes.bmc sizes.pch sizes.nv spans;

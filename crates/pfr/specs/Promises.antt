@@ -8,7 +8,7 @@ use Rattle.pfr_recoverable.specs.Recoverable.{IsRecoverable}
 use Rattle.pfr_script.specs.declared.event.Event.{Event}
 use Rattle.pfr_script.specs.declared.item.Item.{Item}
 use Rattle.pfr_script.specs.declared.item.Item.TheVariants as item
-use Rattle.pfr_story.specs.JobPromises.{Cancels, RecoveryUpdates, TakesJobsUp}
+use Rattle.pfr_story.specs.JobPromises.{Cancels, MarksAreHeeded, RecoveryUpdates, TakesJobsUp}
 use Rattle.pfr_story.specs.World.{NoneFailed, World, story_of}
 use Rattle.pfr_story.specs.Run.{Did, Reached}
 use Rattle.pfr_story.specs.Spans.{ReleasedSpans}
@@ -45,9 +45,10 @@ StaysProvisioned bench = KeepsProvision (fresh_of bench).nv bench.nv.device
 
 -- What an event does to banks.
 pub record BringsUpSo (accepts : Acceptance) (event : Event) (old new : World) : Type 0 where
-  -- A power-on takes the jobs up that are open, brings each bank up by the contents then, unless a call failed while it was in work, and
-  -- releases each that can be recovered.
+  -- A power-on takes the jobs up that are open, where their marks leave off, brings each bank up by the contents then, unless a call
+  -- failed while it was in work, and releases each that can be recovered.
   pub takes_up : TakesJobsUp event accepts old new
+  pub heeds : MarksAreHeeded event accepts old new
   pub calm : BringsUpCalm event accepts old new
   pub powers : PowerReleases (λ bank image nv. IsRecoverable bank image nv accepts) event old new
   -- None is called untrusted or restored without cause, and where no fuses change none is judged anew at another event.
