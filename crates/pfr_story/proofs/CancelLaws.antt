@@ -19,15 +19,16 @@ use Rattle.pfr_script.specs.declared.event.Intent.TheVariants as intent
 use Rattle.pfr_report.specs.Texts.{IsNoted}
 use Rattle.pfr_report.specs.declared.note.LockWhy.{LockWhy}
 use Rattle.pfr_report.specs.declared.note.Note.{Note}
+use Rattle.pfr_report.specs.declared.note.Refusal.{Refusal}
 use Rattle.pfr_report.specs.declared.note.Refusal.TheVariants as refusing
 use Rattle.pfr_report.specs.declared.note.What.{What}
 use Rattle.pfr_report.specs.declared.note.What.TheVariants as what
-use Rattle.pfr_story.specs.Story.{Story, Move, Says, Asks, after, noted, called, device_of}
+use Rattle.pfr_story.specs.Story.{Story, Move, Says, Asks, after, noted, called, counts_of, device_of}
 use Rattle.pfr_story.specs.World.{World, story_of, counts_in, AllMoved, added}
 use Rattle.pfr_story.specs.Course.{Follows}
 use Rattle.pfr_story.specs.Safety.{AllSafe}
 use Rattle.pfr_story.specs.Plans.{mine, store, ready_of, checked_then}
-use Rattle.pfr_story.specs.UpdatePlans.{judged_cert, cancelled_key, by_use, by_cert, updated_with, updating}
+use Rattle.pfr_story.specs.UpdatePlans.{refused_so, judged_cert, cancelled_key, by_use, by_cert, updated_with, updating}
 use Rattle.pfr_story.specs.Standing.{standing_of}
 use Rattle.pfr_story.specs.Turn.{update_stretch, update_course, begun, Turn}
 use Rattle.pfr_story.specs.Promises.{AtCounts, Runs}
@@ -42,8 +43,10 @@ use Rattle.pfr_story.proofs.Made.{said, added_said}
 use Rattle.pfr_story.proofs.NoteLaws.{at_moment}
 use Rattle.pfr_story.proofs.Entry.{TrustedRunning, trusted_here, trusted_ready, follows_moved, takes}
 use Rattle.pfr_story.proofs.Endings.{IsTrouble, Ending, single_ends, ended_trace, ended_is, ended_good, ends_whole, over_alone, ends_behind}
+use Rattle.pfr_story.proofs.JobLaws.{Still, same_pasts, same_counts}
 use Rattle.pfr_story.proofs.JobQuiet.{told_jobs}
 use Rattle.pfr_story.proofs.JobWalks.{store_sized}
+use Rattle.pfr_story.proofs.RefusalLaws.{refused_still, trusted_held}
 
 -- ---- what is known of each note
 module _ (accepts : Acceptance) (b : Bank) (fuses : FusesState) (from : Story) where
@@ -64,6 +67,7 @@ module _ (accepts : Acceptance) (b : Bank) (fuses : FusesState) (from : Story) w
   Key (what.Held c at) story = c ≡ b
   Key (what.Cancelled type id) story = IsFor (record { ty = type; id = id })
   Key (what.Refused c (refusing.Cert cause)) story = IsAgainstCert cause
+  Key (what.Refused c why) story = ⊥
   Key that story = Unit {0}
 
   allows_key : AllowsBank (Saying Key) b
@@ -165,6 +169,26 @@ module _ (accepts : Acceptance) (b : Bank) (fuses : FusesState) (first new : Wor
   refuses_so cause calm (inl j) = make_noted (todo (Err cause)) (whole_by (Err cause) j calm) (what.Refused b (refusing.Cert cause)) (inr (inl refl))
   refuses_so cause calm (inr (cert, j, u)) = make_noted (used cert (Err cause)) (whole_used cert (Err cause) j u calm) (what.Refused b (refusing.Cert cause)) (inr (inl refl))
 
+  -- one that is refused does no operation
+  module _ (t : IsTrusted (mine b (story_of first)) (store (story_of first)) b accepts) where
+    still : (cause : CertFail) → AllSafe Still (refused_so accepts b fuses (refusing.Cert cause) there) there
+    still cause = refused_still accepts b fuses there ready.provisioned (trusted_held accepts b start t) (refusing.Cert cause)
+
+    nothing_done : (moves : List Move) → todo found ≡ moves → AllSafe Still moves there → counts_of (story_of new) ≡ counts_of start
+    nothing_done moves is safe =
+        same_counts there (story_of new) (same_pasts b (Unit {0}) moves there (story_of new) safe (subst (λ (ms : List Move). Ending b (Unit {0}) ms there (story_of new)) is behind))
+
+    by_cause : (cause : CertFail) → IsAgainstCert accepts b fuses start cause → counts_of (story_of new) ≡ counts_of start
+    by_cause cause (inl j) = nothing_done (todo (Err cause)) (ap (λ (r : Result Cert CertFail). todo r) j) (tt, (tt, still cause))
+    by_cause cause (inr (cert, j, u)) =
+        nothing_done (used cert (Err cause)) (ap (λ (r : Result Cert CertFail). todo r) j ∙ ap (λ (r : Result (Unit {0}) CertFail). used cert r) u) (tt, (tt, (tt, still cause)))
+
+    writes_nothing : (why : Refusal) → IsNoted (added first new) (what.Refused b why) → counts_of (story_of new) ≡ counts_of start
+    writes_nothing (refusing.Cert cause) n = by_cause cause (known (what.Refused b (refusing.Cert cause)) n).1
+    writes_nothing (refusing.Capsule cause) n = absurd (known (what.Refused b (refusing.Capsule cause)) n).1
+    writes_nothing refusing.ManifestDiffers n = absurd (known (what.Refused b refusing.ManifestDiffers) n).1
+    writes_nothing refusing.JobsSpent n = absurd (known (what.Refused b refusing.JobsSpent) n).1
+
   cancels_so : (cert : Cert) → IsCalm b (added first new) → IsFor accepts b fuses start cert → IsNoted (added first new) (what.Cancelled cert.ty cert.id)
   cancels_so cert calm is = make_noted (used cert (Ok tt)) (whole_used cert (Ok tt) is.0 is.1 calm) (what.Cancelled cert.ty cert.id) (inr (inl refl))
 
@@ -193,13 +217,14 @@ module _ (accepts : Acceptance) (b : Bank) (fuses : FusesState) (first new : Wor
       subst (λ (f : FusesState). (judged_cert accepts b f there ≡ Ok cert) × (use_judged accepts b f cert there ≡ Ok tt))
       (fuses_one (store there) h.fuses fuses h.provisioned ready_there.provisioned) (h.judged, h.free)
 
-  cancels_key : CancelsKey accepts b new (added first new) (counts_in first)
-  cancels_key = record {
+  cancels_key : IsTrusted (mine b (story_of first)) (store (story_of first)) b accepts → CancelsKey accepts b new (added first new) (counts_in first)
+  cancels_key t = record {
     held = make_noted (ended_trace b (Unit {0}) (todo found) there (story_of new) behind) (ended_is b (Unit {0}) (todo found) there (story_of new) behind) (what.Held b (counts_in first)) (inl refl);
     refused = λ cause n. by_counts (λ image nv. HasBadCert cause b image nv accepts) (bad_cert cause (known (what.Refused b (refusing.Cert cause)) n).1);
     refuses = λ cause calm. by_counts (λ image nv. HasBadCert cause b image nv accepts → IsNoted (added first new) (what.Refused b (refusing.Cert cause))) (λ h. refuses_so cause calm (against_cert cause h));
     cancelled = λ type id n. by_counts (λ image nv. HasCert (record { ty = type; id = id }) b image nv accepts) (has_cert (record { ty = type; id = id }) (known (what.Cancelled type id) n).1);
     cancels = λ cert calm. by_counts (λ image nv. HasCert cert b image nv accepts → IsNoted (added first new) (what.Cancelled cert.ty cert.id)) (λ h. cancels_so cert calm (for_cert cert h));
+    writes_nothing = λ why n. writes_nothing t why n;
   }
 
 -- ---- a whole step
@@ -211,7 +236,7 @@ module _ (accepts : Acceptance) (b : Bank) (old new : World) where
   cancels_by sized t f =
       let ready : IsReady b t.fuses (story_of first) = trusted_ready accepts b (story_of first) t in
       let ending = single_ends (update_stretch accepts b intent.Cert) b (Unit {0}) (λ d. refl) tt first new f in
-      cancels_key accepts b t.fuses first new ready sized ending (follows_moved (update_course accepts b intent.Cert) first new f)
+      cancels_key accepts b t.fuses first new ready sized ending (follows_moved (update_course accepts b intent.Cert) first new f) t
 
   cancel_turn : Turn accepts (event.Update b intent.Cert) old new → size_of old.nv ≡ 32768 → TrustedRunning accepts old → Runs b old → CancelsKey accepts b new (added old new) (counts_in old)
   cancel_turn t nv trusted runs = elim (Turn-cases accepts (event.Update b intent.Cert) old new t) [

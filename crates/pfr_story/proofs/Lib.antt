@@ -105,6 +105,7 @@ pub mod ChangedFuses
 pub mod ChangeWalks
 pub mod CancelLaws
 pub mod RecoveryTail
+pub mod RefusalLaws
 pub mod RecoveryTold
 pub mod RecoveryUpdateLaws
 pub mod ChangeLaws

@@ -7,7 +7,7 @@ use Rattle.pfr_flash.specs.declared.layout.Layout.{Layout}
 use Rattle.pfr_flash.specs.declared.names.Bank.{Bank}
 use Rattle.pfr_flash.specs.declared.names.Device.{Device}
 use Rattle.pfr_flash.specs.declared.names.Device.TheVariants as device
-use Rattle.pfr_flash.proofs.LeavingLemmas.{leaves_torn}
+use Rattle.pfr_flash.proofs.LeavingLemmas.{leaves_torn, left_bytes}
 use Rattle.pfr_flash.proofs.PlayLemmas.{length-applied}
 use Rattle.pfr_engine.specs.Acceptance.{Acceptance}
 use Rattle.pfr_fuses.specs.FusesState.{FusesState}
@@ -23,7 +23,7 @@ use Rattle.pfr_jobs.specs.declared.job.JobKind.TheVariants.{ActiveFromRecovery}
 use Rattle.pfr_rebuilt.specs.ActiveCopying.{active_page, active_pages, is_active_page}
 use Rattle.pfr_rebuilt.specs.Passing.{group_pages, active_heeding, active_ignoring}
 use Rattle.pfr_recoverable.proofs.CutLaw.{logs_same, good_with}
-use Rattle.pfr_recoverable.proofs.StaysLaw.{fuses_one, good_left, digest_left}
+use Rattle.pfr_recoverable.proofs.StaysLaw.{fuses_one}
 use Rattle.pfr_report.specs.declared.note.What.{What}
 use Rattle.pfr_report.specs.declared.note.What.TheVariants as what
 use Rattle.pfr_strokes.specs.Deeds.{Deed, Asks as AsksSide, Does as DoesSide}
@@ -36,6 +36,7 @@ use Rattle.pfr_story.specs.Safety.{Rule, AllSafe, Keeps}
 use Rattle.pfr_story.specs.Story.{Story, Move, Says, Does, Asks, after, operated, called, device_of}
 use Rattle.pfr_story.proofs.BringRules.{ready_found, Walks, then_safe}
 use Rattle.pfr_story.proofs.FoundLaws.{found_begins}
+use Rattle.pfr_story.proofs.JobPages.{good_again}
 use Rattle.pfr_story.proofs.JobRules.{IsInLog, AllInLog, torn_within, finish_own, AllOwnDeeds, heeding_own, ignoring_own}
 use Rattle.pfr_story.proofs.JobSafety.{IsJobless, holds_noted, mine_called, own_logs}
 use Rattle.pfr_story.proofs.JobSafetyActive.{regions_good}
@@ -49,8 +50,8 @@ Tame b from len (Says w) story = Unit {0}
 Tame b from len (Does which op) story = ((which ≡ device_of b) × Leaves from len op) ⊎ ((which ≡ device.Nv) × IsInLog b op)
 Tame b from len (Asks which) story = Unit {0}
 
--- ---- a capsule of this digest stands good in the recovery area, by a store that says these fuses
-module _ (accepts : Acceptance) (b : Bank) (fuses : FusesState) (digest : List ℕ) where
+-- ---- a capsule with the digest and the manifest of this one stands good in the recovery area, by a store that says these fuses
+module _ (accepts : Acceptance) (b : Bank) (fuses : FusesState) (capsule : CapsuleState) where
   abbrev place : ℕ
   place = (layout_of fuses.provision b).recovery_at
 
@@ -63,7 +64,8 @@ module _ (accepts : Acceptance) (b : Bank) (fuses : FusesState) (digest : List �
     pub valid : IsValidLayout (layout_of fuses.provision b) (length image)
     pub blocks : length image % 65536 ≡ 0
     pub good : IsGood image (layout_of fuses.provision b).recovery_at (layout_of fuses.provision b).area_len nv b accepts
-    pub same : good.capsule.digest ≡ digest
+    pub digest : good.capsule.digest ≡ capsule.digest
+    pub manifest : good.capsule.manifest ≡ capsule.manifest
 
   abbrev pub IsStanding : Story → Type 0
   IsStanding story = IsStandingIn (mine b story) (store story)
@@ -71,13 +73,15 @@ module _ (accepts : Acceptance) (b : Bank) (fuses : FusesState) (digest : List �
   standing_left : (image nv : List ℕ) (op : Operation) → IsStandingIn image nv → Leaves place len op → IsStandingIn (applied image op) nv
   standing_left image nv op p leaves =
       let size = length-applied image op in
+      let again = good_again image (applied image op) nv nv place len b accepts p.good size p.blocks (left_bytes image op place len leaves p.valid.inside.recovery) refl in
       record {
         says = p.says;
         store_size = p.store_size;
         valid = subst (λ (n : ℕ). IsValidLayout (layout_of fuses.provision b) n) (sym size) p.valid;
         blocks = subst (λ (n : ℕ). n % 65536 ≡ 0) (sym size) p.blocks;
-        good = good_left image nv place len b accepts p.good p.blocks p.valid.inside.recovery op leaves;
-        same = digest_left image nv place len b accepts p.good p.blocks p.valid.inside.recovery op leaves ∙ p.same;
+        good = again.0;
+        digest = again.1.digest ∙ p.digest;
+        manifest = again.1.manifest ∙ p.manifest;
       }
 
   standing_logged : (image nv : List ℕ) (op : Operation) → IsStandingIn image nv → IsInLog b op → IsStandingIn image (applied nv op)
@@ -90,7 +94,8 @@ module _ (accepts : Acceptance) (b : Bank) (fuses : FusesState) (digest : List �
         valid = p.valid;
         blocks = p.blocks;
         good = kept.0;
-        same = ap (λ (c : CapsuleState). c.digest) kept.1 ∙ p.same;
+        digest = ap (λ (c : CapsuleState). c.digest) kept.1 ∙ p.digest;
+        manifest = ap (λ (c : CapsuleState). c.manifest) kept.1 ∙ p.manifest;
       }
 
   by_bank : (which : Device) (op : Operation) (story : Story) → which ≡ device_of b → Leaves place len op → IsStanding story → IsStanding (operated which op story)
@@ -111,6 +116,19 @@ module _ (accepts : Acceptance) (b : Bank) (fuses : FusesState) (digest : List �
   tame_keeps (Does which op) story (inl (e, leaves)) p = by_bank which op story e leaves p
   tame_keeps (Does which op) story (inr (e, own)) p = by_store which op story e own p
   tame_keeps (Asks which) story g p = p
+
+-- of another one with the same digest and the same manifest too
+pub standing_as : (accepts : Acceptance) (b : Bank) (fuses : FusesState) (one other : CapsuleState) (image nv : List ℕ) → one.digest ≡ other.digest → one.manifest ≡ other.manifest
+    → IsStandingIn accepts b fuses one image nv → IsStandingIn accepts b fuses other image nv
+standing_as accepts b fuses one other image nv digest manifest p = record {
+  says = p.says;
+  store_size = p.store_size;
+  valid = p.valid;
+  blocks = p.blocks;
+  good = p.good;
+  digest = p.digest ∙ digest;
+  manifest = p.manifest ∙ manifest;
+}
 
 -- ---- calls of the store, and the deeds of a job
 module _ (b : Bank) (from len : ℕ) where

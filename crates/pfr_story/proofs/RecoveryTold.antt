@@ -1,8 +1,9 @@
 -- A job on the recovery area tells nothing before its end; then it tells the version of the staged capsule, which stands in the recovery
 -- area.
-use Rattle.std.proofs.Common.{◌≡◌, ◌∙◌, refl, sym, ap, subst, arith, ℕ, ◌+◌, ◌-◌, Bool, true, false, List, [], ◌∷◌, ◌++◌, length, append_assoc, inl, inr, Result, Ok, Err}
+use Rattle.std.proofs.Common.{◌≡◌, ◌∙◌, refl, sym, ap, subst, arith, ℕ, ◌+◌, ◌-◌, Bool, true, false, min, List, [], ◌∷◌, ◌++◌, length, append_assoc, inl, inr, Result, Ok, Err}
 use Rattle.sha2.specs.Sha256.{sha256}
 use Rattle.pfr_flash.specs.Bytes.{bytes_at}
+use Rattle.pfr_flash.specs.Names.{manifest_type}
 use Rattle.pfr_flash.specs.Numbers.{number_at}
 use Rattle.pfr_flash.specs.Operation.{Operation}
 use Rattle.pfr_flash.specs.declared.layout.Layout.{Layout}
@@ -16,10 +17,13 @@ use Rattle.pfr_chain.specs.declared.form.Form.{Form}
 use Rattle.pfr_chain.specs.declared.form.Form.TheVariants as form
 use Rattle.pfr_chain.specs.declared.judging.Chain.{Chain}
 use Rattle.pfr_fuses.specs.Changes.{raise_plan, raised}
-use Rattle.pfr_fuses.specs.FusesState.{FusesState, floor_of}
+use Rattle.pfr_fuses.specs.FusesOf.{fuses_of}
+use Rattle.pfr_fuses.specs.FusesState.{FusesState, floor_of, row_of}
 use Rattle.pfr_fuses.specs.RootSlot.{layout_of}
 use Rattle.pfr_fuses.specs.declared.root_slot.RootSlot.{RootSlot}
+use Rattle.pfr_manifest.specs.Manifest.{IsManifestOf}
 use Rattle.pfr_manifest.specs.declared.manifest.Manifest.{Manifest}
+use Rattle.pfr_manifest.proofs.FindingLaw.{manifest_is_one}
 use Rattle.pfr_capsule.specs.CapsuleState.{CapsuleState}
 use Rattle.pfr_capsule.specs.Good.{IsGood}
 use Rattle.pfr_capsule.specs.Signed.{end_of}
@@ -33,6 +37,7 @@ use Rattle.pfr_jobs.specs.declared.job.JobKind.TheVariants.{RecoveryFromStaging}
 use Rattle.pfr_jobs.specs.declared.job.OpenJob.TheVariants as job
 use Rattle.pfr_jobs.proofs.SlotLaw.{IsDigest}
 use Rattle.pfr_rebuilt.specs.Passing.{recovery_heeding, recovery_ignoring}
+use Rattle.pfr_recoverable.specs.Recoverable.{HasGoodRecovery}
 use Rattle.pfr_recoverable.proofs.StaysLaw.{fuses_one}
 use Rattle.pfr_report.specs.declared.note.What.{What}
 use Rattle.pfr_story.specs.JobContents.{CanWork}
@@ -55,7 +60,7 @@ use Rattle.pfr_story.proofs.JobSafetyLaws.{recovery_job_ends as replaces}
 use Rattle.pfr_story.proofs.JobSafetyRecovery.{IsReplaced}
 use Rattle.pfr_story.proofs.JobSafetyRaise.{raised_provision}
 use Rattle.pfr_story.proofs.JobSteps.{bank_called, begun_stands}
-use Rattle.pfr_story.proofs.RecoveryTail.{IsStanding}
+use Rattle.pfr_story.proofs.RecoveryTail.{IsStanding, standing_as}
 use Rattle.pfr_story.proofs.RestoreLaws.{found_good, found_staged}
 use Rattle.pfr_story.proofs.SafetyLaws.{AllMake-append, AllMake-called}
 use Rattle.pfr_story.proofs.Sequence.{after-append}
@@ -67,14 +72,18 @@ one_form number form.Two form.Two p q = refl
 one_form number form.One form.Two p q = absurd (omega (arith, p, q))
 one_form number form.Two form.One p q = absurd (omega (arith, p, q))
 
+one_content : (image : List ℕ) (place len count : ℕ) (type other : ContentType) (root row key line : List ℕ) (accepts : Acceptance) (x y : Chain) → IsChain image place len type root row accepts x → IsChain image place count other key line accepts y
+    → (x.content_at ≡ y.content_at) × (x.length ≡ y.length)
+one_content image place len count type other root row key line accepts x y p q =
+    let forms : p.block.form ≡ q.block.form = one_form (number_at (head_at image place) 0) p.block.form q.block.form p.block.block0_magic q.block.block0_magic in
+    let blocks : p.blen ≡ q.blen = p.block.block_length ∙ ap (λ (f : Form). block_length f (head_at image place)) forms ∙ sym q.block.block_length in
+    (p.content_at ∙ ap (λ (n : ℕ). place + n) blocks ∙ sym q.content_at, p.length ∙ sym q.length)
+
 one_end : (image : List ℕ) (place len count : ℕ) (type other : ContentType) (root row key line : List ℕ) (accepts : Acceptance) (x y : Chain) → IsChain image place len type root row accepts x → IsChain image place count other key line accepts y
     → end_of x ≡ end_of y
 one_end image place len count type other root row key line accepts x y p q =
-    let forms : p.block.form ≡ q.block.form = one_form (number_at (head_at image place) 0) p.block.form q.block.form p.block.block0_magic q.block.block0_magic in
-    let blocks : p.blen ≡ q.blen = p.block.block_length ∙ ap (λ (f : Form). block_length f (head_at image place)) forms ∙ sym q.block.block_length in
-    let at : x.content_at ≡ y.content_at = p.content_at ∙ ap (λ (n : ℕ). place + n) blocks ∙ sym q.content_at in
-    let long : x.length ≡ y.length = p.length ∙ sym q.length in
-    ap (λ (n : ℕ). n + x.length) at ∙ ap (λ (n : ℕ). y.content_at + n) long
+    let same = one_content image place len count type other root row key line accepts x y p q in
+    ap (λ (n : ℕ). n + x.length) same.0 ∙ ap (λ (n : ℕ). y.content_at + n) same.1
 
 pub one_digest : (image nv later : List ℕ) (place len : ℕ) (b : Bank) (accepts : Acceptance) (g : IsGood image place len nv b accepts) (h : IsGood image place len later b accepts) → g.capsule.digest ≡ h.capsule.digest
 one_digest image nv later place len b accepts g h =
@@ -83,24 +92,41 @@ one_digest image nv later place len b accepts g h =
     ∙ ap (λ (n : ℕ). sha256 (bytes_at image place (n - place))) ends
     ∙ sym (ap (λ (c : CapsuleState). c.digest) h.found)
 
+-- and its manifest, for a layout
+pub one_manifest : (image nv later : List ℕ) (place len : ℕ) (b : Bank) (accepts : Acceptance) (g : IsGood image place len nv b accepts) (h : IsGood image place len later b accepts)
+    → g.fuses.provision ≡ h.fuses.provision → g.capsule.manifest ≡ h.capsule.manifest
+one_manifest image nv later place len b accepts g h same =
+    let outer = one_content image place len len _ _ _ _ _ _ accepts g.parts.capsule h.parts.capsule g.signed.capsule h.signed.capsule in
+    let inner = one_content image g.parts.capsule.content_at _ _ _ _ _ _ _ _ accepts g.parts.inner h.parts.inner g.signed.inner
+    (subst (λ (at : ℕ). IsChain image at (min h.parts.capsule.length (layout_of h.fuses.provision b).manifest_len) (manifest_type b) h.fuses.provision.root (row_of h.fuses (manifest_type b)) accepts h.parts.inner) (sym outer.0) h.signed.inner) in
+    let bytes : bytes_at image g.parts.inner.content_at g.parts.inner.length ≡ bytes_at image h.parts.inner.content_at h.parts.inner.length =
+    ap (λ (n : ℕ). bytes_at image n g.parts.inner.length) inner.0 ∙ ap (λ (n : ℕ). bytes_at image h.parts.inner.content_at n) inner.1 in
+    let spelled : IsManifestOf (bytes_at image h.parts.inner.content_at h.parts.inner.length) g.parts.manifest (layout_of h.fuses.provision b) (length image) =
+    subst (λ (text : List ℕ). IsManifestOf text g.parts.manifest (layout_of h.fuses.provision b) (length image)) bytes
+    (subst (λ (p : RootSlot). IsManifestOf (bytes_at image g.parts.inner.content_at g.parts.inner.length) g.parts.manifest (layout_of p b) (length image)) same g.signed.spelled) in
+    ap (λ (c : CapsuleState). c.manifest) g.found
+    ∙ manifest_is_one (bytes_at image h.parts.inner.content_at h.parts.inner.length) (layout_of h.fuses.provision b) (length image) g.parts.manifest h.parts.manifest spelled h.signed.spelled
+    ∙ ap (λ (c : CapsuleState). c.manifest) (sym h.found)
+
 -- ---- what the job tells
 module _ (given_up : What) (told : ℕ → What) (accepts : Acceptance) (b : Bank) (fuses : FusesState) (capsule : CapsuleState) where
   abbrev layout : Layout
   layout = layout_of fuses.provision b
 
   -- a capsule stands good in the recovery area, by some store
-  abbrev Stood : List ℕ → CapsuleState → Story → Type 0
+  abbrev pub Stood : List ℕ → CapsuleState → Story → Type 0
   Stood nv found story = (g : IsGood (mine b story) (layout_of fuses.provision b).recovery_at (layout_of fuses.provision b).area_len nv b accepts) × (g.capsule ≡ found)
 
   -- moves that tell nothing, and then the version of the capsule that is found in the recovery area
-  record IsTold (moves : List Move) (story : Story) : Type 0 where
-    found : CapsuleState
-    front : List Move
-    is : moves ≡ front ++ Says (λ _. told found.manifest.svn) ∷ []
-    quiet : AllMake (IsOwn b) NoNote front
-    judged : judged_recovery accepts b fuses (after moves story) ≡ Ok found
-    nv : List ℕ
-    stood : Stood nv found (after moves story)
+  pub record IsTold (moves : List Move) (story : Story) : Type 0 where
+    pub found : CapsuleState
+    pub front : List Move
+    pub is : moves ≡ front ++ Says (λ _. told found.manifest.svn) ∷ []
+    pub quiet : AllMake (IsOwn b) NoNote front
+    pub judged : judged_recovery accepts b fuses (after moves story) ≡ Ok found
+    pub nv : List ℕ
+    pub says : fuses_of nv ≡ Ok fuses
+    pub stood : Stood nv found (after moves story)
 
   told_behind : (moves more : List Move) (story : Story) → AllMake (IsOwn b) NoNote moves → IsTold more (after moves story) → IsTold (moves ++ more) story
   told_behind moves more story quiet p =
@@ -112,6 +138,7 @@ module _ (given_up : What) (told : ℕ → What) (accepts : Acceptance) (b : Ban
         quiet = AllMake-append (IsOwn b) NoNote moves p.front quiet p.quiet;
         judged = ap (λ (s : Story). judged_recovery accepts b fuses s) e ∙ p.judged;
         nv = p.nv;
+        says = p.says;
         stood = subst (λ (s : Story). Stood p.nv p.found s) (sym e) p.stood;
       }
 
@@ -135,6 +162,7 @@ module _ (given_up : What) (told : ℕ → What) (accepts : Acceptance) (b : Ban
         quiet = AllMake-append (IsOwn b) NoNote raises ends (quiet_store plan) (quiet_store (finish_plan (store higher) b));
         judged = ap (λ (image : List ℕ). judge_area Recovery b image fuses accepts) same ∙ j;
         nv = store there;
+        says = staged.provisioned;
         stood = subst (λ (image : List ℕ). (g : IsGood image (layout_of fuses.provision b).recovery_at (layout_of fuses.provision b).area_len (store there) b accepts) × (g.capsule ≡ found)) (sym same)
             (found_good accepts b fuses found there staged.provisioned staged.layout staged.bytes j);
       }
@@ -163,13 +191,43 @@ module _ (given_up : What) (told : ℕ → What) (accepts : Acceptance) (b : Ban
         by_same true = concluded_told found once staged j
         by_same false = second_told
 
-  work_told : (story : Story) → IsStaged accepts b fuses capsule story → IsTold (recovery_work given_up told accepts b fuses capsule story) story
+  pub work_told : (story : Story) → IsStaged accepts b fuses capsule story → IsTold (recovery_work given_up told accepts b fuses capsule story) story
   work_told story staged =
       let once : Story = after (copied_over b fuses capsule story) story in
       told_behind (copied_over b fuses capsule story) (asks b once ++ by_first_pass given_up told accepts b fuses capsule (judged_recovery accepts b fuses once) once) story
       (deeds_make (IsOwn b) NoNote b (inr refl) (inl refl) (recovery_heeding b (mine b story) (store story) capsule.length layout))
       (told_behind (asks b once) (by_first_pass given_up told accepts b fuses capsule (judged_recovery accepts b fuses once) once) once (inl refl, tt)
       (by_first once (first_staged accepts b fuses capsule story staged) (judged_recovery accepts b fuses once) refl))
+
+-- ---- what stands in the recovery area then, by the store then
+module _ (given_up : What) (told : ℕ → What) (accepts : Acceptance) (b : Bank) (fuses : FusesState) (capsule : CapsuleState) (moves : List Move) (story : Story) (t : IsTold given_up told accepts b fuses capsule moves story)
+    (now : FusesState) (jobless : IsJobless b now (after moves story)) (provision : now.provision ≡ fuses.provision) (area : HasGoodRecovery b (mine b (after moves story)) (store (after moves story)) accepts) where
+  abbrev end : Story
+  end = after moves story
+
+  good_now : IsGood (mine b end) (layout_of now.provision b).recovery_at (layout_of now.provision b).area_len (store end) b accepts
+  good_now =
+      subst (λ (f : FusesState). IsGood (mine b end) (layout_of f.provision b).recovery_at (layout_of f.provision b).area_len (store end) b accepts)
+      (fuses_one (store end) area.fuses now area.provisioned jobless.holds.provisioned) area.good
+
+  -- The capsule that is told of.
+  pub told_stands : IsStanding accepts b now t.found (after moves story)
+  told_stands =
+      let stood = subst (λ (p : RootSlot). (g : IsGood (mine b end) (layout_of p b).recovery_at (layout_of p b).area_len t.nv b accepts) × (g.capsule ≡ t.found)) (sym provision) t.stood in
+      let same : good_now.fuses.provision ≡ stood.0.fuses.provision =
+      ap (λ (f : FusesState). f.provision) (fuses_one (store end) good_now.fuses now good_now.provisioned jobless.holds.provisioned) ∙ provision
+      ∙ ap (λ (f : FusesState). f.provision) (fuses_one t.nv fuses stood.0.fuses t.says stood.0.provisioned) in
+      let place : ℕ = (layout_of now.provision b).recovery_at in
+      let len : ℕ = (layout_of now.provision b).area_len in
+      record {
+        says = jobless.holds.provisioned;
+        store_size = jobless.holds.store_size;
+        valid = jobless.holds.layout;
+        blocks = jobless.holds.size.blocks;
+        good = good_now;
+        digest = one_digest (mine b end) (store end) t.nv place len b accepts good_now stood.0 ∙ ap (λ (c : CapsuleState). c.digest) stood.1;
+        manifest = one_manifest (mine b end) (store end) t.nv place len b accepts good_now stood.0 same ∙ ap (λ (c : CapsuleState). c.manifest) stood.1;
+      }
 
 -- Such a job, by its moves and by what it leaves.
 pub record IsCopying (given_up : What) (told : ℕ → What) (accepts : Acceptance) (b : Bank) (fuses : FusesState) (capsule : CapsuleState) (story : Story) : Type 0 where
@@ -178,7 +236,7 @@ pub record IsCopying (given_up : What) (told : ℕ → What) (accepts : Acceptan
   pub quiet : AllMake (IsOwn b) NoNote front
   pub svn : ℕ
   pub jobless : IsJobless b (raised fuses b svn) (after (recovery_job given_up told accepts b fuses capsule story) story)
-  pub standing : IsStanding accepts b (raised fuses b svn) capsule.digest (after (recovery_job given_up told accepts b fuses capsule story) story)
+  pub standing : IsStanding accepts b (raised fuses b svn) capsule (after (recovery_job given_up told accepts b fuses capsule story) story)
 
 module _ (given_up : What) (told : ℕ → What) (accepts : Acceptance) (b : Bank) (fuses : FusesState) (capsule : CapsuleState) (story : Story) (h : CanWork b fuses story) (none : open_job (store story) b ≡ job.None)
     (free : is_spent (store story) b ≡ false) (j : judged_staging accepts b fuses story ≡ Ok capsule) where
@@ -213,46 +271,35 @@ module _ (given_up : What) (told : ℕ → What) (accepts : Acceptance) (b : Ban
   ends : IsRecoveryDone accepts b fuses capsule story new
   ends = recovery_job_ends given_up told accepts b fuses h.two capsule story staged none free d
 
-  -- the version is that of the staged capsule
   same_found : (x y : CapsuleState) → Ok x ≡ judged_recovery accepts b fuses new → judged_recovery accepts b fuses new ≡ Ok y → x ≡ y
   same_found x y p q = cc
 
-  version : job_told.found.manifest.svn ≡ capsule.manifest.svn
-  version =
+  -- the manifest is that of the staged capsule
+  manifest : job_told.found.manifest ≡ capsule.manifest
+  manifest =
       let copied = second_good accepts b fuses capsule story staged in
       let there : judge_area Recovery b (mine b new) fuses accepts ≡ Ok copied.found =
       ap (λ (bytes : List ℕ). judge_area Recovery b bytes fuses accepts) (ends.image ∙ sym (second_stands accepts b fuses capsule story staged).bank) ∙ copied.judged in
       let same : job_told.found ≡ copied.found = same_found job_told.found copied.found (sym job_told.judged) there in
-      ap (λ (c : CapsuleState). c.manifest.svn) same ∙ ap (λ (m : Manifest). m.svn) copied.manifest
+      ap (λ (c : CapsuleState). c.manifest) same ∙ copied.manifest
+
+  -- and so is the digest
+  digest : job_told.found.digest ≡ capsule.digest
+  digest = ap (λ (c : CapsuleState). c.digest) (same_found job_told.found ends.found (sym job_told.judged) ends.judged) ∙ ends.digest
 
   replaced : IsReplaced accepts b fuses new
   replaced = replaces accepts b fuses given_up told capsule story (record { holds = holds_jobs b fuses story h; none = none }) free j
 
-  abbrev now : FusesState
-  now = raised fuses b replaced.svn
-
-  good_now : IsGood (mine b new) (layout_of now.provision b).recovery_at (layout_of now.provision b).area_len (store new) b accepts
-  good_now =
-      let r = ends.good in
-      subst (λ (f : FusesState). IsGood (mine b new) (layout_of f.provision b).recovery_at (layout_of f.provision b).area_len (store new) b accepts)
-      (fuses_one (store new) r.fuses now r.provisioned replaced.jobless.holds.provisioned) r.good
-
-  same_digest_now : good_now.capsule.digest ≡ capsule.digest
-  same_digest_now =
-      let layouts : layout_of fuses.provision b ≡ layout_of now.provision b = ap (λ (p : RootSlot). layout_of p b) (sym (raised_provision fuses b replaced.svn)) in
-      let stood = subst (λ (l : Layout). (g : IsGood (mine b new) l.recovery_at l.area_len job_told.nv b accepts) × (g.capsule ≡ job_told.found)) layouts job_told.stood in
-      let found : job_told.found ≡ ends.found = same_found job_told.found ends.found (sym job_told.judged) ends.judged in
-      one_digest (mine b new) (store new) job_told.nv (layout_of now.provision b).recovery_at (layout_of now.provision b).area_len b accepts good_now stood.0
-      ∙ ap (λ (c : CapsuleState). c.digest) (stood.1 ∙ found) ∙ ends.digest
-
   pub copying : IsCopying given_up told accepts b fuses capsule story
   copying =
-      let holds = replaced.jobless.holds in
+      let moves : List Move = recovery_job given_up told accepts b fuses capsule story in
+      let now : FusesState = raised fuses b replaced.svn in
       record {
         front = job_told.front;
-        is = job_told.is ∙ ap (λ (n : ℕ). job_told.front ++ Says (λ _. told n) ∷ []) version;
+        is = job_told.is ∙ ap (λ (m : Manifest). job_told.front ++ Says (λ _. told m.svn) ∷ []) manifest;
         quiet = job_told.quiet;
         svn = replaced.svn;
         jobless = replaced.jobless;
-        standing = record { says = holds.provisioned; store_size = holds.store_size; valid = holds.layout; blocks = holds.size.blocks; good = good_now; same = same_digest_now };
+        standing = standing_as accepts b now job_told.found capsule (mine b new) (store new) digest manifest
+            (told_stands given_up told accepts b fuses capsule moves story job_told now replaced.jobless (raised_provision fuses b replaced.svn) ends.good);
       }

@@ -35,7 +35,7 @@ use Rattle.pfr_report.specs.declared.note.Refusal.{Refusal}
 use Rattle.pfr_report.specs.declared.note.Refusal.TheVariants as refusing
 use Rattle.pfr_report.specs.declared.note.What.{What}
 use Rattle.pfr_report.specs.declared.note.What.TheVariants as what
-use Rattle.pfr_story.specs.Story.{Story, Move, Says, Does, Asks, after, moved_by, noted, device_of}
+use Rattle.pfr_story.specs.Story.{Story, Move, Says, Does, Asks, after, moved_by, noted, counts_of, device_of}
 use Rattle.pfr_story.specs.World.{World, story_of, counts_in, state_at, AllMoved, added}
 use Rattle.pfr_story.specs.Course.{Follows}
 use Rattle.pfr_story.specs.Safety.{AllSafe, AllMake}
@@ -64,11 +64,12 @@ use Rattle.pfr_story.proofs.Entry.{TrustedRunning, trusted_here, trusted_ready, 
 use Rattle.pfr_story.proofs.Endings.{IsTrouble, IsBroken, Ending, single_ends, ended_trace, ended_is, ended_good, ends_whole, over_alone, ends_behind, ends_parts}
 use Rattle.pfr_story.proofs.FoundLaws.{found_begins}
 use Rattle.pfr_story.proofs.JobFront.{NoNote}
-use Rattle.pfr_story.proofs.JobLaws.{IsOther}
+use Rattle.pfr_story.proofs.JobLaws.{Still, same_pasts, same_counts, IsOther}
 use Rattle.pfr_story.proofs.JobQuiet.{told_jobs}
 use Rattle.pfr_story.proofs.JobWalks.{job_allowed, store_sized}
 use Rattle.pfr_story.proofs.RecoveryTail.{Tame, IsStanding, tame_keeps, tail_tame}
 use Rattle.pfr_story.proofs.RecoveryTold.{IsCopying, copying}
+use Rattle.pfr_story.proofs.RefusalLaws.{refused_still, trusted_held}
 
 -- moves that tell nothing
 quiet_says : (F : What → Story → Type 0) (D : Device → Type 0) (moves : List Move) (story : Story) → AllMake D NoNote moves → AllSafe (Saying F) moves story
@@ -94,6 +95,7 @@ module _ (accepts : Acceptance) (b : Bank) (fuses : FusesState) (from : Story) w
   Copy (what.Refused c (refusing.Capsule cause)) story = judged ≡ Err cause
   Copy (what.Refused c refusing.ManifestDiffers) story = (capsule : CapsuleState) × IsStagedFor false capsule
   Copy (what.Refused c refusing.JobsSpent) story = (capsule : CapsuleState) × IsStagedFor true capsule × (is_spent (store held) b ≡ true)
+  Copy (what.Refused c (refusing.Cert cause)) story = ⊥
   Copy (what.RecoveryUpdated c svn) story = (capsule : CapsuleState) × IsStagedFor true capsule × (is_spent (store held) b ≡ false) × (capsule.manifest.svn ≡ svn)
   Copy that story = Unit {0}
 
@@ -236,6 +238,27 @@ module _ (accepts : Acceptance) (b : Bank) (fuses : FusesState) (first new : Wor
   refuses_spent : (capsule : CapsuleState) → IsCalm b (added first new) → IsStagedFor accepts b fuses start true capsule → is_spent (store there) b ≡ true → IsNoted (added first new) (what.Refused b refusing.JobsSpent)
   refuses_spent capsule calm staged e = make_calm calm (in_room capsule true) (room_is capsule true staged e) (what.Refused b refusing.JobsSpent) (inr (inl refl))
 
+  -- ---- one that is refused does no operation
+  module _ (t : IsTrusted (mine b (story_of first)) (store (story_of first)) b accepts) where
+    still : (why : Refusal) → AllSafe Still (refused_so accepts b fuses why there) there
+    still why = refused_still accepts b fuses there can.provisioned (trusted_held accepts b start t) why
+
+    nothing_done : (moves : List Move) → todo found ≡ moves → AllSafe Still moves there → counts_of (story_of new) ≡ counts_of start
+    nothing_done moves is safe =
+        same_counts there (story_of new) (same_pasts b (Unit {0}) moves there (story_of new) safe (subst (λ (ms : List Move). Ending b (Unit {0}) ms there (story_of new)) is behind))
+
+    writes_nothing : (why : Refusal) → IsNoted (added first new) (what.Refused b why) → counts_of (story_of new) ≡ counts_of start
+    writes_nothing (refusing.Capsule cause) n =
+        let j = (known (what.Refused b (refusing.Capsule cause)) n).1 in
+        nothing_done (todo (Err cause)) (ap (λ (r : Result CapsuleState CapsuleFail). todo r) j) (tt, (tt, still (refusing.Capsule cause)))
+    writes_nothing (refusing.Cert cause) n = absurd (known (what.Refused b (refusing.Cert cause)) n).1
+    writes_nothing refusing.ManifestDiffers n =
+        let k = (known (what.Refused b refusing.ManifestDiffers) n).1 in
+        nothing_done (by_same k.0 false) (same_is k.0 false k.1) (tt, (tt, (tt, still refusing.ManifestDiffers)))
+    writes_nothing refusing.JobsSpent n =
+        let k = (known (what.Refused b refusing.JobsSpent) n).1 in
+        nothing_done (in_room k.0 true) (room_is k.0 true k.1 k.2) (tt, (tt, (tt, (tt, still refusing.JobsSpent))))
+
   updates_so : (capsule : CapsuleState) → IsCalm b (added first new) → IsStagedFor accepts b fuses start true capsule → is_spent (store there) b ≡ false → IsNoted (added first new) (what.RecoveryUpdated b capsule.manifest.svn)
   updates_so capsule calm staged free =
       let c = copies accepts b fuses start can idle capsule staged.0 free in
@@ -283,7 +306,7 @@ module _ (accepts : Acceptance) (b : Bank) (fuses : FusesState) (first new : Wor
     fuses_then = raised fuses b c.svn
 
     abbrev IsThere : Story → Type 0
-    IsThere story = IsStanding accepts b fuses_then capsule.digest story
+    IsThere story = IsStanding accepts b fuses_then capsule story
 
     -- the check leaves it
     stands_behind : Ending b (Unit {0}) (Says (λ _. that) ∷ checked_then accepts b done) (after working there) (story_of new) → IsThere (story_of new)
@@ -296,7 +319,7 @@ module _ (accepts : Acceptance) (b : Bank) (fuses : FusesState) (first new : Wor
         subst (λ (s : Story). Ending b (Unit {0}) tail s (story_of new)) (sym is) (ends_behind b (Unit {0}) (λ _. that) tail (after working there) (story_of new) e) in
         let good = ended_good b (Unit {0}) tail done (story_of new) G (tail_tame accepts b fuses_then done c.jobless) (λ which w story trouble. tt) last in
         subst IsThere (sym (ended_is b (Unit {0}) tail done (story_of new) last))
-        (kept_by G IsThere (tame_keeps accepts b fuses_then capsule.digest) (ended_trace b (Unit {0}) tail done (story_of new) last) done good c.standing)
+        (kept_by G IsThere (tame_keeps accepts b fuses_then capsule) (ended_trace b (Unit {0}) tail done (story_of new) last) done good c.standing)
 
     stands : IsNoted (added first new) that → IsThere (story_of new)
     stands n =
@@ -313,7 +336,7 @@ module _ (accepts : Acceptance) (b : Bank) (fuses : FusesState) (first new : Wor
     recovered : IsNoted (added first new) that → IsRecoveredBy capsule.digest (now (state_at (device_of b) new)) (now new.nv)
     recovered n =
         let s = stands n in
-        subst (λ (image : List ℕ). IsRecoveredBy capsule.digest image (now new.nv)) (image_in b new) (record { fuses = fuses_then; provisioned = s.says; good = s.good }, s.same)
+        subst (λ (image : List ℕ). IsRecoveredBy capsule.digest image (now new.nv)) (image_in b new) (record { fuses = fuses_then; provisioned = s.says; good = s.good }, s.digest)
 
   -- ---- by the contents where it is held
   by_counts : (P : List ℕ → List ℕ → Type 0) → P (mine b there) (store there) → AtCounts P b (counts_in first) new
@@ -363,8 +386,8 @@ module _ (accepts : Acceptance) (b : Bank) (fuses : FusesState) (first new : Wor
   abbrev IsSpentFor : Bool → List ℕ → List ℕ → Type 0
   IsSpentFor spent image nv = HasStagedFor true b image nv accepts × (is_spent nv b ≡ spent)
 
-  updates_recovery : UpdatesRecovery accepts b new (added first new) (counts_in first)
-  updates_recovery = record {
+  updates_recovery : IsTrusted (mine b (story_of first)) (store (story_of first)) b accepts → UpdatesRecovery accepts b new (added first new) (counts_in first)
+  updates_recovery t = record {
     held = make_noted (ended_trace b (Unit {0}) (todo found) there (story_of new) behind) (ended_is b (Unit {0}) (todo found) there (story_of new) behind) (what.Held b (counts_in first)) (inl refl);
     bad = λ cause n. by_counts (λ image nv. HasBadStaging cause b image nv accepts) (record { fuses = fuses; provisioned = can.provisioned; judged = (known (what.Refused b (refusing.Capsule cause)) n).1 });
     refuses_bad = λ cause calm. by_counts (λ image nv. HasBadStaging cause b image nv accepts → IsNoted (added first new) (what.Refused b (refusing.Capsule cause))) (λ h. refuses_bad cause calm (found_bad cause h));
@@ -377,6 +400,7 @@ module _ (accepts : Acceptance) (b : Bank) (fuses : FusesState) (first new : Wor
     updated = λ svn n. by_counts (IsUpdatedFrom svn) (updated_from svn n);
     updates = λ calm. by_counts (λ image nv. (h : IsSpentFor false image nv) → IsNoted (added first new) (what.RecoveryUpdated b h.0.staged.good.capsule.manifest.svn))
         (λ h. updates_so h.0.staged.good.capsule calm (staged_for true h.0) h.1);
+    writes_nothing = λ why n. writes_nothing t why n;
   }
 
 -- ---- a whole step
@@ -408,7 +432,7 @@ module _ (accepts : Acceptance) (b : Bank) (old new : World) where
       let moved : AllMoved first new = follows_moved (update_course accepts b intent.Recovery) first new f in
       let ending = single_ends (update_stretch accepts b intent.Recovery) b (Unit {0}) (λ d. refl) tt first new f in
       let ready : IsReady b t.fuses there_held = ready_noted b t.fuses (what.Held b) (story_of first) (trusted_ready accepts b (story_of first) t) in
-      updates_recovery accepts b t.fuses first new ready (can_there t moved have size sized settled) idle ending moved
+      updates_recovery accepts b t.fuses first new ready (can_there t moved have size sized settled) idle ending moved t
 
   update_turn : Turn accepts (event.Update b intent.Recovery) old new → HaveBytes new → IsBankSize (size_of old.bmc) → IsBankSize (size_of old.pch) → size_of old.nv ≡ 32768
       → TrustedRunning accepts old → RunningHasNoJob old → ((which : Bank) → Runs which old → IsSettled (now old.nv)) → Runs b old → UpdatesRecovery accepts b new (added old new) (counts_in old)

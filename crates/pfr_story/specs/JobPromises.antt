@@ -35,6 +35,7 @@ use Rattle.pfr_script.specs.declared.event.Event.TheVariants as event
 use Rattle.pfr_script.specs.declared.event.Intent.TheVariants.{Recovery, Cert as CertIntent}
 use Rattle.pfr_report.specs.Texts.{IsNoted}
 use Rattle.pfr_report.specs.declared.note.Note.{Note}
+use Rattle.pfr_report.specs.declared.note.Refusal.{Refusal}
 use Rattle.pfr_report.specs.declared.note.Refusal.TheVariants as refusing
 use Rattle.pfr_report.specs.declared.note.What.{What}
 use Rattle.pfr_report.specs.declared.note.What.TheVariants.{Held, Resumed, Abandoned, Restored, Updated, RecoveryUpdated, Cancelled, Refused, Released}
@@ -148,6 +149,8 @@ pub record UpdatesRecovery (accepts : Acceptance) (which : Bank) (new : World) (
       × (r : HasGoodRecovery which (now (state_at (device_of which) new)) (now new.nv) accepts) × (r.good.capsule.digest ≡ s.staged.good.capsule.digest)
   pub updates : IsCalm which notes → (s : AtCounts (λ image nv. HasStagedFor true which image nv accepts × (is_spent nv which ≡ false)) which at new)
       → IsNoted notes (RecoveryUpdated which s.0.staged.good.capsule.manifest.svn)
+  -- One that is refused writes nothing.
+  pub writes_nothing : (why : Refusal) → IsNoted notes (Refused which why) → counts_in new ≡ at
 
 -- An update of the recovery area of a bank that runs is judged before anything is written.
 abbrev pub RecoveryUpdates : Event → Acceptance → World → World → Type 0
@@ -182,6 +185,8 @@ pub record CancelsKey (accepts : Acceptance) (which : Bank) (new : World) (notes
   -- Else the key of the certificate is cancelled.
   pub cancelled : (type : ContentType) (id : ℕ) → IsNoted notes (Cancelled type id) → AtCounts (λ image nv. HasCert (record { ty = type; id = id }) which image nv accepts) which at new
   pub cancels : (cert : Cert) → IsCalm which notes → AtCounts (λ image nv. HasCert cert which image nv accepts) which at new → IsNoted notes (Cancelled cert.ty cert.id)
+  -- One that is refused writes nothing.
+  pub writes_nothing : (why : Refusal) → IsNoted notes (Refused which why) → counts_in new ≡ at
 
 -- A certificate is judged before anything is written.
 abbrev pub Cancels : Event → Acceptance → World → World → Type 0
