@@ -23,6 +23,7 @@ use Rattle.pfr_story.specs.Promises.{FaultsAreNoted, ReleasesTrusted, LocksHaveC
 use Rattle.pfr_story.specs.Guards.{Guards}
 use Rattle.pfr_story.proofs.Bytes.{HaveBytes, have_bytes}
 use Rattle.pfr_story.proofs.Entry.{TrustedRunning}
+use Rattle.pfr_story.proofs.EventLaws.{Turn-belongs, Turn-quiet}
 use Rattle.pfr_story.proofs.ExpireLaws.{Turn-boots, Turn-expires}
 use Rattle.pfr_story.proofs.FilterLaws.{Turn-filters}
 use Rattle.pfr_story.proofs.GuardLaws.{Turn-guards}
@@ -33,6 +34,7 @@ use Rattle.pfr_story.proofs.BringLaws.{Turn-brings, Turn-powers}
 use Rattle.pfr_story.proofs.CancelLaws.{Turn-cancels}
 use Rattle.pfr_story.proofs.HeedLaws.{Turn-heeds}
 use Rattle.pfr_story.proofs.IdleLaws.{Turn-idle}
+use Rattle.pfr_story.proofs.LossLaws.{Turn-losses, Turn-lost, Turn-off}
 use Rattle.pfr_story.proofs.RecoveryLaws.{Turn-recoverable}
 use Rattle.pfr_story.proofs.RecoveryUpdateLaws.{Turn-updates_recovery}
 use Rattle.pfr_story.proofs.TakesUpLaws.{Turn-takes_up}
@@ -173,6 +175,11 @@ did_brings accepts tears (item.Event e) old new sizes trusted spans held t = rec
   guards = Turn-guards accepts e old new t;
   counted = Turn-counted accepts e old new sizes.nv t;
   recoverable = Turn-recoverable accepts e old new t held sizes.bmc sizes.pch sizes.nv spans;
+  belongs = Turn-belongs accepts e old new t;
+  quiet = Turn-quiet accepts e old new t;
+  losses = Turn-losses accepts e old new t;
+  lost = Turn-lost accepts e old new t;
+  off = Turn-off accepts e old new sizes.nv t;
 }
 did_brings accepts tears (item.Arm arm) old new sizes trusted spans held is = tt
 

@@ -16,7 +16,7 @@ use Rattle.pfr_story.specs.Bringing.{BringsUpCalm, PowerReleases}
 use Rattle.pfr_story.specs.Filtering.{FiltersSo}
 use Rattle.pfr_story.specs.Guarding.{Boots, Expires, GuardsFollow}
 use Rattle.pfr_story.specs.Recovery.{CountsRise, StaysRecoverable}
-use Rattle.pfr_story.specs.Promises.{FaultsAreNoted, ReleasesTrusted, LocksHaveCauses, FaultsHaveCauses, DistrustsWithCause, JudgesAtPower, RestoresGood, RunningHasNoJob}
+use Rattle.pfr_story.specs.Promises.{FaultsAreNoted, ReleasesTrusted, LocksHaveCauses, FaultsHaveCauses, DistrustsWithCause, JudgesAtPower, LossesAreNoted, LostEnds, NotesBelong, NotesOff, RestoresGood, RunningHasNoJob, StaysQuiet}
 use Rattle.pfr_story.specs.Updating.{Updates}
 use Rattle.pfr.specs.Benches.{fresh_of, end_of, StandsAs, IsRun}
 use Rattle.pfr.specs.declared.finished.Bench.{Bench}
@@ -69,6 +69,13 @@ pub record BringsUpSo (accepts : Acceptance) (event : Event) (old new : World) :
   -- The counts of the notes rise; and a bank that can be recovered can be still, from each moment to the next.
   pub counted : CountsRise old new
   pub recoverable : StaysRecoverable (λ bank image nv. IsRecoverable bank image nv accepts) old new
+  -- What is noted belongs to the event, and one that isn't taken does nothing; a loss of power is noted exactly where it was, and ends
+  -- its step.
+  pub belongs : NotesBelong event old new
+  pub quiet : StaysQuiet event old new
+  pub losses : LossesAreNoted old new
+  pub lost : LostEnds old new
+  pub off : NotesOff event old new
 
 abbrev pub BringsUpIn : Acceptance → Item → World → World → Type 0
 BringsUpIn accepts (item.Event event) old new = BringsUpSo accepts event old new

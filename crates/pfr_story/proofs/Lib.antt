@@ -111,3 +111,4 @@ pub mod RecoveryUpdateLaws
 pub mod ChangeLaws
 pub mod Fronts
 pub mod HeedLaws
+pub mod SafePlanLaws

@@ -103,7 +103,7 @@ types_apart : (c : Bank) → capsule_type c ≢ manifest_type c
 types_apart bank.Bmc e = absurd cc
 types_apart bank.Pch e = absurd cc
 
-keys_apart : (c : Bank) (fuses : FusesState) (cert : Cert) (judged : Result CapsuleState CapsuleFail) → IsTypeOf c cert.ty → judge_apply fuses cert (standing_capsule judged) ≡ Ok tt → AreKeysApart c cert.ty cert.id judged
+pub keys_apart : (c : Bank) (fuses : FusesState) (cert : Cert) (judged : Result CapsuleState CapsuleFail) → IsTypeOf c cert.ty → judge_apply fuses cert (standing_capsule judged) ≡ Ok tt → AreKeysApart c cert.ty cert.id judged
 keys_apart c fuses cert (Err cause) own e = tt
 keys_apart c fuses cert (Ok found) (inl is) e = (inr (spares_capsule_key fuses cert found c e is), inl (λ same. types_apart c (sym is ∙ sym same)))
 keys_apart c fuses cert (Ok found) (inr is) e = (inl (λ same. types_apart c (same ∙ is)), inr (spares_manifest_key fuses cert found c e is))

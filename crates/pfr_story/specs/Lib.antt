@@ -25,3 +25,4 @@ pub mod Recovery
 pub mod JobPromises
 pub mod Contents
 pub mod JobContents
+pub mod SafePlans

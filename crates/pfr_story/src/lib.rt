@@ -3,10 +3,12 @@
 
 mod contents;
 mod line;
+mod recoverable;
 mod stop;
 mod watches;
 
 pub use contents::whole_images;
 pub use line::Line;
+pub use recoverable::safe_plans;
 pub use stop::Stop;
 pub use watches::Watches;
