@@ -1,5 +1,6 @@
 -- Which devices the work on a bank calls, and which notes it makes.
-use Rattle.std.proofs.Common.{◌≡◌, refl, sym, subst, ℕ, Bool, false, true, List, [], ◌∷◌, inl, inr, Result, Ok, Err}
+use Rattle.std.proofs.Common.{◌≡◌, ◌≢◌, refl, sym, subst, ℕ, Bool, false, true, List, [], ◌∷◌, inl, inr, Result, Ok, Err}
+use Rattle.std.specs.Prelude.{nat_lt}
 use Rattle.pfr_flash.specs.declared.names.Bank.{Bank}
 use Rattle.pfr_flash.specs.declared.names.ContentType.{ContentType}
 use Rattle.pfr_flash.specs.declared.names.Counts.{Counts}
@@ -8,7 +9,9 @@ use Rattle.pfr_flash.specs.declared.names.Device.TheVariants as device
 use Rattle.pfr_engine.specs.Acceptance.{Acceptance}
 use Rattle.pfr_fuses.specs.Changes.{cancellation}
 use Rattle.pfr_fuses.specs.FusesState.{FusesState}
+use Rattle.pfr_manifest.specs.declared.manifest.Manifest.{Manifest}
 use Rattle.pfr_capsule.specs.CapsuleState.{CapsuleState}
+use Rattle.pfr_capsule.specs.declared.fail.CapsuleFail.{CapsuleFail}
 use Rattle.pfr_cert.specs.declared.cert.Cert.{Cert}
 use Rattle.pfr_auth.specs.declared.fail.ActiveFail.{ActiveFail}
 use Rattle.pfr_jobs.specs.declared.job.JobKind.{JobKind}
@@ -22,12 +25,12 @@ use Rattle.pfr_report.specs.declared.note.Refusal.TheVariants as refusing
 use Rattle.pfr_report.specs.declared.note.What.{What}
 use Rattle.pfr_report.specs.declared.note.What.TheVariants as what
 use Rattle.pfr_story.specs.JobPlans.{job_notes, with_job, recovery_job, resumed}
-use Rattle.pfr_story.specs.Plans.{brought_up, expired}
-use Rattle.pfr_story.specs.Promises.{Replaces}
+use Rattle.pfr_story.specs.Plans.{ready_of, judged_active, judged_recovery, restored, by_second, checked_again, by_capsule, recovered_with, by_level, brought_up, expired}
+use Rattle.pfr_story.specs.Promises.{Replaces, IsRefusedFor}
 use Rattle.pfr_story.specs.Safety.{AllSafe, AllMake}
-use Rattle.pfr_story.specs.Story.{Story, Move, Says, Does, Asks, moved_by, noted, operated, called, device_of}
+use Rattle.pfr_story.specs.Story.{Story, Move, Says, Does, Asks, after, noted, operated, called, device_of}
 use Rattle.pfr_story.specs.UpdatePlans.{cancelled_key, updating}
-use Rattle.pfr_story.proofs.BringRules.{Any, IsOwn, level_at, Making, safe_made, Walks, WalksBack, WalksAnew, WalksCopy, WalksCert, WalksUpdate, walk_safe, expired_safe, updating_safe}
+use Rattle.pfr_story.proofs.BringRules.{Any, IsOwn, level_at, Making, safe_made, Walks, WalksAnew, WalksCopy, WalksCert, WalksUpdate, walk_safe, updating_safe}
 use Rattle.pfr_story.proofs.JobMakes.{AreJobNotes, with_job_makes, recovery_job_makes, resumed_makes}
 use Rattle.pfr_story.proofs.SafetyLaws.{AllMake-append, AllMake-called}
 use Rattle.pfr_story.proofs.Traces.{Saying}
@@ -50,7 +53,14 @@ made_told D P (Says w ∷ moves) story all = (all.0 _, made_told D P moves (note
 made_told D P (Does which op ∷ moves) story all = ((tt, λ done t. tt), made_told D P moves (operated which op story) all.1)
 made_told D P (Asks which ∷ moves) story all = (tt, made_told D P moves story all.1)
 
--- what may be noted of a bank that is checked, and brought back
+-- what may be noted of a bank that is brought back
+pub record MayBringBack (S : (Counts → What) → Type 0) (b : Bank) : Type 0 where
+  pub held : S (what.Held b)
+  pub released : (svn : ℕ) → S (what.Released b svn)
+  pub locked : (cause : LockWhy) → S (what.Locked b cause)
+  pub restored : (level : ℕ) → S (λ _. what.Restored b level)
+
+-- what may be noted of one that is checked
 pub record MayCheck (S : (Counts → What) → Type 0) (b : Bank) : Type 0 where
   pub held : S (what.Held b)
   pub released : (svn : ℕ) → S (what.Released b svn)
@@ -60,11 +70,45 @@ pub record MayCheck (S : (Counts → What) → Type 0) (b : Bank) : Type 0 where
 
 -- and of one that is updated, by what is asked for
 pub record MayUpdate (S : (Counts → What) → Type 0) (b : Bank) (intent : Intent) : Type 0 where
-  pub refused : (cause : Refusal) → S (λ _. what.Refused b cause)
+  pub refused : (cause : Refusal) → IsRefusedFor cause intent → S (λ _. what.Refused b cause)
   pub updated : (dynamic : Bool) → Replaces dynamic intent → (svn : ℕ) → S (λ _. what.Updated b dynamic svn)
   pub given_up : intent ≡ Recovery → S (λ _. what.Abandoned b)
   pub recovery_updated : intent ≡ Recovery → (svn : ℕ) → S (λ _. what.RecoveryUpdated b svn)
   pub cancelled : intent ≡ CertIntent → (type : ContentType) (id : ℕ) → S (λ _. what.Cancelled type id)
+
+-- an intent that replaces the active image is none for a certificate
+replaces_image : (dynamic : Bool) (intent : Intent) → Replaces dynamic intent → intent ≢ CertIntent
+replaces_image dynamic Active is = λ e. cc
+replaces_image dynamic Full is = λ e. cc
+replaces_image dynamic Recovery is = absurd is
+replaces_image dynamic CertIntent is = absurd is
+
+-- the watch over a bank's boot expires
+module _ (D : Device → Type 0) (S : (Counts → What) → Type 0) (b : Bank) (nv : D device.Nv) (own : D (device_of b)) (may : MayBringBack S b) (accepts : Acceptance) where
+  second_made : (judged : Result Manifest ActiveFail) (story : Story) → AllMake D S (by_second b judged story)
+  second_made (Ok m) story = (may.released m.svn, tt)
+  second_made (Err cause) story = tt
+
+  capsule_made : (fuses : FusesState) (level : ℕ) (judged : Result CapsuleState CapsuleFail) (story : Story) → AllMake D S (by_capsule accepts b fuses level judged story)
+  capsule_made fuses level (Ok capsule) story =
+      let moves : List Move = restored b level fuses capsule story in
+      let there : Story = after moves story in
+      AllMake-append D S moves (checked_again accepts b fuses there) (with_job_makes D S b nv own (ActiveFromRecovery level) fuses capsule (what.Restored b level) (may.restored level) story)
+      (own, second_made (judged_active accepts b fuses there) there)
+  capsule_made fuses level (Err cause) story = (may.locked (why.NoRecovery cause), tt)
+
+  recovered_made : (level : ℕ) (ready : Result FusesState LockWhy) (story : Story) → AllMake D S (recovered_with accepts b level ready story)
+  recovered_made level (Ok fuses) story = (own, capsule_made fuses level (judged_recovery accepts b fuses story) story)
+  recovered_made level (Err cause) story = (may.locked cause, tt)
+
+  level_made : (level : ℕ) (few : Bool) (story : Story) → AllMake D S (by_level accepts b level few story)
+  level_made level true story = (nv, recovered_made level (ready_of b story) story)
+  level_made level false story = (may.locked why.WatchdogSpent, tt)
+
+  pub expired_made : (story : Story) → S (λ _. what.Expired b (level_at b story)) → AllMake D S (expired accepts b story)
+  expired_made story told =
+      let level : ℕ = level_at b story in
+      (told, (may.held, level_made level (nat_lt level 4) (noted (what.Held b) (noted (λ _. what.Expired b level) story))))
 
 module _ (D : Device → Type 0) (S : (Counts → What) → Type 0) (b : Bank) (nv : D device.Nv) (own : D (device_of b)) (may : MayCheck S b) (accepts : Acceptance) where
   asks_made : (which : Device) → IsOwn b which → D which
@@ -90,14 +134,7 @@ module _ (D : Device → Type 0) (S : (Counts → What) → Type 0) (b : Bank) (
     again = λ fuses m story r j. may.released m.svn;
   }
 
-  made_back : (level : ℕ) → WalksBack (Making D S) accepts b level Any (λ fuses story. Unit {0}) (λ fuses story. Unit {0})
-  made_back level = record {
-    spent = λ story few s. may.locked why.WatchdogSpent;
-    no_recovery = λ fuses cause story few p j. may.locked (why.NoRecovery cause);
-    restores = λ fuses capsule story few p j. (job_safe (ActiveFromRecovery level) fuses capsule (what.Restored b level) story (may.restored level), tt);
-  }
-
-  -- no job is open where its watch expires, or where it is updated
+  -- no job is open where it is updated
   none_resumed : Walks (Making D S) accepts b (λ story. ⊥) Any (λ fuses story. Unit {0}) (λ fuses cause story. Unit {0}) (λ fuses story. Unit {0})
   none_resumed = made_walks (λ story. ⊥) (λ fuses story never. absurd never)
 
@@ -107,26 +144,21 @@ module _ (D : Device → Type 0) (S : (Counts → What) → Type 0) (b : Bank) (
       (walk_safe (Making D S) accepts b Any Any (λ fuses there. Unit {0}) (λ fuses cause there. Unit {0}) (λ fuses there. Unit {0})
       (made_walks Any (λ fuses there any. resumed_makes D S b nv own (job_notes b) notes accepts fuses there)) story may.held tt)
 
-  pub expired_made : (story : Story) → S (λ _. what.Expired b (level_at b story)) → AllMake D S (expired accepts b story)
-  expired_made story told =
-      safe_made D S (expired accepts b story) story
-      (expired_safe (Making D S) accepts b (λ there. ⊥) Any (λ fuses there. Unit {0}) (λ fuses cause there. Unit {0}) (λ fuses there. Unit {0}) none_resumed story (made_back (level_at b story)) told may.held tt)
-
   -- ---- by what is asked for
   made_anew : (intent : Intent) (dynamic : Bool) → Replaces dynamic intent → MayUpdate S b intent → WalksAnew (Making D S) accepts b dynamic (λ fuses story. Unit {0}) (λ fuses story. Unit {0})
   made_anew intent dynamic is u = record {
     staged = λ fuses capsule story p j.
         (job_safe (ActiveFromStaging dynamic) fuses capsule (what.Updated b dynamic capsule.manifest.svn) story (u.updated dynamic is capsule.manifest.svn), tt);
-    refused = λ fuses cause story p j. (u.refused (refusing.Capsule cause), tt);
+    refused = λ fuses cause story p j. (u.refused (refusing.Capsule cause) (replaces_image dynamic intent is), tt);
   }
 
   made_copy : MayUpdate S b Recovery → WalksCopy (Making D S) accepts b Any (λ fuses story. Unit {0})
   made_copy u = record {
     copies = λ fuses capsule story p j same unspent.
         (made_safe D S (recovery_job (job_notes b).given_up (job_notes b).recovery_updated accepts b fuses capsule story) story (recovery_job_makes D S b nv own (job_notes b).given_up (job_notes b).recovery_updated (u.given_up refl) (u.recovery_updated refl) accepts fuses capsule story), tt);
-    refused = λ fuses cause story p j. (u.refused (refusing.Capsule cause), tt);
-    differs = λ fuses capsule story p j other. (u.refused refusing.ManifestDiffers, tt);
-    spent = λ fuses capsule story p j same spent. (u.refused refusing.JobsSpent, tt);
+    refused = λ fuses cause story p j. (u.refused (refusing.Capsule cause) (λ e. cc), tt);
+    differs = λ fuses capsule story p j other. (u.refused refusing.ManifestDiffers refl, tt);
+    spent = λ fuses capsule story p j same spent. (u.refused refusing.JobsSpent refl, tt);
   }
 
   cancel_made : MayUpdate S b CertIntent → (cert : Cert) (story : Story) → AllMake D S (cancelled_key cert story)
@@ -137,8 +169,8 @@ module _ (D : Device → Type 0) (S : (Counts → What) → Type 0) (b : Bank) (
   made_cert : MayUpdate S b CertIntent → WalksCert (Making D S) accepts b Any (λ fuses story. Unit {0})
   made_cert u = record {
     cancels = λ fuses cert story p j free. (made_safe D S (cancelled_key cert story) story (cancel_made u cert story), tt);
-    refused = λ fuses cause story p j. (u.refused (refusing.Cert cause), tt);
-    kept = λ fuses cert cause story p j used. (u.refused (refusing.Cert cause), tt);
+    refused = λ fuses cause story p j. (u.refused (refusing.Cert cause) refl, tt);
+    kept = λ fuses cert cause story p j used. (u.refused (refusing.Cert cause) refl, tt);
   }
 
   made_update : (intent : Intent) → MayUpdate S b intent → WalksUpdate (Making D S) accepts b intent Any (λ fuses story. Unit {0}) (λ fuses story. Unit {0})

@@ -49,14 +49,14 @@ use Rattle.pfr_story.specs.World.{World, story_of, state_at}
 use Rattle.pfr_story.specs.Safety.{Rule, AllSafe, AllMake}
 use Rattle.pfr_story.specs.JobPlans.{same_digest, judged_source, job_notes, finished_job, abandoned, worked, done_with, with_job, recovery_work, recovery_job, resumed_if, by_source, by_open, resumed}
 use Rattle.pfr_story.specs.Plans.{mine, store, lock_of, ready_in, ready_of, judged_active, judged_recovery, restored, brought_up, filtered, smbus_judged, expired}
-use Rattle.pfr_story.specs.UpdatePlans.{cancelled_key, updated, updating}
+use Rattle.pfr_story.specs.UpdatePlans.{cancelled_key, updating}
 use Rattle.pfr_story.specs.Causes.{IsTrustedWith, IsNotTrusted, IsAgainst, IsRestorable, IsResumable, IsDue, HasBadRecovery}
 use Rattle.pfr_story.specs.Turn.{fault_of}
 use Rattle.pfr_story.proofs.SafetyLaws.{AllSafe-append, image_noted, notes_called}
 use Rattle.pfr_story.proofs.RestoreLaws.{found_good}
 use Rattle.pfr_story.proofs.BringRules.{Any, IsReady, ready_noted, ready_found, IsOwn, level_at, Walks, walk_safe, WalksBack, expired_safe, WalksAnew, WalksCopy, WalksCert, WalksUpdate, Refuses, updating_safe, Making, safe_made}
 use Rattle.pfr_story.proofs.BringAllowed.{IsSized}
-use Rattle.pfr_story.proofs.BringMakes.{MayCheck, MayUpdate, brought_made, expired_made, updating_made}
+use Rattle.pfr_story.proofs.BringMakes.{MayBringBack, MayCheck, MayUpdate, brought_made, expired_made, updating_made}
 use Rattle.pfr_story.proofs.BusRules.{AllowsSpi, spi_safe, AllowsSmbus, smbus_safe}
 use Rattle.pfr_story.proofs.FoundLaws.{found_begins}
 use Rattle.pfr_story.proofs.JobEnds.{deeds_quiet}
@@ -409,9 +409,12 @@ IsNoLoss w = (at : Counts) → ¬ IsLoss (w at)
 quiet_check : (b : Bank) → MayCheck IsNoLoss b
 quiet_check b = record { held = λ at loss. loss; released = λ svn at loss. loss; locked = λ cause at loss. loss; untrusted = λ cause at loss. loss; restored = λ level at loss. loss }
 
+quiet_back : (b : Bank) → MayBringBack IsNoLoss b
+quiet_back b = record { held = λ at loss. loss; released = λ svn at loss. loss; locked = λ cause at loss. loss; restored = λ level at loss. loss }
+
 quiet_update : (b : Bank) (intent : Intent) → MayUpdate IsNoLoss b intent
 quiet_update b intent = record {
-  refused = λ cause at loss. loss;
+  refused = λ cause is at loss. loss;
   updated = λ dynamic is svn at loss. loss;
   given_up = λ is at loss. loss;
   recovery_updated = λ is svn at loss. loss;
@@ -431,7 +434,7 @@ pub brought_makes : (accepts : Acceptance) (b : Bank) (story : Story) → AllMak
 brought_makes accepts b story = brought_made (IsOwn b) IsNoLoss b (inr refl) (inl refl) (quiet_check b) accepts (quiet_notes b) story
 
 pub expired_makes : (accepts : Acceptance) (b : Bank) (story : Story) → AllMake (IsOwn b) IsNoLoss (expired accepts b story)
-expired_makes accepts b story = expired_made (IsOwn b) IsNoLoss b (inr refl) (inl refl) (quiet_check b) accepts story (λ at loss. loss)
+expired_makes accepts b story = expired_made (IsOwn b) IsNoLoss b (inr refl) (inl refl) (quiet_back b) accepts story (λ at loss. loss)
 
 pub updating_makes : (accepts : Acceptance) (b : Bank) (intent : Intent) (story : Story) → AllMake (IsOwn b) IsNoLoss (updating accepts b intent story)
 updating_makes accepts b intent story = updating_made (IsOwn b) IsNoLoss b (inr refl) (inl refl) (quiet_check b) accepts intent (quiet_update b intent) story

@@ -1,5 +1,5 @@
 -- Banks are judged anew at a power-on, and where fuses change: one that runs is trusted, so at no other event it is called untrusted.
-use Rattle.std.proofs.Common.{◌≡◌, refl, sym, subst, ℕ, Bool, true, false, List, [], ◌∷◌, ◌++◌, ◌⊎◌, inl, inr, Result, Ok, Err}
+use Rattle.std.proofs.Common.{◌≡◌, refl, sym, subst, ℕ, Bool, true, false, List, [], ◌∷◌, ◌⊎◌, inl, inr, Result, Ok, Err}
 use Rattle.std.specs.Prelude.{◌&&◌}
 use Rattle.pfr_flash.specs.FlashState.{size_of}
 use Rattle.pfr_flash.specs.declared.names.Bank.{Bank}
@@ -48,7 +48,7 @@ use Rattle.pfr_story.proofs.Courses.{IsTakenBy, Turn-cases, taken_runs, taken_bo
 use Rattle.pfr_story.proofs.BringAllowed.{IsSized, AllowsBank, expired_allowed}
 use Rattle.pfr_story.proofs.BringMakes.{Whenever, made_told}
 use Rattle.pfr_story.proofs.BringRules.{Any, ready_found, ready_is, level_at, Walks, WalksBack, expired_safe, WalksAnew, WalksUpdate, updating_safe}
-use Rattle.pfr_story.proofs.BusRules.{AllowsSpi, spi_safe, AllowsSmbus, smbus_safe}
+use Rattle.pfr_story.proofs.BusRules.{AllowsSpi, spi_safe, smbus_safe}
 use Rattle.pfr_story.proofs.Traces.{Saying, call_says, Traced, Traced-known}
 use Rattle.pfr_story.proofs.JobMakes.{with_job_makes}
 use Rattle.pfr_story.proofs.JobTrust.{IsTrustedNow, KeepsTrust, trust_kept, jobs_trust, noted_trust, jobs_trust_told}
@@ -72,7 +72,7 @@ fault_unjudged device.Pch = inl tt
 fault_unjudged device.Nv = inl tt
 
 -- a bank whose watch expires by ticks runs
-due_runs : (s : Standing) (expiring : Bool) → (is_running s && expiring) ≡ true → s ≡ Running
+pub due_runs : (s : Standing) (expiring : Bool) → (is_running s && expiring) ≡ true → s ≡ Running
 due_runs Running expiring e = refl
 due_runs Off expiring e = absurd (let never : false ≡ true = e in cc)
 due_runs Held expiring e = absurd (let never : false ≡ true = e in cc)
@@ -199,14 +199,14 @@ provision_unjudged root (Err cause) story = (tt, tt)
 
 module _ (begin new : World) where
   noted_unjudged : (moves : List Move) → AllGood Unjudged moves (story_of begin) → Follows (record { first = moves; stretches = [] }) begin new → Traced Unjudged begin new
-  noted_unjudged moves good t = noted_by Unjudged faults_unjudged begin new Any (λ w moved. tt) moves t good
+  noted_unjudged moves good t = noted_by Unjudged faults_unjudged.lost begin new Any (λ w moved. tt) moves t good
 
   -- a stage that was passed, or a boot that failed
   boot_unjudged : (accepts : Acceptance) (b : Bank) (pass : Bool) (story : Story) → IsTrustedIn accepts b (story_of begin) → Follows (boot_course accepts b pass story) begin new → Traced Unjudged begin new
   boot_unjudged accepts b true story trusted t =
       let at : Stage = stage_at b story in
       noted_unjudged (Says (λ _. pass_note b at (next_stage at)) ∷ []) (pass_noted IsUnjudged b at (next_stage at) (λ e. tt) (λ e. tt), tt) t
-  boot_unjudged accepts b false story trusted t = failed_by Unjudged faults_unjudged begin new Any (λ w moved. tt) accepts b (λ any. expired_unjudged accepts b (story_of begin) trusted) t
+  boot_unjudged accepts b false story trusted t = failed_by Unjudged faults_unjudged.lost begin new Any (λ w moved. tt) accepts b (faults_unjudged.locked b) (λ any. expired_unjudged accepts b (story_of begin) trusted) t
 
   -- an expiry, from where its bank is trusted; what holds behind it is told of both its ends
   expiry_good : (accepts : Acceptance) (b : Bank) (P Q : Story → Type 0) → ((story : Story) → P story → IsTrustedIn accepts b story)
@@ -254,13 +254,13 @@ module _ (accepts : Acceptance) (old new : World) (size : size_of old.nv ≡ 327
   taken_unjudged event.Power other own on = absurd (other tt)
   taken_unjudged event.Off other own on = noted_unjudged (here event.Off) new off_course.first (tt, tt) on.1
   taken_unjudged (event.Provision root) other own on =
-      provision_by Unjudged faults_unjudged (here (event.Provision root)) new Any (λ w moved. tt) Any root (λ story any. (tt, provision_unjudged root (judged_here root story) story)) tt on.1
+      provision_by Unjudged faults_unjudged.lost (here (event.Provision root)) new Any (λ w moved. tt) Any root faults_unjudged.locked (λ story any. (tt, provision_unjudged root (judged_here root story) story)) tt on.1
   taken_unjudged (event.Spi b frame) other own on =
       let frames : AllowsSpi Unjudged b = record { passed = λ op story. tt; blocked = λ cause story. tt; asks = λ story. tt; works = λ op story. tt } in
-      spi_by Unjudged faults_unjudged (here (event.Spi b frame)) new Any (λ w moved. tt) Any accepts b frame (λ story any. spi_safe Unjudged accepts b frame frames story) tt on.1
+      spi_by Unjudged faults_unjudged.lost (here (event.Spi b frame)) new Any (λ w moved. tt) Any accepts b frame (faults_unjudged.held b) (faults_unjudged.locked b) (λ story any. spi_safe Unjudged accepts b frame frames story) tt on.1
   taken_unjudged (event.Smbus b frame) other own on =
       let first : World = here (event.Smbus b frame) in
-      smbus_by Unjudged faults_unjudged first new Any (λ w moved. tt) accepts b frame (story_of old)
+      smbus_by Unjudged faults_unjudged.lost first new Any (λ w moved. tt) accepts b frame (story_of old)
       (smbus_safe Unjudged accepts b frame (record { passed = λ there. tt; blocked = λ cause there. tt }) (story_of old) (story_of first)) on.1
   taken_unjudged (event.Tick n) other own on =
       let e : Event = event.Tick n in
@@ -270,7 +270,7 @@ module _ (accepts : Acceptance) (old new : World) (size : size_of old.nv ≡ 327
       boot_unjudged (here e) new accepts b pass (story_of old) (trusted_at e b (taken_boots (standing_of b old.notes.list) (stage_at b (story_of old)) on.0).0) on.1
   taken_unjudged (event.Update b intent) other own on =
       let e : Event = event.Update b intent in
-      update_by Unjudged faults_unjudged (here e) new Any (λ w moved. tt) accepts b intent
+      update_by Unjudged faults_unjudged.lost (here e) new Any (λ w moved. tt) accepts b intent (faults_unjudged.locked b)
       (λ any. updating_unjudged accepts b intent (story_of (here e)) own (trusted_at e b (taken_runs (standing_of b old.notes.list) on.0))) on.1
 
   all_unjudged : (e : Event) → ¬ IsPower e → ¬ IsFuseUpdate e → Turn accepts e old new → Traced Unjudged (here e) new

@@ -41,7 +41,7 @@ use Rattle.pfr_story.proofs.Courses.{Turn-cases}
 use Rattle.pfr_story.proofs.Traces.{Saying, call_says, Begins, Traced-known, noted_right}
 use Rattle.pfr_story.proofs.Made.{Made, said, said_append, added_said}
 use Rattle.pfr_story.proofs.BringRules.{Any}
-use Rattle.pfr_story.proofs.StepTraces.{AllowsFaults, provision_by}
+use Rattle.pfr_story.proofs.StepTraces.{provision_by}
 use Rattle.pfr_story.proofs.StoreLaws.{Stored, judged_here, operations_in, provision_stored}
 use Rattle.pfr_story.proofs.EventLaws.{outcome_of}
 
@@ -181,8 +181,7 @@ module _ (root : RootSlot) (old new : World) where
   tries size slot (mid, first, rest) =
       let base : Past = past_of old.nv in
       let stored : Stored (operations_in root judged) base (past_of new.nv) = provision_stored root old new (mid, first, rest) in
-      let faults : AllowsFaults (Backing root judged base) = record { held = λ b story. tt; locked = λ b which story. tt; lost = λ which story. tt } in
-      let traced = provision_by (Backing root judged base) faults (begun (event.Provision root) old) new Any (λ w moved. tt) (λ story. story ≡ story_of (begun (event.Provision root) old)) root
+      let traced = provision_by (Backing root judged base) (λ which story. tt) (begun (event.Provision root) old) new Any (λ w moved. tt) (λ story. story ≡ story_of (begun (event.Provision root) old)) root (λ b which story. tt)
       (λ story e. (tt, provision_backed root judged base (judged_here root story) story (sym (ap (λ (s : Story). judged_here root s) e)) (ap (λ (s : Story). s.nv) e))) refl (mid, first, rest) in
       let known = Traced-known (IsBacked root judged base) (begun (event.Provision root) old) new traced in
       let made : IsUntroubled bank.Bmc (added old new) → IsNoted (added old new) (outcome_of judged) = outcome mid first.is rest in

@@ -27,6 +27,7 @@ use Rattle.pfr_recoverable.specs.Recoverable.{HasGoodRecovery}
 use Rattle.pfr_recoverable.proofs.StaysLaw.{fuses_one}
 use Rattle.pfr_script.specs.declared.event.Event.{Event}
 use Rattle.pfr_script.specs.declared.event.Event.TheVariants as event
+use Rattle.pfr_script.specs.declared.event.Intent.{Intent}
 use Rattle.pfr_script.specs.declared.event.Intent.TheVariants as intent
 use Rattle.pfr_report.specs.Texts.{IsNoted}
 use Rattle.pfr_report.specs.declared.note.LockWhy.{LockWhy}
@@ -96,6 +97,7 @@ module _ (accepts : Acceptance) (b : Bank) (fuses : FusesState) (from : Story) w
   Copy (what.Refused c refusing.ManifestDiffers) story = (capsule : CapsuleState) × IsStagedFor false capsule
   Copy (what.Refused c refusing.JobsSpent) story = (capsule : CapsuleState) × IsStagedFor true capsule × (is_spent (store held) b ≡ true)
   Copy (what.Refused c (refusing.Cert cause)) story = ⊥
+  Copy (what.Abandoned c) story = ⊥
   Copy (what.RecoveryUpdated c svn) story = (capsule : CapsuleState) × IsStagedFor true capsule × (is_spent (store held) b ≡ false) × (capsule.manifest.svn ≡ svn)
   Copy that story = Unit {0}
 
@@ -403,6 +405,10 @@ module _ (accepts : Acceptance) (b : Bank) (fuses : FusesState) (first new : Wor
     writes_nothing = λ why n. writes_nothing t why n;
   }
 
+  -- its job isn't given up
+  gives_none_up : (c : Bank) → ¬ IsNoted (added first new) (what.Abandoned c)
+  gives_none_up c n = (known (what.Abandoned c) n).1
+
 -- ---- a whole step
 module _ (accepts : Acceptance) (b : Bank) (old new : World) where
   abbrev first : World
@@ -427,15 +433,16 @@ module _ (accepts : Acceptance) (b : Bank) (old new : World) where
       }
 
   updates_by : HaveBytes new → IsBankSize (length (mine b (story_of first))) → IsSized (story_of first) → IsTrusted (mine b (story_of first)) (store (story_of first)) b accepts
-      → open_job (store (story_of first)) b ≡ job.None → IsSettled (store (story_of first)) → Follows (update_course accepts b intent.Recovery) first new → UpdatesRecovery accepts b new (added old new) (counts_in old)
+      → open_job (store (story_of first)) b ≡ job.None → IsSettled (store (story_of first)) → Follows (update_course accepts b intent.Recovery) first new → UpdatesRecovery accepts b new (added old new) (counts_in old) × ((c : Bank) → ¬ IsNoted (added old new) (what.Abandoned c))
   updates_by have size sized t idle settled f =
       let moved : AllMoved first new = follows_moved (update_course accepts b intent.Recovery) first new f in
       let ending = single_ends (update_stretch accepts b intent.Recovery) b (Unit {0}) (λ d. refl) tt first new f in
       let ready : IsReady b t.fuses there_held = ready_noted b t.fuses (what.Held b) (story_of first) (trusted_ready accepts b (story_of first) t) in
-      updates_recovery accepts b t.fuses first new ready (can_there t moved have size sized settled) idle ending moved t
+      let can : CanWork b t.fuses there_held = can_there t moved have size sized settled in
+      (updates_recovery accepts b t.fuses first new ready can idle ending moved t, gives_none_up accepts b t.fuses first new ready can idle ending moved)
 
   update_turn : Turn accepts (event.Update b intent.Recovery) old new → HaveBytes new → IsBankSize (size_of old.bmc) → IsBankSize (size_of old.pch) → size_of old.nv ≡ 32768
-      → TrustedRunning accepts old → RunningHasNoJob old → ((which : Bank) → Runs which old → IsSettled (now old.nv)) → Runs b old → UpdatesRecovery accepts b new (added old new) (counts_in old)
+      → TrustedRunning accepts old → RunningHasNoJob old → ((which : Bank) → Runs which old → IsSettled (now old.nv)) → Runs b old → UpdatesRecovery accepts b new (added old new) (counts_in old) × ((c : Bank) → ¬ IsNoted (added old new) (what.Abandoned c))
   update_turn t have bmc pch nv trusted idle settled runs =
       let e : Event = event.Update b intent.Recovery in
       elim (Turn-cases accepts e old new t) [
@@ -446,5 +453,14 @@ module _ (accepts : Acceptance) (b : Bank) (old new : World) where
 -- An update of the recovery area of a bank that runs is judged before anything is written.
 pub Turn-updates_recovery : (accepts : Acceptance) (e : Event) (old new : World) → Turn accepts e old new → HaveBytes new → IsBankSize (size_of old.bmc) → IsBankSize (size_of old.pch)
     → size_of old.nv ≡ 32768 → TrustedRunning accepts old → RunningHasNoJob old → ((which : Bank) → Runs which old → IsSettled (now old.nv)) → RecoveryUpdates e accepts old new
-Turn-updates_recovery accepts (event.Update b intent.Recovery) old new t have bmc pch nv trusted idle settled = update_turn accepts b old new t have bmc pch nv trusted idle settled
+Turn-updates_recovery accepts (event.Update b intent.Recovery) old new t have bmc pch nv trusted idle settled = λ runs. (update_turn accepts b old new t have bmc pch nv trusted idle settled runs).0
 Turn-updates_recovery accepts e old new t have bmc pch nv trusted idle settled = tt
+
+-- And its job isn't given up.
+pub Turn-gives_none_up : (accepts : Acceptance) (b : Bank) (how : Intent) (old new : World) → Turn accepts (event.Update b how) old new → HaveBytes new → IsBankSize (size_of old.bmc) → IsBankSize (size_of old.pch)
+    → size_of old.nv ≡ 32768 → TrustedRunning accepts old → RunningHasNoJob old → ((which : Bank) → Runs which old → IsSettled (now old.nv)) → Runs b old → how ≡ intent.Recovery
+    → (c : Bank) → ¬ IsNoted (added old new) (what.Abandoned c)
+Turn-gives_none_up accepts b intent.Recovery old new t have bmc pch nv trusted idle settled runs e = (update_turn accepts b old new t have bmc pch nv trusted idle settled runs).1
+Turn-gives_none_up accepts b intent.Active old new t have bmc pch nv trusted idle settled runs e = absurd cc
+Turn-gives_none_up accepts b intent.Full old new t have bmc pch nv trusted idle settled runs e = absurd cc
+Turn-gives_none_up accepts b intent.Cert old new t have bmc pch nv trusted idle settled runs e = absurd cc

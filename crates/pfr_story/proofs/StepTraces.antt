@@ -14,8 +14,6 @@ use Rattle.pfr_fuses.specs.declared.root_slot.RootSlot.{RootSlot}
 use Rattle.pfr_script.specs.declared.event.Intent.{Intent}
 use Rattle.pfr_watch.specs.declared.stage.Stage.{Stage}
 use Rattle.pfr_watch.specs.declared.stage.Stage.TheVariants as stage
-use Rattle.pfr_report.specs.declared.note.LockWhy.{LockWhy}
-use Rattle.pfr_report.specs.declared.note.LockWhy.TheVariants as why
 use Rattle.pfr_report.specs.declared.note.What.{What}
 use Rattle.pfr_report.specs.declared.note.What.TheVariants as what
 use Rattle.pfr_story.specs.Guards.{Guard, Guards, guard_at, guard_after}
@@ -30,7 +28,7 @@ use Rattle.pfr_story.proofs.WorldLaws.{AllMoved-refl, AllMoved-trans, faults_mov
 use Rattle.pfr_story.proofs.Courses.{went_on, Steps-moved, moved_behind, fault_rose}
 use Rattle.pfr_story.proofs.Sequence.{after-append}
 use Rattle.pfr_story.proofs.BringAllowed.{IsSized, AllowsBank, allowed_safe, expired_allowed, AllowsUpdate, updating_allowed}
-use Rattle.pfr_story.proofs.BringMakes.{MayCheck, expired_made}
+use Rattle.pfr_story.proofs.BringMakes.{MayBringBack, expired_made}
 use Rattle.pfr_story.proofs.BringRules.{Any, IsOwn, level_at}
 use Rattle.pfr_story.proofs.SafetyLaws.{AllMake-append, cut_makes, safe_whole}
 use Rattle.pfr_story.proofs.Traces.{Traced, Traced-then, Traced-ran, Traced-whole, Traced-cut}
@@ -136,28 +134,16 @@ pass_noted P b at stage.Obb booted passed = passed (λ e. cc)
 abbrev pub LeavesOther : Bank → (Counts → What) → Type 0
 LeavesOther b w = (at : Counts) (guard : Guard) → guard_after (other_bank b) (w at) guard ≡ guard
 
-may_check : (b : Bank) → MayCheck (LeavesOther b) b
-may_check bank.Bmc = record {
-  held = λ at guard. refl;
-  released = λ svn at guard. refl;
-  locked = λ cause at guard. refl;
-  untrusted = λ cause at guard. refl;
-  restored = λ level at guard. refl;
-}
-may_check bank.Pch = record {
-  held = λ at guard. refl;
-  released = λ svn at guard. refl;
-  locked = λ cause at guard. refl;
-  untrusted = λ cause at guard. refl;
-  restored = λ level at guard. refl;
-}
+may_bring : (b : Bank) → MayBringBack (LeavesOther b) b
+may_bring bank.Bmc = record { held = λ at guard. refl; released = λ svn at guard. refl; locked = λ cause at guard. refl; restored = λ level at guard. refl }
+may_bring bank.Pch = record { held = λ at guard. refl; released = λ svn at guard. refl; locked = λ cause at guard. refl; restored = λ level at guard. refl }
 
 expired_apart : (b : Bank) (level : ℕ) → LeavesOther b (λ _. what.Expired b level)
 expired_apart bank.Bmc level at guard = refl
 expired_apart bank.Pch level at guard = refl
 
 pub expired_leaves : (accepts : Acceptance) (b : Bank) (story : Story) → AllMake (IsOwn b) (LeavesOther b) (expired accepts b story)
-expired_leaves accepts b story = expired_made (IsOwn b) (LeavesOther b) b (inr refl) (inl refl) (may_check b) accepts story (expired_apart b (level_at b story))
+expired_leaves accepts b story = expired_made (IsOwn b) (LeavesOther b) b (inr refl) (inl refl) (may_bring b) accepts story (expired_apart b (level_at b story))
 
 guard_noted : (c : Bank) (w : Counts → What) (story : Story) → guard_at c (noted w story).guards ≡ guard_after c (w (counts_of story)) (guard_at c story.guards)
 guard_noted bank.Bmc w story = refl
@@ -175,66 +161,78 @@ other_guard b (Does which op ∷ moves) story all = other_guard b moves (operate
 other_guard b (Asks which ∷ moves) story all = other_guard b moves story all.1
 
 -- ---- a rule that allows what is noted at faults
--- banks are held and locked, and devices lose their power
+-- a bank is held
+abbrev pub AllowsHold : Rule → Bank → Type 0
+AllowsHold G b = (story : Story) → G (Says (what.Held b)) story
+
+-- it is locked
+abbrev pub AllowsLock : Rule → Bank → Type 0
+AllowsLock G b = (which : Device) (story : Story) → G (Says (what.Locked b (fault_of which))) story
+
+-- devices lose their power
+abbrev pub AllowsLost : Rule → Type 0
+AllowsLost G = (which : Device) (story : Story) → G (Says (what.Lost (Some which))) story
+
+-- all of this, of both banks
 pub record AllowsFaults (G : Rule) : Type 0 where
-  pub held : (b : Bank) (story : Story) → G (Says (what.Held b)) story
-  pub locked : (b : Bank) (which : Device) (story : Story) → G (Says (what.Locked b (fault_of which))) story
-  pub lost : (which : Device) (story : Story) → G (Says (what.Lost (Some which))) story
+  pub held : (b : Bank) → AllowsHold G b
+  pub locked : (b : Bank) → AllowsLock G b
+  pub lost : AllowsLost G
 
 -- Each move of a step between two worlds is good where each of its plans is safe; K is true of each story between them.
-module _ (G : Rule) (h : AllowsFaults G) (old new : World) (K : Story → Type 0) (known : (w : World) → AllMoved w new → K (story_of w)) where
+module _ (G : Rule) (loses : AllowsLost G) (old new : World) (K : Story → Type 0) (known : (w : World) → AllMoved w new → K (story_of w)) where
   within : Between old new old new
   within = record { before = AllMoved-refl old; behind = AllMoved-refl new }
 
   allows : AllowsLosses G old new
-  allows which story fell = (h.lost which story, tt)
+  allows which story fell = (loses which story, tt)
 
-  bank_good : (accepts : Acceptance) (b : Bank) → ((story : Story) → K story → AllSafe G (brought_up accepts b story) story) → IsGoodStretch G old new K Any (bank_stretch accepts b) Any
-  bank_good accepts b safe = record {
+  bank_good : (accepts : Acceptance) (b : Bank) → AllowsLock G b → ((story : Story) → K story → AllSafe G (brought_up accepts b story) story) → IsGoodStretch G old new K Any (bank_stretch accepts b) Any
+  bank_good accepts b locks safe = record {
     plan = record { safe = λ story p. safe story p.0; ends = λ story p. tt };
-    noted = λ which story trace p cut rose. (h.locked b which (after trace story), tt);
+    noted = λ which story trace p cut rose. (locks which (after trace story), tt);
     on = λ which story trace p cut e. tt;
   }
 
-  fuse_good : (P : Story → Type 0) → ((story : Story) → P story → AllSafe G (migrated story) story) → IsGoodStretch G old new K P fuse_stretch Any
-  fuse_good P safe = record {
+  fuse_good : (P : Story → Type 0) → AllowsFaults G → ((story : Story) → P story → AllSafe G (migrated story) story) → IsGoodStretch G old new K P fuse_stretch Any
+  fuse_good P h safe = record {
     plan = record { safe = λ story p. safe story p.1; ends = λ story p. tt };
     noted = λ which story trace p cut rose. (h.held bank.Bmc _, (h.locked bank.Bmc device.Nv _, (h.held bank.Pch _, (h.locked bank.Pch device.Nv _, tt))));
     on = λ which story trace p cut e. tt;
   }
 
-  provision_good : (P : Story → Type 0) (root : RootSlot) → ((story : Story) → P story → AllSafe G (provisioned root story) story) → IsGoodStretch G old new K P (provision_stretch root) Any
-  provision_good P root safe = record {
+  provision_good : (P : Story → Type 0) (root : RootSlot) → ((b : Bank) → AllowsLock G b) → ((story : Story) → P story → AllSafe G (provisioned root story) story) → IsGoodStretch G old new K P (provision_stretch root) Any
+  provision_good P root locks safe = record {
     plan = record { safe = λ story p. safe story p.1; ends = λ story p. tt };
-    noted = λ which story trace p cut rose. (h.locked bank.Bmc device.Nv _, (h.locked bank.Pch device.Nv _, tt));
+    noted = λ which story trace p cut rose. (locks bank.Bmc device.Nv _, (locks bank.Pch device.Nv _, tt));
     on = λ which story trace p cut e. tt;
   }
 
-  spi_good : (P : Story → Type 0) (accepts : Acceptance) (b : Bank) (frame : List ℕ) → ((story : Story) → P story → AllSafe G (filtered accepts b frame story) story)
+  spi_good : (P : Story → Type 0) (accepts : Acceptance) (b : Bank) (frame : List ℕ) → AllowsHold G b → AllowsLock G b → ((story : Story) → P story → AllSafe G (filtered accepts b frame story) story)
       → IsGoodStretch G old new K P (spi_stretch accepts b frame) Any
-  spi_good P accepts b frame safe = record {
+  spi_good P accepts b frame holds locks safe = record {
     plan = record { safe = λ story p. safe story p.1; ends = λ story p. tt };
-    noted = λ which story trace p cut rose. (h.held b _, (h.locked b device.Bmc _, tt));
+    noted = λ which story trace p cut rose. (holds _, (locks device.Bmc _, tt));
     on = λ which story trace p cut e. tt;
   }
 
   -- an expiry: what holds behind it is what the work on the bank leaves true
-  expiry_good : (P Q : Story → Type 0) (accepts : Acceptance) (b : Bank) → ((story : Story) → K story → P story → AllSafe G (expired accepts b story) story)
+  expiry_good : (P Q : Story → Type 0) (accepts : Acceptance) (b : Bank) → AllowsLock G b → ((story : Story) → K story → P story → AllSafe G (expired accepts b story) story)
       → ((moves : List Move) (story : Story) → AllMake (IsOwn b) (LeavesOther b) moves → P story → Q (after moves story)) → IsGoodStretch G old new K P (expiry_stretch accepts b) Q
-  expiry_good P Q accepts b safe keeps = record {
+  expiry_good P Q accepts b locks safe keeps = record {
     plan = record { safe = λ story p. safe story p.0 p.1; ends = λ story p. keeps (expired accepts b story) story (expired_leaves accepts b story) p.1 };
-    noted = λ which story trace p cut rose. (h.locked b which (after trace story), tt);
+    noted = λ which story trace p cut rose. (locks which (after trace story), tt);
     on = λ which story trace p cut e.
         let lock : List Move = Says (what.Locked b (fault_of which)) ∷ [] in
         let made = (cut_makes (IsOwn b) (LeavesOther b) which (expired accepts b story) trace story (expired_leaves accepts b story) cut).1 in
-        subst Q (after-append trace lock story) (keeps (trace ++ lock) story (AllMake-append (IsOwn b) (LeavesOther b) trace lock made ((may_check b).locked (fault_of which), tt)) p.1);
+        subst Q (after-append trace lock story) (keeps (trace ++ lock) story (AllMake-append (IsOwn b) (LeavesOther b) trace lock made ((may_bring b).locked (fault_of which), tt)) p.1);
   }
 
-  update_good : (P : Story → Type 0) (accepts : Acceptance) (b : Bank) (intent : Intent) → ((story : Story) → K story → P story → AllSafe G (updating accepts b intent story) story)
+  update_good : (P : Story → Type 0) (accepts : Acceptance) (b : Bank) (intent : Intent) → AllowsLock G b → ((story : Story) → K story → P story → AllSafe G (updating accepts b intent story) story)
       → IsGoodStretch G old new K P (update_stretch accepts b intent) Any
-  update_good P accepts b intent safe = record {
+  update_good P accepts b intent locks safe = record {
     plan = record { safe = λ story p. safe story p.0 p.1; ends = λ story p. tt };
-    noted = λ which story trace p cut rose. (h.locked b which (after trace story), tt);
+    noted = λ which story trace p cut rose. (locks which (after trace story), tt);
     on = λ which story trace p cut e. tt;
   }
 
@@ -243,54 +241,54 @@ module _ (G : Rule) (h : AllowsFaults G) (old new : World) (K : Story → Type 0
   noted_by moves t good = noted_along G old new K known allows old new within moves t good
 
   -- of a power-on, from a story where P holds
-  pub power_by : (P : Story → Type 0) (accepts : Acceptance) → ((story : Story) → P story → AllSafe G (migrated story) story)
+  pub power_by : (P : Story → Type 0) (accepts : Acceptance) → AllowsFaults G → ((story : Story) → P story → AllSafe G (migrated story) story)
       → ((b : Bank) (story : Story) → K story → AllSafe G (brought_up accepts b story) story) → G (Says (λ _. what.Power)) (story_of old)
       → P (noted (λ _. what.Power) (story_of old)) → Follows (power_course accepts) old new → Traced G old new
-  power_by P accepts safe brought says p t =
-      power_along G old new K known allows old new within accepts P Any Any Any (fuse_good P safe) (bank_good accepts bank.Bmc (brought bank.Bmc)) (bank_good accepts bank.Pch (brought bank.Pch)) says p t
+  power_by P accepts h safe brought says p t =
+      power_along G old new K known allows old new within accepts P Any Any Any (fuse_good P h safe) (bank_good accepts bank.Bmc (h.locked bank.Bmc) (brought bank.Bmc)) (bank_good accepts bank.Pch (h.locked bank.Pch) (brought bank.Pch)) says p t
 
   -- of a provision
-  pub provision_by : (P : Story → Type 0) (root : RootSlot) → ((story : Story) → P story → AllSafe G (provisioned root story) story) → P (story_of old) → Follows (provision_course root) old new → Traced G old new
-  provision_by P root safe p t = single_along G old new K known allows old new within (provision_stretch root) P Any (provision_good P root safe) p t
+  pub provision_by : (P : Story → Type 0) (root : RootSlot) → ((b : Bank) → AllowsLock G b) → ((story : Story) → P story → AllSafe G (provisioned root story) story) → P (story_of old) → Follows (provision_course root) old new → Traced G old new
+  provision_by P root locks safe p t = single_along G old new K known allows old new within (provision_stretch root) P Any (provision_good P root locks safe) p t
 
   -- of a frame on the SPI bus of a bank
-  pub spi_by : (P : Story → Type 0) (accepts : Acceptance) (b : Bank) (frame : List ℕ) → ((story : Story) → P story → AllSafe G (filtered accepts b frame story) story)
+  pub spi_by : (P : Story → Type 0) (accepts : Acceptance) (b : Bank) (frame : List ℕ) → AllowsHold G b → AllowsLock G b → ((story : Story) → P story → AllSafe G (filtered accepts b frame story) story)
       → P (story_of old) → Follows (spi_course accepts b frame) old new → Traced G old new
-  spi_by P accepts b frame safe p t = single_along G old new K known allows old new within (spi_stretch accepts b frame) P Any (spi_good P accepts b frame safe) p t
+  spi_by P accepts b frame holds locks safe p t = single_along G old new K known allows old new within (spi_stretch accepts b frame) P Any (spi_good P accepts b frame holds locks safe) p t
 
   -- of one on its SMBus, judged by the contents of this story
   pub smbus_by : (accepts : Acceptance) (b : Bank) (frame : List ℕ) (story : Story) → AllSafe G (smbus_judged accepts b frame story) (story_of old) → Follows (smbus_course accepts b frame story) old new → Traced G old new
   smbus_by accepts b frame story safe t = noted_by (smbus_judged accepts b frame story) t (safe_whole G (smbus_judged accepts b frame story) (story_of old) safe)
 
   -- of a tick, by the story that it is judged by: an expiry is noted at the level that its bank has where the step begins
-  pub tick_by : (accepts : Acceptance) (n : ℕ) (story : Story)
+  pub tick_by : (accepts : Acceptance) (n : ℕ) (story : Story) → ((b : Bank) → is_due b n story ≡ true → AllowsLock G b)
       → ((b : Bank) (there : Story) → K there → is_due b n story ≡ true → level_at b there ≡ level_at b (story_of old) → AllSafe G (expired accepts b there) there)
       → Follows (tick_course accepts n story) old new → Traced G old new
-  tick_by accepts n story safe t =
+  tick_by accepts n story locks safe t =
       let P : Story → Type 0 = λ there. (b : Bank) → level_at b there ≡ level_at b (story_of old) in
       let Q : Story → Type 0 = λ there. level_at bank.Pch there ≡ level_at bank.Pch (story_of old) in
       tick_along G old new K known allows old new within accepts n story P Q Any
-      (λ due. expiry_good P Q accepts bank.Bmc (λ there k p. safe bank.Bmc there k due (p bank.Bmc))
+      (λ due. expiry_good P Q accepts bank.Bmc (locks bank.Bmc due) (λ there k p. safe bank.Bmc there k due (p bank.Bmc))
       (λ moves there all p. ap (λ (guard : Guard). level_after guard.watch) (other_guard bank.Bmc moves there all) ∙ p bank.Pch))
       (λ there p. p bank.Pch)
-      (λ due. expiry_good Q Any accepts bank.Pch (λ there k q. safe bank.Pch there k due q) (λ moves there all q. tt))
+      (λ due. expiry_good Q Any accepts bank.Pch (locks bank.Pch due) (λ there k q. safe bank.Pch there k due q) (λ moves there all q. tt))
       (λ there q. tt) (λ b. refl) t
 
   -- of a boot that failed
-  pub failed_by : (accepts : Acceptance) (b : Bank) → (K (story_of old) → AllSafe G (expired accepts b (story_of old)) (story_of old))
+  pub failed_by : (accepts : Acceptance) (b : Bank) → AllowsLock G b → (K (story_of old) → AllSafe G (expired accepts b (story_of old)) (story_of old))
       → Follows (record { first = []; stretches = expiry_stretch accepts b ∷ [] }) old new → Traced G old new
-  failed_by accepts b safe t =
+  failed_by accepts b locks safe t =
       let P : Story → Type 0 = λ there. story_of old ≡ there in
       single_along G old new K known allows old new within (expiry_stretch accepts b) P Any
-      (expiry_good P Any accepts b
+      (expiry_good P Any accepts b locks
       (λ there k e. subst (λ (s : Story). AllSafe G (expired accepts b s) s) e (safe (subst K (sym e) k))) (λ moves there all e. tt)) refl t
 
   -- of an update
-  pub update_by : (accepts : Acceptance) (b : Bank) (intent : Intent) → (K (story_of old) → AllSafe G (updating accepts b intent (story_of old)) (story_of old)) → Follows (update_course accepts b intent) old new → Traced G old new
-  update_by accepts b intent safe t =
+  pub update_by : (accepts : Acceptance) (b : Bank) (intent : Intent) → AllowsLock G b → (K (story_of old) → AllSafe G (updating accepts b intent (story_of old)) (story_of old)) → Follows (update_course accepts b intent) old new → Traced G old new
+  update_by accepts b intent locks safe t =
       let P : Story → Type 0 = λ there. story_of old ≡ there in
       single_along G old new K known allows old new within (update_stretch accepts b intent) P Any
-      (update_good P accepts b intent (λ there k e. subst (λ (s : Story). AllSafe G (updating accepts b intent s) s) e (safe (subst K (sym e) k)))) refl t
+      (update_good P accepts b intent locks (λ there k e. subst (λ (s : Story). AllSafe G (updating accepts b intent s) s) e (safe (subst K (sym e) k)))) refl t
 
 -- the store has its size in each world of a step
 follows_moved : (c : Course) (old new : World) → Follows c old new → AllMoved old new
@@ -313,28 +311,28 @@ module _ (G : Rule) (h : AllowsBanks G) where
 
   -- each move is good of a step that only notes something
   pub noted_good : (old new : World) (moves : List Move) → Follows (record { first = moves; stretches = [] }) old new → AllGood G moves (story_of old) → Traced G old new
-  noted_good old new moves t good = noted_by G faults old new Any (λ w moved. tt) moves t good
+  noted_good old new moves t good = noted_by G faults.lost old new Any (λ w moved. tt) moves t good
 
   -- of a power-on, from a story where P holds
   pub power_good : (P : Story → Type 0) (accepts : Acceptance) (old new : World) → ((story : Story) → P story → AllSafe G (migrated story) story) → G (Says (λ _. what.Power)) (story_of old)
       → P (noted (λ _. what.Power) (story_of old)) → (size : size_of old.nv ≡ 32768) → Follows (power_course accepts) old new → Traced G old new
   power_good P accepts old new safe says p size t =
-      power_by G faults old new IsSized (sized old new size (power_course accepts) t) P accepts safe (λ b story s. allowed_safe G accepts b (h.bank b) story s (h.held b story)) says p t
+      power_by G faults.lost old new IsSized (sized old new size (power_course accepts) t) P accepts faults safe (λ b story s. allowed_safe G accepts b (h.bank b) story s (h.held b story)) says p t
 
   -- of a provision
   pub provision_traced : (P : Story → Type 0) (root : RootSlot) (old new : World) → ((story : Story) → P story → AllSafe G (provisioned root story) story)
       → P (story_of old) → Follows (provision_course root) old new → Traced G old new
-  provision_traced P root old new safe p t = provision_by G faults old new Any (λ w moved. tt) P root safe p t
+  provision_traced P root old new safe p t = provision_by G faults.lost old new Any (λ w moved. tt) P root faults.locked safe p t
 
   -- of a frame on the SPI bus of a bank
   pub spi_traced : (P : Story → Type 0) (accepts : Acceptance) (b : Bank) (frame : List ℕ) (old new : World) → ((story : Story) → P story → AllSafe G (filtered accepts b frame story) story)
       → P (story_of old) → Follows (spi_course accepts b frame) old new → Traced G old new
-  spi_traced P accepts b frame old new safe p t = spi_by G faults old new Any (λ w moved. tt) P accepts b frame safe p t
+  spi_traced P accepts b frame old new safe p t = spi_by G faults.lost old new Any (λ w moved. tt) P accepts b frame (faults.held b) (faults.locked b) safe p t
 
   -- of one on its SMBus, judged by the contents of this story
   pub smbus_traced : (accepts : Acceptance) (b : Bank) (frame : List ℕ) (story : Story) (old new : World) → AllSafe G (smbus_judged accepts b frame story) (story_of old)
       → Follows (smbus_course accepts b frame story) old new → Traced G old new
-  smbus_traced accepts b frame story old new safe t = smbus_by G faults old new Any (λ w moved. tt) accepts b frame story safe t
+  smbus_traced accepts b frame story old new safe t = smbus_by G faults.lost old new Any (λ w moved. tt) accepts b frame story safe t
 
   -- the watch over a boot expires, where that may be noted
   expiry_safe : (accepts : Acceptance) (b : Bank) (story : Story) → IsSized story → G (Says (λ _. what.Expired b (level_at b story))) story → AllSafe G (expired accepts b story) story
@@ -345,15 +343,15 @@ module _ (G : Rule) (h : AllowsBanks G) where
       → ((b : Bank) (there : Story) → is_due b n story ≡ true → level_at b there ≡ level_at b (story_of old) → G (Says (λ _. what.Expired b (level_at b there))) there)
       → (size : size_of old.nv ≡ 32768) → Follows (tick_course accepts n story) old new → Traced G old new
   tick_traced accepts n story old new expires size t =
-      tick_by G faults old new IsSized (sized old new size (tick_course accepts n story) t) accepts n story (λ b there s due same. expiry_safe accepts b there s (expires b there due same)) t
+      tick_by G faults.lost old new IsSized (sized old new size (tick_course accepts n story) t) accepts n story (λ b due. faults.locked b) (λ b there s due same. expiry_safe accepts b there s (expires b there due same)) t
 
   -- of a boot that failed
   pub failed_traced : (accepts : Acceptance) (b : Bank) (old new : World) → G (Says (λ _. what.Expired b (level_at b (story_of old)))) (story_of old)
       → (size : size_of old.nv ≡ 32768) → Follows (record { first = []; stretches = expiry_stretch accepts b ∷ [] }) old new → Traced G old new
   failed_traced accepts b old new expires size t =
-      failed_by G faults old new IsSized (sized old new size (record { first = []; stretches = expiry_stretch accepts b ∷ [] }) t) accepts b (λ s. expiry_safe accepts b (story_of old) s expires) t
+      failed_by G faults.lost old new IsSized (sized old new size (record { first = []; stretches = expiry_stretch accepts b ∷ [] }) t) accepts b (faults.locked b) (λ s. expiry_safe accepts b (story_of old) s expires) t
 
   -- of an update
   pub update_traced : (accepts : Acceptance) (b : Bank) (intent : Intent) (old new : World) → AllowsUpdate G b → (size : size_of old.nv ≡ 32768) → Follows (update_course accepts b intent) old new → Traced G old new
   update_traced accepts b intent old new u size t =
-      update_by G faults old new IsSized (sized old new size (update_course accepts b intent) t) accepts b intent (λ s. updating_allowed G accepts b (h.bank b) intent (story_of old) s u (h.held b (story_of old))) t
+      update_by G faults.lost old new IsSized (sized old new size (update_course accepts b intent) t) accepts b intent (faults.locked b) (λ s. updating_allowed G accepts b (h.bank b) intent (story_of old) s u (h.held b (story_of old))) t

@@ -18,7 +18,7 @@ use Rattle.pfr_story.specs.Course.{Follows}
 use Rattle.pfr_story.specs.Turn.{provision_course, begun}
 use Rattle.pfr_story.proofs.SafetyLaws.{AllSafe-append, past_did, called_safe}
 use Rattle.pfr_story.proofs.Traces.{Traced, Traced-keeps}
-use Rattle.pfr_story.proofs.StepTraces.{AllowsFaults, provision_by}
+use Rattle.pfr_story.proofs.StepTraces.{provision_by}
 use Rattle.pfr_story.proofs.BringRules.{Any}
 
 -- the store did these operations, or a front of them, the last perhaps torn
@@ -84,7 +84,6 @@ provision_stored root old new t =
     let base : Past = past_of old.nv in
     let first : World = begun (event.Provision root) old in
     let plan : List Operation = operations_in root (judged_here root (story_of old)) in
-    let faults : AllowsFaults (Storing plan base) = record { held = λ b story. tt; locked = λ b which story. tt; lost = λ which story. tt } in
     stored_traced plan base first new
-    (provision_by (Storing plan base) faults first new Any (λ w moved. tt) (λ story. story ≡ story_of first) root
+    (provision_by (Storing plan base) (λ which story. tt) first new Any (λ w moved. tt) (λ story. story ≡ story_of first) root (λ b which story. tt)
     (λ story e. (tt, provision_stores plan base root (judged_here root story) story (ap (λ (s : Story). operations_in root (judged_here root s)) e) (ap (λ (s : Story). s.nv) e))) refl t) refl

@@ -27,7 +27,9 @@ use Rattle.pfr_report.specs.Texts.{IsNoted}
 use Rattle.pfr_report.specs.declared.note.LockWhy.{LockWhy}
 use Rattle.pfr_report.specs.declared.note.LockWhy.TheVariants as why
 use Rattle.pfr_report.specs.declared.note.Note.{Note}
-use Rattle.pfr_report.specs.declared.note.What.TheVariants.{Released, Locked, Lost, Untrusted, Restored, Provisioned, ProvisionRefused, Ignored, BusPassed, BusBlocked, SmbusPassed, SmbusBlocked, Expired, Passed, Booted, Updated, Refused, Resumed, Abandoned, RecoveryUpdated, Cancelled}
+use Rattle.pfr_report.specs.declared.note.Refusal.{Refusal}
+use Rattle.pfr_report.specs.declared.note.Refusal.TheVariants as refusing
+use Rattle.pfr_report.specs.declared.note.What.TheVariants.{Power, Held, Released, Locked, Lost, Untrusted, Restored, Provisioned, ProvisionRefused, Ignored, BusPassed, BusBlocked, SmbusPassed, SmbusBlocked, Expired, Passed, Booted, Updated, Refused, Resumed, Abandoned, RecoveryUpdated, Cancelled}
 use Rattle.pfr_report.specs.declared.note.ProvisionWhy.{ProvisionWhy}
 use Rattle.pfr_report.specs.declared.note.What.{What}
 use Rattle.pfr_story.specs.Story.{device_of}
@@ -255,11 +257,43 @@ IsExpiring (event.Tick n) which old = is_due which n (story_of old) ≡ true
 IsExpiring (event.Boot b false) which old = (b ≡ which) × (is_idle (event.Boot b false) (story_of old) ≡ false)
 IsExpiring e which old = ⊥
 
--- An event is noted to be ignored only where it isn't taken; what a provision comes to is noted only at a provision of banks that
+-- intents that an update can be refused with for this cause
+abbrev pub IsRefusedFor : Refusal → Intent → Type 0
+IsRefusedFor (refusing.Capsule cause) intent = intent ≢ Cert
+IsRefusedFor (refusing.Cert cause) intent = intent ≡ Cert
+IsRefusedFor refusing.ManifestDiffers intent = intent ≡ Recovery
+IsRefusedFor refusing.JobsSpent intent = intent ≡ Recovery
+
+abbrev pub IsRefusable : Bank → Refusal → Event → Type 0
+IsRefusable which why (event.Update b intent) = (b ≡ which) × IsRefusedFor why intent
+IsRefusable which why e = ⊥
+
+-- a bank is checked: at a power-on, and where it runs at an update of it
+abbrev pub IsCheck : Bank → Event → World → Type 0
+IsCheck which e old = IsPower e ⊎ (Runs which old × IsUpdateOf which e)
+
+-- a bank is in work: it is checked, or where it runs its watch expires
+abbrev pub IsWork : Bank → Event → World → Type 0
+IsWork which e old = IsCheck which e old ⊎ (Runs which old × IsExpiring e which old)
+
+-- a bank is held: where it is in work, and where it runs at a frame on its SPI bus
+abbrev pub IsHolding : Bank → Event → World → Type 0
+IsHolding which e old = IsWork which e old ⊎ (Runs which old × IsSpi which e)
+
+-- A power-on is noted only at one. A bank is called untrusted only where it is checked, and released or restored only where it is in
+-- work; it is held only there and at a frame on its SPI bus, and locked only at these and at a provision of banks that aren't off. An
+-- event is noted to be ignored only where it isn't taken; what a provision comes to is noted only at a provision of banks that
 -- aren't off; what a frame comes to only at a frame on that bus of that bank, which runs; stages only as they are passed, expiries
--- only where a watch expires, to the next count of recoveries; updates and cancelled keys only at an update of a bank that runs, and
--- jobs that are taken up, or given up, only at a power-on.
+-- only where a watch expires, to the next count of recoveries; updates, refusals and cancelled keys only at an update of a bank that
+-- runs, by what it is to replace; and jobs that are taken up, or given up, only at a power-on. Of a loss of power other promises tell.
 abbrev pub BelongsTo : Event → World → What → Type 0
+BelongsTo e old Power = IsPower e
+BelongsTo e old (Held which at) = IsHolding which e old
+BelongsTo e old (Released which svn at) = IsWork which e old
+BelongsTo e old (Locked which why at) = IsHolding which e old ⊎ (¬ AreOff old × IsProvision e)
+BelongsTo e old (Lost device at) = Unit {0}
+BelongsTo e old (Untrusted which why) = IsCheck which e old
+BelongsTo e old (Restored which level) = IsWork which e old
 BelongsTo e old Ignored = IsIdle e old
 BelongsTo e old Provisioned = ¬ AreOff old × IsProvision e
 BelongsTo e old (ProvisionRefused why) = ¬ AreOff old × IsProvision e
@@ -272,11 +306,10 @@ BelongsTo e old (Passed which stage) = IsPassing which e × IsAtStage which stag
 BelongsTo e old (Booted which) = IsPassing which e × (stage : Stage) × IsAtStage which stage old × (next_stage stage ≡ Done)
 BelongsTo e old (Updated which dynamic svn) = IsPower e ⊎ (Runs which old × IsUpdate which dynamic e)
 BelongsTo e old (Resumed which kind) = IsPower e
-BelongsTo e old (Abandoned which) = IsPower e ⊎ (Runs which old × IsUpdateTo which Recovery e)
+BelongsTo e old (Abandoned which) = IsPower e
 BelongsTo e old (RecoveryUpdated which svn) = IsPower e ⊎ (Runs which old × IsUpdateTo which Recovery e)
 BelongsTo e old (Cancelled type id) = (which : Bank) × Runs which old × IsUpdateTo which Cert e
-BelongsTo e old (Refused which why) = Runs which old × IsUpdateOf which e
-BelongsTo e old what = Unit {0}
+BelongsTo e old (Refused which why) = Runs which old × IsRefusable which why e
 
 abbrev pub NotesBelong : Event → World → World → Type 0
 NotesBelong e old new = (that : What) → IsNoted (added old new) that → BelongsTo e old that

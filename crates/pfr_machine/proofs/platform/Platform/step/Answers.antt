@@ -48,7 +48,7 @@ pub returns-clause-brings_up : goal.returns-clause-brings_up
 returns-clause-brings_up g c = by_turn c.work-done.result c.work-done.ensures.turn (λ t. let s = sizes_before _ c.args.event.now _ _ t c.known-2.ensures.sizes in Turn-brings _ c.args.event.now _ _ s.nv t (have_bytes _ c.known-2.ensures.bytes) s.bmc s.pch)
 
 pub returns-clause-belongs : goal.returns-clause-belongs
-returns-clause-belongs g c = by_turn c.work-done.result c.work-done.ensures.turn (λ t. Turn-belongs _ c.args.event.now _ _ t)
+returns-clause-belongs g c = by_turn c.work-done.result c.work-done.ensures.turn (λ t. let s = sizes_before _ c.args.event.now _ _ t c.known-2.ensures.sizes in Turn-belongs _ c.args.event.now _ _ t (have_bytes _ c.known-2.ensures.bytes) s.bmc s.pch s.nv c.known.ensures.trusted (λ which. (c.known.ensures.spans which).idle) (λ which. (c.known.ensures.spans which).settled))
 
 pub returns-clause-recoverable : goal.returns-clause-recoverable
 returns-clause-recoverable g c = by_turn c.work-done.result c.work-done.ensures.turn (λ t. let s = sizes_before _ c.args.event.now _ _ t c.known-2.ensures.sizes in Turn-recoverable _ c.args.event.now _ _ t (have_bytes _ c.known-2.ensures.bytes) s.bmc s.pch s.nv c.known.ensures.spans)
