@@ -37,7 +37,7 @@ use Rattle.pfr_story.proofs.IdleLaws.{Turn-idle}
 use Rattle.pfr_story.proofs.LossLaws.{Turn-losses, Turn-lost, Turn-off}
 use Rattle.pfr_story.proofs.RecoveryLaws.{Turn-recoverable}
 use Rattle.pfr_story.proofs.RecoveryUpdateLaws.{Turn-updates_recovery}
-use Rattle.pfr_story.proofs.TakesUpLaws.{Turn-takes_up}
+use Rattle.pfr_story.proofs.TakenUp.{Turn-takes_up}
 use Rattle.pfr_story.proofs.RiseLaws.{Turn-counted}
 use Rattle.pfr_story.proofs.UpdateLaws.{Turn-updates}
 use Rattle.pfr_story.proofs.RunLaws.{IsFresh, IsLater, Reached-spans, Reached-releases, Reached-causes, Reached-faults, Reached-told, armed_story, failed_armed}

@@ -29,6 +29,9 @@ pub mod TakenNotes
 pub mod TwoLaws
 pub mod BringLaws
 pub mod TakesUpLaws
+pub mod OtherStands
+pub mod RenewedLaws
+pub mod TakenUp
 pub mod RecoverableLaws
 pub mod Bytes
 pub mod SpanLaws

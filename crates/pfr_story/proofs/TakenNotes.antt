@@ -154,7 +154,7 @@ module _ (accepts : Acceptance) (b : Bank) where
         (deeds_make Whichever (λ w. (at : Counts) → IsOfWork (w at)) b tt tt (recovery_heeding b (mine b story) (store story) capsule.length (layout_of fuses.provision b)))
         (tells_behind RecoveryFromStaging capsule (asks b there) (by_first_pass (what.Abandoned b) told accepts b fuses capsule r there) there (tt, tt) (first_tells r there (first_staged accepts b fuses capsule story staged)))
 
-    staged_of : (story : Story) → CanWork b fuses story → judged_source accepts b fuses RecoveryFromStaging story ≡ Ok capsule → IsStaged accepts b fuses capsule story
+    pub staged_of : (story : Story) → CanWork b fuses story → judged_source accepts b fuses RecoveryFromStaging story ≡ Ok capsule → IsStaged accepts b fuses capsule story
     staged_of story h j =
         let found = found_staged accepts b fuses capsule story h.provisioned h.layout h.bytes j in
         record {
@@ -198,7 +198,7 @@ module _ (accepts : Acceptance) (b : Bank) where
   abbrev CanResume : JobKind → Story → Type 0
   CanResume kind story = IsResumable kind b (mine b story) (store story) accepts
 
-  resumable : (fuses : FusesState) (kind : JobKind) (capsule : CapsuleState) (digest : List ℕ) (story : Story) → CanWork b fuses story → judged_source accepts b fuses kind story ≡ Ok capsule
+  pub resumable : (fuses : FusesState) (kind : JobKind) (capsule : CapsuleState) (digest : List ℕ) (story : Story) → CanWork b fuses story → judged_source accepts b fuses kind story ≡ Ok capsule
       → open_job (store story) b ≡ job.Job kind digest → capsule.digest ≡ digest → IsResumable kind b (mine b story) (store story) accepts
   resumable fuses kind capsule digest story h j opened same =
       let g = source_good fuses kind capsule story h j in

@@ -11,6 +11,7 @@ use Rattle.pfr_flash.specs.declared.names.Device.{Device}
 use Rattle.pfr_flash.specs.declared.names.Device.TheVariants as device
 use Rattle.pfr_engine.specs.Acceptance.{Acceptance}
 use Rattle.pfr_fuses.specs.FusesOf.{fuses_of}
+use Rattle.pfr_capsule.specs.CapsuleState.{CapsuleState}
 use Rattle.pfr_jobs.specs.declared.job.JobKind.{JobKind}
 use Rattle.pfr_jobs.specs.declared.job.JobKind.TheVariants.{RecoveryFromStaging}
 use Rattle.pfr_script.specs.declared.event.Event.{Event}
@@ -23,19 +24,22 @@ use Rattle.pfr_story.specs.Bringing.{IsCalm, IsNotedBehind}
 use Rattle.pfr_story.specs.Causes.{IsResumable, IsGivenUp}
 use Rattle.pfr_story.specs.Course.{Crosses, Faults, LosesPower, Steps, lost}
 use Rattle.pfr_story.specs.Goes.{Stopped}
-use Rattle.pfr_story.specs.JobPromises.{TakesJobsUp, TakesUp, done_note}
+use Rattle.pfr_story.specs.JobPromises.{done_note}
 use Rattle.pfr_story.specs.Plans.{mine, store, brought_up, migrated, migration_in}
 use Rattle.pfr_story.specs.Promises.{AtCounts}
-use Rattle.pfr_story.specs.Story.{Story, Move, Says, after, noted, FailedAt, asking, unbegun, torn, IsCut, device_of}
+use Rattle.pfr_story.specs.Story.{Story, Move, Says, after, noted, past_at, FailedAt, asking, unbegun, torn, IsCut, device_of}
 use Rattle.pfr_story.specs.Turn.{fault_of, bank_stretch, unreadable, fuse_stretch, begun, Turn}
 use Rattle.pfr_story.specs.World.{World, story_of, counts_in, state_at, AllMoved, added}
 use Rattle.pfr_story.proofs.BringLaws.{Front, Crossed, migrated_apart, crossed_writes, faulted_writes, lost_writes, last_writes, crossed_two, faulted_two, migrated_two, can as can_crossed, by_held as by_crossed, held_then as held_crossed, stands_behind, whole_is, own_is, power_crossed}
 use Rattle.pfr_story.proofs.Bytes.{HaveBytes, images_then, mine_sized, bank_sized}
 use Rattle.pfr_story.proofs.Courses.{Steps-moved}
+use Rattle.pfr_story.proofs.Endings.{Ending, faulted_ends, lost_ends}
 use Rattle.pfr_story.proofs.Fronts.{WentOn, crossed_on, faulted_on, lost_on, others_same}
 use Rattle.pfr_story.proofs.Made.{said, said_append, notes_after, noted_first, Whichever, AllSay, Wrote, wrote_then, wrote_by, wrote_cut, never_noted, noted_left, behind_within, added_is, only_between}
 use Rattle.pfr_story.proofs.NoteLaws.{at_moment}
+use Rattle.pfr_story.proofs.OtherStands.{IsThereBy, there_left}
 use Rattle.pfr_story.proofs.SafetyLaws.{image_noted, AllMake-called}
+use Rattle.pfr_story.proofs.StoreLeft.{IsLeft, brought_leaves, left_cut, left_whole}
 use Rattle.pfr_story.proofs.TailLaws.{IsOf, Apart, behind}
 use Rattle.pfr_story.proofs.TakenLaws.{IsOfJob, CanTake, taken, checked_at, said_parts, taken_of}
 use Rattle.pfr_story.proofs.TakenNotes.{behind_of, resumed_caused, abandoned_caused, resumed_done, given_up_noted}
@@ -51,7 +55,7 @@ none_last which here _ _ (unbegun op) that n = n
 none_last which here _ _ (torn op done t) that n = n
 
 -- are among those of the whole
-cut_said : (which : Device) (moves trace : List Move) (story : Story) → IsCut which moves story trace → (that : What) → IsNoted (said trace story) that → IsNoted (said moves story) that
+pub cut_said : (which : Device) (moves trace : List Move) (story : Story) → IsCut which moves story trace → (that : What) → IsNoted (said trace story) that → IsNoted (said moves story) that
 cut_said which moves trace story c that n =
     let here : Story = after c.front story in
     let is : said trace story ≡ said c.front story ++ said c.last here = ap (λ (all : List Move). said all story) c.is ∙ said_append c.front c.last story in
@@ -61,7 +65,7 @@ cut_said which moves trace story c that n =
     ]
 
 -- a note at a call that failed
-abbrev IsEnd : What → Type 0
+abbrev pub IsEnd : What → Type 0
 IsEnd (what.Locked b cause at) = Unit {0}
 IsEnd (what.Lost d at) = Unit {0}
 IsEnd that = ⊥
@@ -79,6 +83,10 @@ module _ (accepts : Acceptance) (first new : World) where
   pub record Begun (which : Bank) : Type 0 where
     pub at : World
     pub end : World
+    pub ended : Ending which (Unit {0}) (brought_up accepts which (story_of at)) (story_of at) (story_of end)
+    -- the other bank's part, if one is behind it, leaves the bank, and the capsule in its recovery area
+    pub same : past_at (device_of which) (story_of new) ≡ past_at (device_of which) (story_of end)
+    pub left : (image : List ℕ) (capsule : CapsuleState) → IsThereBy accepts which image capsule (store (story_of end)) → IsThereBy accepts which image capsule (store (story_of new))
     pub own : Wrote (IsOwnNote which at) at end
     pub before : Wrote (Apart which) first at
     pub behind : Wrote (Apart which) end new
@@ -115,10 +123,26 @@ module _ (accepts : Acceptance) (first new : World) where
   nothing_more : (which : Bank) → Wrote (Apart which) new new
   nothing_more which = wrote_by (Apart which) [] new new refl tt
 
+  steps_left : (c : Bank) (I : List ℕ → Type 0) (left : IsLeft I c) (mid : World) → length (store (story_of mid)) ≡ 32768 → Steps (bank_stretch accepts c ∷ []) mid new → I (store (story_of mid)) → I (store (story_of new))
+  steps_left c I left mid size (inl (end, k, ends)) i =
+      subst (λ (s : Story). I (store s)) (sym (ends.is ∙ k.is))
+      (left_whole accepts I c left (brought_up accepts c (story_of mid)) (story_of mid) (brought_leaves accepts I c left (story_of mid) size) (size, i))
+  steps_left c I left mid size (inr (inl (end, f, ends))) i =
+      let made = left_cut accepts I c left f.which (brought_up accepts c (story_of mid)) f.stopped.trace (story_of mid) (brought_leaves accepts I c left (story_of mid) size) f.stopped.cut (size, i) in
+      let there : I (store (story_of f.at)) = subst (λ (s : Story). I (store s)) (sym f.stopped.is) made in
+      subst (λ (s : Story). I (store s)) (sym (ends.is ∙ f.noted.is)) there
+  steps_left c I left mid size (inr (inr l)) i =
+      let made = left_cut accepts I c left l.which (brought_up accepts c (story_of mid)) l.stopped.trace (story_of mid) (brought_leaves accepts I c left (story_of mid) size) l.stopped.cut (size, i) in
+      let there : I (store (story_of l.at)) = subst (λ (s : Story). I (store s)) (sym l.stopped.is) made in
+      subst (λ (s : Story). I (store s)) (sym l.noted.is) there
+
   bmc_begun : (w : World) → Front accepts first new w → Steps (bank_stretch accepts bank.Bmc ∷ bank_stretch accepts bank.Pch ∷ []) w new → Begun bank.Bmc
   bmc_begun w front (inl (mid, c, rest)) = record {
     at = w;
     end = mid;
+    ended = inl c.is;
+    same = others_same accepts bank.Bmc new bank.Pch (λ e. cc) mid rest;
+    left = λ image capsule i. steps_left bank.Pch (IsThereBy accepts bank.Bmc image capsule) (there_left accepts bank.Bmc bank.Pch (λ e. cc) image capsule) mid (crossed_two accepts first new bank.Bmc w mid front.two c).size rest i;
     own = crossed_own bank.Bmc w mid c;
     before = front.apart bank.Bmc;
     behind = last_writes accepts first new bank.Pch bank.Bmc (λ e. cc) mid (crossed_two accepts first new bank.Bmc w mid front.two c) rest;
@@ -129,6 +153,9 @@ module _ (accepts : Acceptance) (first new : World) where
   bmc_begun w front (inr (inl (mid, f, rest))) = record {
     at = w;
     end = mid;
+    ended = faulted_ends (bank_stretch accepts bank.Bmc) bank.Bmc (Unit {0}) (λ d. refl) w mid f;
+    same = others_same accepts bank.Bmc new bank.Pch (λ e. cc) mid rest;
+    left = λ image capsule i. steps_left bank.Pch (IsThereBy accepts bank.Bmc image capsule) (there_left accepts bank.Bmc bank.Pch (λ e. cc) image capsule) mid (faulted_two accepts first new bank.Bmc w mid front.two f).size rest i;
     own = faulted_own bank.Bmc w mid f;
     before = front.apart bank.Bmc;
     behind = last_writes accepts first new bank.Pch bank.Bmc (λ e. cc) mid (faulted_two accepts first new bank.Bmc w mid front.two f) rest;
@@ -139,6 +166,9 @@ module _ (accepts : Acceptance) (first new : World) where
   bmc_begun w front (inr (inr l)) = record {
     at = w;
     end = new;
+    ended = lost_ends (bank_stretch accepts bank.Bmc) bank.Bmc (Unit {0}) (λ d. refl) w tt new l;
+    same = refl;
+    left = λ image capsule i. i;
     own = lost_own bank.Bmc w new l;
     before = front.apart bank.Bmc;
     behind = nothing_more bank.Bmc;
@@ -151,6 +181,9 @@ module _ (accepts : Acceptance) (first new : World) where
   last_begun w front two (inl (mid, c, ends)) = record {
     at = w;
     end = mid;
+    ended = inl c.is;
+    same = ap (λ (s : Story). past_at device.Pch s) ends.is;
+    left = λ image capsule i. subst (λ (s : Story). IsThereBy accepts bank.Pch image capsule (store s)) (sym ends.is) i;
     own = crossed_own bank.Pch w mid c;
     before = front;
     behind = wrote_by (Apart bank.Pch) [] mid new ends.is tt;
@@ -161,6 +194,9 @@ module _ (accepts : Acceptance) (first new : World) where
   last_begun w front two (inr (inl (mid, f, ends))) = record {
     at = w;
     end = mid;
+    ended = faulted_ends (bank_stretch accepts bank.Pch) bank.Pch (Unit {0}) (λ d. refl) w mid f;
+    same = ap (λ (s : Story). past_at device.Pch s) ends.is;
+    left = λ image capsule i. subst (λ (s : Story). IsThereBy accepts bank.Pch image capsule (store s)) (sym ends.is) i;
     own = faulted_own bank.Pch w mid f;
     before = front;
     behind = wrote_by (Apart bank.Pch) [] mid new ends.is tt;
@@ -171,6 +207,9 @@ module _ (accepts : Acceptance) (first new : World) where
   last_begun w front two (inr (inr l)) = record {
     at = w;
     end = new;
+    ended = lost_ends (bank_stretch accepts bank.Pch) bank.Pch (Unit {0}) (λ d. refl) w tt new l;
+    same = refl;
+    left = λ image capsule i. i;
     own = lost_own bank.Pch w new l;
     before = front;
     behind = nothing_more bank.Pch;
@@ -227,7 +266,7 @@ module _ (accepts : Acceptance) (first new : World) where
     precedes : Precedes held (story_of new)
     precedes = let p = precedes_moved c.at new c.moved in record { bmc = p.bmc; pch = p.pch; nv = p.nv }
 
-    can : CanTake which held
+    pub can : CanTake which held
     can = record {
       two = c.two.two;
       size = subst IsBankSize (sym (ap (λ (xs : List ℕ). length xs) (image_noted (device_of which) (what.Held which) (story_of c.at)) ∙ mine_sized which c.at new c.moved)) bank_size;
@@ -235,7 +274,7 @@ module _ (accepts : Acceptance) (first new : World) where
       store_size = c.two.size;
     }
 
-    own_noted : (that : What) → IsOf which that → ¬ IsEnd that → IsNoted (added first new) that
+    pub own_noted : (that : What) → IsOf which that → ¬ IsEnd that → IsNoted (added first new) that
         → (what.Held which (counts_in c.at) ≡ that) ⊎ IsNoted (said (taken accepts which held) held) that ⊎ IsNoted (behind accepts which (checked_at accepts which held)) that
     own_noted that of other n =
         let work : List Note = said (taken accepts which held) held in
@@ -327,18 +366,18 @@ module _ (accepts : Acceptance) (first new : World) where
     still_held : (at : Counts) (that : What) → IsNoted (added first new) (what.Held which at) → IsNotedBehind (what.Held which (counts_in c.at)) that (added first new) → IsNotedBehind (what.Held which at) that (added first new)
     still_held at that n k = subst (λ (counts : Counts). IsNotedBehind (what.Held which counts) that (added first new)) (sym (held_crossed accepts first new have which c bank_size at n)) k
 
-    resumes_at : (at : Counts) → IsNoted (added first new) (what.Held which at) → (kind : JobKind) → AtCounts (λ image nv. IsResumable kind which image nv accepts) which at new
+    pub resumes_at : (at : Counts) → IsNoted (added first new) (what.Held which at) → (kind : JobKind) → AtCounts (λ image nv. IsResumable kind which image nv accepts) which at new
         → IsNotedBehind (what.Held which at) (what.Resumed which kind) (added first new)
     resumes_at at n kind =
         from_held (λ image nv. IsResumable kind which image nv accepts → IsNotedBehind (what.Held which at) (what.Resumed which kind) (added first new)) at n
         (λ r. still_held at (what.Resumed which kind) n (resumes_held kind r))
 
-    abandons_at : (at : Counts) → IsNoted (added first new) (what.Held which at) → AtCounts (λ image nv. IsGivenUp which image nv accepts) which at new
+    pub abandons_at : (at : Counts) → IsNoted (added first new) (what.Held which at) → AtCounts (λ image nv. IsGivenUp which image nv accepts) which at new
         → IsNotedBehind (what.Held which at) (what.Abandoned which) (added first new)
     abandons_at at n =
         from_held (λ image nv. IsGivenUp which image nv accepts → IsNotedBehind (what.Held which at) (what.Abandoned which) (added first new)) at n (λ g. still_held at (what.Abandoned which) n (abandons_held g))
 
-    told_at : (at : Counts) → IsNoted (added first new) (what.Held which at) → (kind : JobKind) → AtCounts (IsTold kind) which at new
+    pub told_at : (at : Counts) → IsNoted (added first new) (what.Held which at) → (kind : JobKind) → AtCounts (IsTold kind) which at new
     told_at at n kind = from_held (IsTold kind) at n (told_held kind)
 
 module _ (accepts : Acceptance) (old new : World) (size : size_of old.nv ≡ 32768) (t : Turn accepts event.Power old new) (have : HaveBytes new) (bmc : IsBankSize (size_of old.bmc)) (pch : IsBankSize (size_of old.pch)) (which : Bank) where
@@ -360,31 +399,10 @@ module _ (accepts : Acceptance) (old new : World) (size : size_of old.nv ≡ 327
   resumed_by at h kind (inl c) n = resumed_at accepts start new have which new_size c at h kind n
   resumed_by at h kind (inr w) n = absurd (never_noted (IsUnjobbed which) start new w (what.Resumed which kind) n refl tt)
 
-  abandoned_by : (at : Counts) → IsNoted (added old new) (what.Held which at) → IsReached accepts (begun event.Power old) new which → IsNoted (added old new) (what.Abandoned which)
+  pub abandoned_by : (at : Counts) → IsNoted (added old new) (what.Held which at) → IsReached accepts (begun event.Power old) new which → IsNoted (added old new) (what.Abandoned which)
       → AtCounts (λ image nv. IsGivenUp which image nv accepts) which at new
   abandoned_by at h (inl c) n = abandoned_at accepts start new have which new_size c at h n
   abandoned_by at h (inr w) n = absurd (never_noted (IsUnjobbed which) start new w (what.Abandoned which) n refl tt)
 
-  crossed : IsCalm which (added old new) → Crossed accepts (begun event.Power old) new which
+  pub crossed : IsCalm which (added old new) → Crossed accepts (begun event.Power old) new which
   crossed calm = power_crossed accepts old new size t bmc pch which calm
-
-  takes_up : (at : Counts) → IsNoted (added old new) (what.Held which at) → TakesUp accepts which new (added old new) at
-  takes_up at h = record {
-    resumed = λ kind n. resumed_by at h kind reached n;
-    resumes = λ kind calm r. resumes_at accepts start new have which (crossed calm) new_size at h kind r;
-    abandoned = λ n. abandoned_by at h reached n;
-    abandons = λ calm g. abandons_at accepts start new have which (crossed calm) new_size at h g;
-    done = λ kind calm. told_at accepts start new have which (crossed calm) new_size at h kind;
-  }
-
--- Each bank that is held in a power-on takes its open job up, or gives it up.
-pub Turn-takes_up : (accepts : Acceptance) (e : Event) (old new : World) → size_of old.nv ≡ 32768 → Turn accepts e old new → HaveBytes new → IsBankSize (size_of old.bmc) → IsBankSize (size_of old.pch)
-    → TakesJobsUp e accepts old new
-Turn-takes_up accepts event.Power old new size t have bmc pch = λ which at h. takes_up accepts old new size t have bmc pch which at h
-Turn-takes_up accepts event.Off old new size t have bmc pch = tt
-Turn-takes_up accepts (event.Provision root) old new size t have bmc pch = tt
-Turn-takes_up accepts (event.Spi b frame) old new size t have bmc pch = tt
-Turn-takes_up accepts (event.Smbus b frame) old new size t have bmc pch = tt
-Turn-takes_up accepts (event.Tick n) old new size t have bmc pch = tt
-Turn-takes_up accepts (event.Boot b pass) old new size t have bmc pch = tt
-Turn-takes_up accepts (event.Update b intent) old new size t have bmc pch = tt

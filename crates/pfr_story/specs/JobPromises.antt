@@ -65,6 +65,10 @@ pub record TakesUp (accepts : Acceptance) (which : Bank) (new : World) (notes : 
   -- then is noted.
   pub done : (kind : JobKind) → IsCalm which notes → (r : AtCounts (λ image nv. IsResumable kind which image nv accepts) which at new)
       → (svn : ℕ) × (¬ (kind ≡ RecoveryFromStaging) → svn ≡ r.good.capsule.manifest.svn) × IsNotedBehind (Resumed which kind) (done_note which kind svn) notes
+  -- Where an update of the recovery area is noted, such a job was open, and its capsule stands good there at the end, with the security
+  -- version number that was noted.
+  pub renewed : (svn : ℕ) → IsNoted notes (RecoveryUpdated which svn) → (r : AtCounts (λ image nv. IsResumable RecoveryFromStaging which image nv accepts) which at new)
+      × (g : HasGoodRecovery which (now (state_at (device_of which) new)) (now new.nv) accepts) × (svn ≡ g.good.capsule.manifest.svn) × (g.good.capsule.digest ≡ r.good.capsule.digest)
 
 -- Each bank that is held in a power-on takes its open job up.
 abbrev pub TakesJobsUp : Event → Acceptance → World → World → Type 0

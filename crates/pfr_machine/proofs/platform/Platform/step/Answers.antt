@@ -20,7 +20,7 @@ use Rattle.pfr_story.proofs.RecoveryUpdateLaws.{Turn-updates_recovery}
 use Rattle.pfr_story.proofs.RiseLaws.{Turn-counted}
 use Rattle.pfr_story.proofs.CancelLaws.{Turn-cancels}
 use Rattle.pfr_story.proofs.ChangeLaws.{Turn-changes}
-use Rattle.pfr_story.proofs.TakesUpLaws.{Turn-takes_up}
+use Rattle.pfr_story.proofs.TakenUp.{Turn-takes_up}
 use Rattle.pfr_story.proofs.Turns.{Turn-calm, Turn-moved}
 use Rattle.pfr_story.proofs.UpdateLaws.{Turn-updates}
 use Rattle.pfr_machine.proofs.TurnLemmas.{by_both, by_turn, sizes_before}
