@@ -60,7 +60,7 @@ same_pasts b L moves from to safe e =
 pub same_counts : (from to : Story) → SamePasts from to → counts_of to ≡ counts_of from
 same_counts from to p = let bmc = p.bmc in let pch = p.pch in let nv = p.nv in cc
 
-same_mine : (b : Bank) (from to : Story) → SamePasts from to → mine b to ≡ mine b from
+pub same_mine : (b : Bank) (from to : Story) → SamePasts from to → mine b to ≡ mine b from
 same_mine bank.Bmc from to p = let same = p.bmc in cc
 same_mine bank.Pch from to p = let same = p.pch in cc
 

@@ -36,6 +36,7 @@ use Rattle.pfr_jobs.specs.LogState.{is_spent}
 use Rattle.pfr_jobs.specs.declared.job.JobKind.TheVariants.{RecoveryFromStaging}
 use Rattle.pfr_jobs.specs.declared.job.OpenJob.TheVariants as job
 use Rattle.pfr_jobs.proofs.SlotLaw.{IsDigest}
+use Rattle.pfr_rebuilt.specs.Copying.{recovery_rebuilt}
 use Rattle.pfr_rebuilt.specs.Passing.{recovery_heeding, recovery_ignoring}
 use Rattle.pfr_recoverable.specs.Recoverable.{HasGoodRecovery}
 use Rattle.pfr_recoverable.proofs.StaysLaw.{fuses_one}
@@ -234,6 +235,7 @@ pub record IsCopying (given_up : What) (told : ℕ → What) (accepts : Acceptan
   pub front : List Move
   pub is : recovery_job given_up told accepts b fuses capsule story ≡ front ++ Says (λ _. told capsule.manifest.svn) ∷ []
   pub quiet : AllMake (IsOwn b) NoNote front
+  pub image : mine b (after (recovery_job given_up told accepts b fuses capsule story) story) ≡ recovery_rebuilt (mine b story) (layout_of fuses.provision b).staging_at capsule.length (layout_of fuses.provision b)
   pub svn : ℕ
   pub jobless : IsJobless b (raised fuses b svn) (after (recovery_job given_up told accepts b fuses capsule story) story)
   pub standing : IsStanding accepts b (raised fuses b svn) capsule (after (recovery_job given_up told accepts b fuses capsule story) story)
@@ -298,6 +300,7 @@ module _ (given_up : What) (told : ℕ → What) (accepts : Acceptance) (b : Ban
         front = job_told.front;
         is = job_told.is ∙ ap (λ (m : Manifest). job_told.front ++ Says (λ _. told m.svn) ∷ []) manifest;
         quiet = job_told.quiet;
+        image = ends.image;
         svn = replaced.svn;
         jobless = replaced.jobless;
         standing = standing_as accepts b now job_told.found capsule (mine b new) (store new) digest manifest

@@ -14,15 +14,18 @@ use Rattle.pfr_fuses.specs.Changes.{raised}
 use Rattle.pfr_fuses.specs.FusesState.{FusesState}
 use Rattle.pfr_fuses.specs.RootSlot.{layout_of}
 use Rattle.pfr_fuses.specs.declared.profile.Profile.TheVariants.{Two}
+use Rattle.pfr_manifest.specs.declared.manifest.Manifest.{Manifest}
 use Rattle.pfr_capsule.specs.CapsuleState.{CapsuleState}
 use Rattle.pfr_capsule.specs.declared.fail.CapsuleFail.{CapsuleFail}
 use Rattle.pfr_capsule.proofs.GoodLaw.{good_found}
 use Rattle.pfr_auth.specs.Trusted.{IsTrusted}
 use Rattle.pfr_auth.specs.Judge.{judge_active}
+use Rattle.pfr_auth.specs.declared.fail.ActiveFail.{ActiveFail}
 use Rattle.pfr_jobs.specs.Log.{open_job}
 use Rattle.pfr_jobs.specs.LogState.{is_spent}
 use Rattle.pfr_jobs.specs.declared.job.JobKind.TheVariants.{ActiveFromRecovery}
 use Rattle.pfr_jobs.specs.declared.job.OpenJob.TheVariants as job
+use Rattle.pfr_rebuilt.specs.Copying.{recovery_rebuilt}
 use Rattle.pfr_recoverable.specs.Recoverable.{HasGoodRecovery}
 use Rattle.pfr_recoverable.proofs.StaysLaw.{fuses_one}
 use Rattle.pfr_script.specs.declared.event.Event.{Event}
@@ -43,14 +46,14 @@ use Rattle.pfr_story.specs.Safety.{AllSafe, AllMake}
 use Rattle.pfr_story.specs.Keeping.{IsSettled}
 use Rattle.pfr_story.specs.JobContents.{CanWork}
 use Rattle.pfr_story.specs.JobPlans.{recovery_job}
-use Rattle.pfr_story.specs.Plans.{mine, store, ready_of, judged_active, judged_staging, restored, checked_then}
+use Rattle.pfr_story.specs.Plans.{mine, store, ready_of, judged_active, judged_recovery, judged_staging, restored, by_recovery, by_active, by_fuses, checked_then}
 use Rattle.pfr_story.specs.UpdatePlans.{refused_so, has_manifest, by_room, by_manifest, by_new_recovery, updated_with, updating}
 use Rattle.pfr_story.specs.Standing.{standing_of}
 use Rattle.pfr_story.specs.Turn.{update_stretch, update_course, begun, Turn}
 use Rattle.pfr_story.specs.Causes.{HasBadStaging}
 use Rattle.pfr_story.specs.Promises.{AtCounts, Runs, RunningHasNoJob}
 use Rattle.pfr_story.specs.Bringing.{IsCalm}
-use Rattle.pfr_story.specs.JobPromises.{HasStagedFor, UpdatesRecovery, RecoveryUpdates}
+use Rattle.pfr_story.specs.JobPromises.{HasStagedFor, IsCopiedFrom, UpdatesRecovery, RecoveryUpdates}
 use Rattle.pfr_story.proofs.Sequence.{after-append}
 use Rattle.pfr_story.proofs.SafetyLaws.{AllSafe-append, image_noted, kept_by}
 use Rattle.pfr_story.proofs.RestoreLaws.{stand_for, found_staged}
@@ -65,7 +68,7 @@ use Rattle.pfr_story.proofs.Entry.{TrustedRunning, trusted_here, trusted_ready, 
 use Rattle.pfr_story.proofs.Endings.{IsTrouble, IsBroken, Ending, single_ends, ended_trace, ended_is, ended_good, ends_whole, over_alone, ends_behind, ends_parts}
 use Rattle.pfr_story.proofs.FoundLaws.{found_begins}
 use Rattle.pfr_story.proofs.JobFront.{NoNote}
-use Rattle.pfr_story.proofs.JobLaws.{Still, same_pasts, same_counts, IsOther}
+use Rattle.pfr_story.proofs.JobLaws.{Still, same_pasts, same_counts, same_mine, IsOther}
 use Rattle.pfr_story.proofs.JobQuiet.{told_jobs}
 use Rattle.pfr_story.proofs.JobWalks.{job_allowed, store_sized}
 use Rattle.pfr_story.proofs.RecoveryTail.{Tame, IsStanding, tame_keeps, tail_tame}
@@ -310,18 +313,60 @@ module _ (accepts : Acceptance) (b : Bank) (fuses : FusesState) (first new : Wor
     abbrev IsThere : Story → Type 0
     IsThere story = IsStanding accepts b fuses_then capsule story
 
-    -- the check leaves it
-    stands_behind : Ending b (Unit {0}) (Says (λ _. that) ∷ checked_then accepts b done) (after working there) (story_of new) → IsThere (story_of new)
-    stands_behind e =
-        let G = Tame b (layout_of fuses_then.provision b).recovery_at (layout_of fuses_then.provision b).area_len in
+    -- how the check behind it ended
+    tail_ends : Ending b (Unit {0}) (Says (λ _. that) ∷ checked_then accepts b done) (after working there) (story_of new) → Ending b (Unit {0}) (checked_then accepts b done) done (story_of new)
+    tail_ends e =
         let told_story : Story = noted (λ _. that) (after working there) in
         let is : done ≡ told_story = ap (λ (moves : List Move). after moves there) c.is ∙ after-append c.front (Says (λ _. that) ∷ []) there in
+        subst (λ (s : Story). Ending b (Unit {0}) (checked_then accepts b done) s (story_of new)) (sym is) (ends_behind b (Unit {0}) (λ _. that) (checked_then accepts b done) (after working there) (story_of new) e)
+
+    -- the check leaves it
+    stands_behind : Ending b (Unit {0}) (checked_then accepts b done) done (story_of new) → IsThere (story_of new)
+    stands_behind last =
+        let G = Tame b (layout_of fuses_then.provision b).recovery_at (layout_of fuses_then.provision b).area_len in
         let tail : List Move = checked_then accepts b done in
-        let last : Ending b (Unit {0}) tail done (story_of new) =
-        subst (λ (s : Story). Ending b (Unit {0}) tail s (story_of new)) (sym is) (ends_behind b (Unit {0}) (λ _. that) tail (after working there) (story_of new) e) in
         let good = ended_good b (Unit {0}) tail done (story_of new) G (tail_tame accepts b fuses_then done c.jobless) (λ which w story trouble. tt) last in
         subst IsThere (sym (ended_is b (Unit {0}) tail done (story_of new) last))
         (kept_by G IsThere (tame_keeps accepts b fuses_then capsule) (ended_trace b (Unit {0}) tail done (story_of new) last) done good c.standing)
+
+    -- ---- where the image isn't called untrusted the check changes nothing
+    abbrev NoneCalled : Type 0
+    NoneCalled = (cause : ActiveFail) → ¬ IsNoted (added first new) (what.Untrusted b cause)
+
+    called_noted : (cause : ActiveFail) (more : List Move) → Ending b (Unit {0}) (Says (λ _. what.Untrusted b cause) ∷ more) done (story_of new) → IsNoted (added first new) (what.Untrusted b cause)
+    called_noted cause more e =
+        let w : Counts → What = λ _. what.Untrusted b cause in
+        let rest : Ending b (Unit {0}) more (noted w done) (story_of new) = ends_behind b (Unit {0}) w more done (story_of new) e in
+        let trace : List Move = Says w ∷ ended_trace b (Unit {0}) more (noted w done) (story_of new) rest in
+        let moves : List Move = job_moves accepts b fuses start capsule in
+        make_noted (moves ++ trace) (ended_is b (Unit {0}) more (noted w done) (story_of new) rest ∙ sym (after-append moves trace there)) (what.Untrusted b cause)
+        (inr (noted_next moves trace there (what.Untrusted b cause) (inl refl)))
+
+    still_there : (moves : List Move) → AllSafe Still moves done → Ending b (Unit {0}) moves done (story_of new) → mine b (story_of new) ≡ mine b done
+    still_there moves safe e = same_mine b done (story_of new) (same_pasts b (Unit {0}) moves done (story_of new) safe e)
+
+    active_still : NoneCalled → (f : FusesState) (r : Result Manifest ActiveFail) → Ending b (Unit {0}) (Asks (device_of b) ∷ by_active accepts b f r done) done (story_of new) → mine b (story_of new) ≡ mine b done
+    active_still none f (Ok m) e = still_there (Asks (device_of b) ∷ Says (what.Released b m.svn) ∷ []) (tt, (tt, tt)) e
+    active_still none f (Err cause) e =
+        let told_story : Story = noted (λ _. what.Untrusted b cause) done in
+        let more : List Move = Asks (device_of b) ∷ by_recovery accepts b f cause (judged_recovery accepts b f told_story) told_story in
+        elim (ends_parts b (Unit {0}) (Asks (device_of b) ∷ []) (Says (λ _. what.Untrusted b cause) ∷ more) done (story_of new) e) [
+          | inl broken ↦ still_there (Asks (device_of b) ∷ []) (tt, tt) (inr broken)
+          | inr told_so ↦ absurd (none cause (called_noted cause more told_so))
+        ]
+
+    tail_still : NoneCalled → (r : Result FusesState LockWhy) → Ending b (Unit {0}) (by_fuses accepts b r done) done (story_of new) → mine b (story_of new) ≡ mine b done
+    tail_still none (Ok f) e = active_still none f (judged_active accepts b f done) e
+    tail_still none (Err why) e = still_there (Says (what.Locked b why) ∷ []) (tt, tt) e
+
+    replaced_so : IsNoted (added first new) that → NoneCalled → mine b (story_of new) ≡ recovery_rebuilt (mine b there) (layout_of fuses.provision b).staging_at capsule.length (layout_of fuses.provision b)
+    replaced_so n none =
+        let here : Ending b (Unit {0}) (working ++ (Says (λ _. that) ∷ checked_then accepts b done)) there (story_of new) =
+        subst (λ (moves : List Move). Ending b (Unit {0}) moves there (story_of new)) (room_is capsule false staged free ∙ parts) behind in
+        elim (ends_parts b (Unit {0}) working (Says (λ _. that) ∷ checked_then accepts b done) there (story_of new) here) [
+          | inl broken ↦ absurd (untold broken n)
+          | inr told ↦ tail_still none (ready_of b done) (tail_ends told) ∙ c.image
+        ]
 
     stands : IsNoted (added first new) that → IsThere (story_of new)
     stands n =
@@ -329,7 +374,7 @@ module _ (accepts : Acceptance) (b : Bank) (fuses : FusesState) (first new : Wor
         subst (λ (moves : List Move). Ending b (Unit {0}) moves there (story_of new)) (room_is capsule false staged free ∙ parts) behind in
         elim (ends_parts b (Unit {0}) working (Says (λ _. that) ∷ checked_then accepts b done) there (story_of new) here) [
           | inl broken ↦ absurd (untold broken n)
-          | inr told ↦ stands_behind told
+          | inr told ↦ stands_behind (tail_ends told)
         ]
 
     abbrev IsRecoveredBy : List ℕ → List ℕ → List ℕ → Type 0
@@ -385,6 +430,21 @@ module _ (accepts : Acceptance) (b : Bank) (fuses : FusesState) (first new : Wor
       let r = recovered capsule k.1 k.2 (subst (λ (x : ℕ). IsNoted (added first new) (what.RecoveryUpdated b x)) (sym same) n) in
       (s.0, sym same ∙ ap (λ (x : CapsuleState). x.manifest.svn) (sym s.1), r.0, r.1 ∙ ap (λ (x : CapsuleState). x.digest) (sym s.1))
 
+  replaced_from : (svn : ℕ) → IsNoted (added first new) (what.RecoveryUpdated b svn) → ((cause : ActiveFail) → ¬ IsNoted (added first new) (what.Untrusted b cause))
+      → IsCopiedFrom b (mine b there) (store there) accepts (now (state_at (device_of b) new))
+  replaced_from svn n none =
+      let k = (known (what.RecoveryUpdated b svn) n).1 in
+      let capsule : CapsuleState = k.0 in
+      let s = has_staged true capsule k.1 in
+      let image = replaced_so capsule k.1 k.2 (subst (λ (x : ℕ). IsNoted (added first new) (what.RecoveryUpdated b x)) (sym k.3) n) none in
+      let one : fuses ≡ s.0.staged.fuses = fuses_one (store there) fuses s.0.staged.fuses can.provisioned s.0.staged.provisioned in
+      record {
+        from = s.0;
+        is = sym (image_in b new) ∙ image
+            ∙ ap (λ (f : FusesState). recovery_rebuilt (mine b there) (layout_of f.provision b).staging_at capsule.length (layout_of f.provision b)) one
+            ∙ ap (λ (x : CapsuleState). recovery_rebuilt (mine b there) (layout_of s.0.staged.fuses.provision b).staging_at x.length (layout_of s.0.staged.fuses.provision b)) (sym s.1);
+      }
+
   abbrev IsSpentFor : Bool → List ℕ → List ℕ → Type 0
   IsSpentFor spent image nv = HasStagedFor true b image nv accepts × (is_spent nv b ≡ spent)
 
@@ -400,6 +460,7 @@ module _ (accepts : Acceptance) (b : Bank) (fuses : FusesState) (first new : Wor
     refuses_spent = λ calm. by_counts (λ image nv. IsSpentFor true image nv → IsNoted (added first new) (what.Refused b refusing.JobsSpent))
         (λ h. refuses_spent h.0.staged.good.capsule calm (staged_for true h.0) h.1);
     updated = λ svn n. by_counts (IsUpdatedFrom svn) (updated_from svn n);
+    replaced = λ svn n none. by_counts (λ image nv. IsCopiedFrom b image nv accepts (now (state_at (device_of b) new))) (replaced_from svn n none);
     updates = λ calm. by_counts (λ image nv. (h : IsSpentFor false image nv) → IsNoted (added first new) (what.RecoveryUpdated b h.0.staged.good.capsule.manifest.svn))
         (λ h. updates_so h.0.staged.good.capsule calm (staged_for true h.0) h.1);
     writes_nothing = λ why n. writes_nothing t why n;

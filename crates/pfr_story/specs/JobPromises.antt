@@ -16,6 +16,7 @@ use Rattle.pfr_capsule.specs.Good.{IsGood}
 use Rattle.pfr_auth.specs.Areas.{judge_area}
 use Rattle.pfr_auth.specs.Judge.{judge_active}
 use Rattle.pfr_auth.specs.declared.areas.Area.TheVariants as Area
+use Rattle.pfr_auth.specs.declared.fail.ActiveFail.{ActiveFail}
 use Rattle.pfr_cert.specs.Applying.{judge_apply}
 use Rattle.pfr_cert.specs.Judge.{judge_cert}
 use Rattle.pfr_cert.specs.declared.cert.Cert.{Cert}
@@ -26,7 +27,7 @@ use Rattle.pfr_jobs.specs.declared.job.JobKind.{JobKind}
 use Rattle.pfr_jobs.specs.declared.job.JobKind.TheVariants.{ActiveFromRecovery, ActiveFromStaging, RecoveryFromStaging}
 use Rattle.pfr_jobs.specs.declared.job.OpenJob.TheVariants as job
 use Rattle.pfr_rebuilt.specs.ActiveCopying.{active_page, active_pages}
-use Rattle.pfr_rebuilt.specs.Copying.{recovery_page, recovery_pages}
+use Rattle.pfr_rebuilt.specs.Copying.{recovery_page, recovery_pages, recovery_rebuilt}
 use Rattle.pfr_rebuilt.specs.Passing.{group_pages, left_pages}
 use Rattle.pfr_recoverable.specs.Recoverable.{HasGoodRecovery}
 use Rattle.pfr_strokes.specs.Strokes.{strokes_of}
@@ -38,7 +39,7 @@ use Rattle.pfr_report.specs.declared.note.Note.{Note}
 use Rattle.pfr_report.specs.declared.note.Refusal.{Refusal}
 use Rattle.pfr_report.specs.declared.note.Refusal.TheVariants as refusing
 use Rattle.pfr_report.specs.declared.note.What.{What}
-use Rattle.pfr_report.specs.declared.note.What.TheVariants.{Held, Resumed, Abandoned, Restored, Updated, RecoveryUpdated, Cancelled, Refused, Released}
+use Rattle.pfr_report.specs.declared.note.What.TheVariants.{Held, Resumed, Abandoned, Restored, Updated, RecoveryUpdated, Cancelled, Refused, Released, Untrusted}
 use Rattle.pfr_story.specs.Story.{device_of}
 use Rattle.pfr_story.specs.World.{World, state_at, counts_in, added}
 use Rattle.pfr_story.specs.Causes.{HasBadStaging, HasGoodStaging, IsResumable, IsGivenUp}
@@ -137,6 +138,11 @@ pub record HasStagedFor (same : Bool) (which : Bank) (image nv : List ℕ) (acce
   pub staged : HasGoodStaging which image nv accepts
   pub manifest : has_manifest staged.good.capsule (judge_active image which staged.fuses accepts) ≡ same
 
+-- the bank holds that then: the same but for the recovery area's pages, which hold the staged capsule
+pub record IsCopiedFrom (which : Bank) (image nv : List ℕ) (accepts : Acceptance) (then : List ℕ) : Type 0 where
+  pub from : HasStagedFor true which image nv accepts
+  pub is : then ≡ recovery_rebuilt image (layout_of from.staged.fuses.provision which).staging_at from.staged.good.capsule.length (layout_of from.staged.fuses.provision which)
+
 -- What an update of the recovery area comes to, of a bank that is held at these counts.
 pub record UpdatesRecovery (accepts : Acceptance) (which : Bank) (new : World) (notes : List Note) (at : Counts) : Type 0 where
   pub held : IsNoted notes (Held which at)
@@ -151,6 +157,9 @@ pub record UpdatesRecovery (accepts : Acceptance) (which : Bank) (new : World) (
   pub updated : (svn : ℕ) → IsNoted notes (RecoveryUpdated which svn) → (s : AtCounts (λ image nv. HasStagedFor true which image nv accepts) which at new)
       × (svn ≡ s.staged.good.capsule.manifest.svn)
       × (r : HasGoodRecovery which (now (state_at (device_of which) new)) (now new.nv) accepts) × (r.good.capsule.digest ≡ s.staged.good.capsule.digest)
+  -- The rest of the bank is as before, unless the image is called untrusted behind that.
+  pub replaced : (svn : ℕ) → IsNoted notes (RecoveryUpdated which svn) → ((cause : ActiveFail) → ¬ IsNoted notes (Untrusted which cause))
+      → AtCounts (λ image nv. IsCopiedFrom which image nv accepts (now (state_at (device_of which) new))) which at new
   pub updates : IsCalm which notes → (s : AtCounts (λ image nv. HasStagedFor true which image nv accepts × (is_spent nv which ≡ false)) which at new)
       → IsNoted notes (RecoveryUpdated which s.0.staged.good.capsule.manifest.svn)
   -- One that is refused writes nothing.
