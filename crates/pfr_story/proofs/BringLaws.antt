@@ -29,7 +29,7 @@ use Rattle.pfr_report.specs.declared.note.What.{What}
 use Rattle.pfr_report.specs.declared.note.What.TheVariants as what
 use Rattle.pfr_story.specs.Story.{Story, Move, Says, after, noted, counts_of, device_of}
 use Rattle.pfr_story.specs.World.{World, story_of, counts_in, state_at, AllMoved, added}
-use Rattle.pfr_story.specs.Course.{Crosses, Faults, LosesPower, Steps, lost}
+use Rattle.pfr_story.specs.Course.{Crosses, Ends, Faults, LosesPower, Steps, lost}
 use Rattle.pfr_story.specs.Plans.{mine, store, ready_of, by_ready, checked_then, brought_up, migrated, migration_in}
 use Rattle.pfr_story.specs.Turn.{fault_of, bank_stretch, unreadable, fuse_stretch, begun, Turn}
 use Rattle.pfr_story.specs.Causes.{IsAgainst, IsDue, IsRestorable, HasOpenJob}
@@ -132,6 +132,12 @@ module _ (accepts : Acceptance) (first new : World) where
       let note : Note = record { item = (story_of at).item; what = what.Lost (Some d) (counts_in at) } in
       in_added Anything Anything first at new new (note ∷ []) front (ap (λ (s : Story). s.notes) is) (wrote_moves [] new new refl) (what.Lost (Some d) (counts_in at)) (inl refl)
 
+  -- the power is lost in a bank's part though it is calm: the work was over
+  over : (b which : Bank) (w : World) → Wrote Anything first w → LosesPower (bank_stretch accepts b) w new → IsCalm which (added first new) → IsOver which (added first new)
+  over b which w front l calm =
+      let to : Wrote Anything first l.at = wrote_then Anything first w l.at front (wrote_moves l.stopped.trace w l.at l.stopped.is) in
+      calm.on (Some l.which) (counts_in l.at) (loss_noted l.which l.at to l.noted.is)
+
   any : (P : What → Type 0) (a b : World) → Wrote P a b → Wrote Anything a b
   any P a b w = record { more = w.more; is = w.is; all = λ that n. tt }
 
@@ -150,6 +156,22 @@ module _ (accepts : Acceptance) (first new : World) where
       locked bank.Pch = inr (inr (inr (inl refl)))
 
   -- ---- the banks' parts
+  pub bmc_faulted : (w mid : World) → Front w → Faults (bank_stretch accepts bank.Bmc) w mid → Steps (bank_stretch accepts bank.Pch ∷ []) mid new → ¬ IsCalm bank.Bmc (added first new)
+  bmc_faulted w mid front f rest =
+      let made = Steps-made (bank_stretch accepts bank.Pch ∷ []) mid new rest in
+      faulted bank.Bmc w mid (any (Apart bank.Bmc) first w (front.apart bank.Bmc)) f (wrote_moves made.trace mid new made.is)
+
+  pub bmc_lost : (w : World) → Front w → LosesPower (bank_stretch accepts bank.Bmc) w new → ¬ IsCalm bank.Bmc (added first new)
+  bmc_lost w front l calm =
+      let whole : Wrote (Apart bank.Pch) first new = wrote_then (Apart bank.Pch) first w new (front.apart bank.Pch) (lost_writes bank.Bmc bank.Pch (λ e. cc) w new front.two l) in
+      not_over bank.Bmc (added first new) (none_held whole) (over bank.Bmc bank.Bmc w (any (Apart bank.Bmc) first w (front.apart bank.Bmc)) l calm)
+
+  pub pch_faulted : (w mid : World) → Wrote (Apart bank.Pch) first w → Faults (bank_stretch accepts bank.Pch) w mid → Ends mid new → ¬ IsCalm bank.Pch (added first new)
+  pch_faulted w mid front f ends = faulted bank.Pch w mid (any (Apart bank.Pch) first w front) f (wrote_moves [] mid new ends.is)
+
+  pub pch_lost : (w : World) → Wrote (Apart bank.Pch) first w → LosesPower (bank_stretch accepts bank.Pch) w new → ¬ IsCalm bank.Pch (added first new)
+  pch_lost w front l calm = over bank.Pch bank.Pch w (any (Apart bank.Pch) first w front) l calm
+
   bmc_crossed : (w : World) → Front w → Steps (bank_stretch accepts bank.Bmc ∷ bank_stretch accepts bank.Pch ∷ []) w new → IsCalm bank.Bmc (added first new) → Crossed bank.Bmc
   bmc_crossed w front (inl (end, c, rest)) calm =
       let ended : AllMoved end new = Steps-moved (bank_stretch accepts bank.Pch ∷ []) end new rest in
@@ -164,13 +186,8 @@ module _ (accepts : Acceptance) (first new : World) where
         ended = ended;
         two = front.two;
       }
-  bmc_crossed w front (inr (inl (end, f, rest))) calm =
-      let made = Steps-made (bank_stretch accepts bank.Pch ∷ []) end new rest in
-      absurd (faulted bank.Bmc w end (any (Apart bank.Bmc) first w (front.apart bank.Bmc)) f (wrote_moves made.trace end new made.is) calm)
-  bmc_crossed w front (inr (inr l)) calm =
-      let to : Wrote Anything first l.at = wrote_then Anything first w l.at (any (Apart bank.Bmc) first w (front.apart bank.Bmc)) (wrote_moves l.stopped.trace w l.at l.stopped.is) in
-      let whole : Wrote (Apart bank.Pch) first new = wrote_then (Apart bank.Pch) first w new (front.apart bank.Pch) (lost_writes bank.Bmc bank.Pch (λ e. cc) w new front.two l) in
-      absurd (not_over bank.Bmc (added first new) (none_held whole) (calm.on (Some l.which) (counts_in l.at) (loss_noted l.which l.at to l.noted.is)))
+  bmc_crossed w front (inr (inl (end, f, rest))) calm = absurd (bmc_faulted w end front f rest calm)
+  bmc_crossed w front (inr (inr l)) calm = absurd (bmc_lost w front l calm)
 
   pch_last : (w : World) → Wrote (Apart bank.Pch) first w → AllMoved first w → IsTwo (story_of w) → Steps (bank_stretch accepts bank.Pch ∷ []) w new → IsCalm bank.Pch (added first new) → Crossed bank.Pch
   pch_last w front come two (inl (end, c, ends)) calm = record {
@@ -184,10 +201,8 @@ module _ (accepts : Acceptance) (first new : World) where
     ended = ends.moved;
     two = two;
   }
-  pch_last w front come two (inr (inl (end, f, ends))) calm = absurd (faulted bank.Pch w end (any (Apart bank.Pch) first w front) f (wrote_moves [] end new ends.is) calm)
-  pch_last w front come two (inr (inr l)) calm =
-      let to : Wrote Anything first l.at = wrote_then Anything first w l.at (any (Apart bank.Pch) first w front) (wrote_moves l.stopped.trace w l.at l.stopped.is) in
-      absurd (calm.on (Some l.which) (counts_in l.at) (loss_noted l.which l.at to l.noted.is))
+  pch_last w front come two (inr (inl (end, f, ends))) calm = absurd (pch_faulted w end front f ends calm)
+  pch_last w front come two (inr (inr l)) calm = absurd (pch_lost w front l calm)
 
   pch_crossed : (w : World) → Front w → Steps (bank_stretch accepts bank.Bmc ∷ bank_stretch accepts bank.Pch ∷ []) w new → IsCalm bank.Pch (added first new) → Crossed bank.Pch
   pch_crossed w front (inl (mid, c, rest)) calm =
@@ -196,9 +211,7 @@ module _ (accepts : Acceptance) (first new : World) where
   pch_crossed w front (inr (inl (mid, f, rest))) calm =
       pch_last mid (wrote_then (Apart bank.Pch) first w mid (front.apart bank.Pch) (faulted_writes bank.Bmc bank.Pch (λ e. cc) w mid front.two f))
       (AllMoved-trans first w mid front.come (AllMoved-trans w f.at mid f.stopped.moved f.noted.moved)) (faulted_two bank.Bmc w mid front.two f) rest calm
-  pch_crossed w front (inr (inr l)) calm =
-      let to : Wrote Anything first l.at = wrote_then Anything first w l.at (any (Apart bank.Bmc) first w (front.apart bank.Bmc)) (wrote_moves l.stopped.trace w l.at l.stopped.is) in
-      absurd (calm.on (Some l.which) (counts_in l.at) (loss_noted l.which l.at to l.noted.is))
+  pch_crossed w front (inr (inr l)) calm = absurd (over bank.Bmc bank.Pch w (any (Apart bank.Bmc) first w (front.apart bank.Bmc)) l calm)
 
   bank_crossed : (which : Bank) (w : World) → Front w → Steps (bank_stretch accepts bank.Bmc ∷ bank_stretch accepts bank.Pch ∷ []) w new → IsCalm which (added first new) → Crossed which
   bank_crossed bank.Bmc w front rest calm = bmc_crossed w front rest calm

@@ -25,13 +25,15 @@ use Rattle.pfr_script.specs.declared.event.Event.{Event}
 use Rattle.pfr_script.specs.declared.event.Event.TheVariants as event
 use Rattle.pfr_report.specs.Texts.{IsNoted}
 use Rattle.pfr_report.specs.declared.note.LockWhy.{LockWhy}
+use Rattle.pfr_report.specs.declared.note.Note.{Note}
 use Rattle.pfr_report.specs.declared.note.What.TheVariants as what
+use Rattle.pfr_story.specs.Bringing.{IsCalm}
 use Rattle.pfr_story.specs.Causes.{IsResumable}
 use Rattle.pfr_story.specs.JobPlans.{job_notes, same_digest, judged_source, finished_job, worked, copied_over, by_first_pass, work_of, resumed_if, by_source, by_open}
 use Rattle.pfr_story.specs.JobPromises.{left_strokes, AddsSince, HeedsMarks, MarksAreHeeded}
 use Rattle.pfr_story.specs.Plans.{mine, store, asks, ready_of, judged_recovery, by_ready, brought_up, checked_then}
 use Rattle.pfr_story.specs.Promises.{AtCounts, count_at}
-use Rattle.pfr_story.specs.Story.{Past, Story, Move, Says, after, noted, past_at, device_of}
+use Rattle.pfr_story.specs.Story.{Past, Story, Move, Says, Asks, after, noted, past_at, device_of}
 use Rattle.pfr_story.specs.Turn.{begun, Turn}
 use Rattle.pfr_story.specs.World.{World, story_of, counts_in, state_at, added}
 use Rattle.pfr_story.proofs.BringRules.{ready_is}
@@ -45,7 +47,7 @@ use Rattle.pfr_story.proofs.TakenLaws.{taken_by, taken, checked_at, ready_parts}
 use Rattle.pfr_story.proofs.TakenNotes.{judged_good_source}
 use Rattle.pfr_story.proofs.TakesUpLaws.{Begun, IsReached, IsUnjobbed, held_at, by_held, resumed_at, reached, new_size}
 
-module _ (accepts : Acceptance) (b : Bank) where
+module _ (accepts : Acceptance) (b : Bank) (IsShort : Type 0) where
   -- ---- the work of a job that is resumed
   abbrev CanResume : JobKind → Story → Type 0
   CanResume kind story = IsResumable kind b (mine b story) (store story) accepts
@@ -60,26 +62,26 @@ module _ (accepts : Acceptance) (b : Bank) where
   same_bank kind story = image_noted (device_of b) (λ _. what.Resumed b kind) story
 
   -- whatever is behind a pass
-  active_starts : (kind : JobKind) (fuses : FusesState) (capsule : CapsuleState) (rest more : List Move) (story : Story) → Starting b (side_ops side.Bank (active_heeding kind b (mine b story) (store story) capsule (layout_of fuses.provision b)))
+  active_starts : (kind : JobKind) (fuses : FusesState) (capsule : CapsuleState) (rest more : List Move) (story : Story) → Starting IsShort b (side_ops side.Bank (active_heeding kind b (mine b story) (store story) capsule (layout_of fuses.provision b)))
       ((worked b kind fuses capsule (told kind story) ++ rest) ++ more) (told kind story)
   active_starts kind fuses capsule rest more story =
       let layout : Layout = layout_of fuses.provision b in
-      subst (λ (moves : List Move). Starting b (side_ops side.Bank (active_heeding kind b (mine b story) (store story) capsule layout)) moves (told kind story)) (sym (append_assoc (worked b kind fuses capsule (told kind story)) rest more))
-      (subst (λ (image : List ℕ). Starting b (side_ops side.Bank (active_heeding kind b image (store story) capsule layout)) (worked b kind fuses capsule (told kind story) ++ (rest ++ more)) (told kind story)) (same_bank kind story)
-      (deeds_first b (active_heeding kind b (mine b (told kind story)) (store story) capsule layout) (rest ++ more) (told kind story)))
+      subst (λ (moves : List Move). Starting IsShort b (side_ops side.Bank (active_heeding kind b (mine b story) (store story) capsule layout)) moves (told kind story)) (sym (append_assoc (worked b kind fuses capsule (told kind story)) rest more))
+      (subst (λ (image : List ℕ). Starting IsShort b (side_ops side.Bank (active_heeding kind b image (store story) capsule layout)) (worked b kind fuses capsule (told kind story) ++ (rest ++ more)) (told kind story)) (same_bank kind story)
+      (deeds_first IsShort b (active_heeding kind b (mine b (told kind story)) (store story) capsule layout) (rest ++ more) (told kind story)))
 
-  recovery_starts : (fuses : FusesState) (capsule : CapsuleState) (rest more : List Move) (story : Story) → Starting b (side_ops side.Bank (recovery_heeding b (mine b story) (store story) capsule.length (layout_of fuses.provision b)))
+  recovery_starts : (fuses : FusesState) (capsule : CapsuleState) (rest more : List Move) (story : Story) → Starting IsShort b (side_ops side.Bank (recovery_heeding b (mine b story) (store story) capsule.length (layout_of fuses.provision b)))
       ((copied_over b fuses capsule (told RecoveryFromStaging story) ++ rest) ++ more) (told RecoveryFromStaging story)
   recovery_starts fuses capsule rest more story =
       let layout : Layout = layout_of fuses.provision b in
       let there : Story = told RecoveryFromStaging story in
-      subst (λ (moves : List Move). Starting b (side_ops side.Bank (recovery_heeding b (mine b story) (store story) capsule.length layout)) moves there) (sym (append_assoc (copied_over b fuses capsule there) rest more))
-      (subst (λ (image : List ℕ). Starting b (side_ops side.Bank (recovery_heeding b image (store story) capsule.length layout)) (copied_over b fuses capsule there ++ (rest ++ more)) there) (same_bank RecoveryFromStaging story)
-      (deeds_first b (recovery_heeding b (mine b there) (store story) capsule.length layout) (rest ++ more) there))
+      subst (λ (moves : List Move). Starting IsShort b (side_ops side.Bank (recovery_heeding b (mine b story) (store story) capsule.length layout)) moves there) (sym (append_assoc (copied_over b fuses capsule there) rest more))
+      (subst (λ (image : List ℕ). Starting IsShort b (side_ops side.Bank (recovery_heeding b image (store story) capsule.length layout)) (copied_over b fuses capsule there ++ (rest ++ more)) there) (same_bank RecoveryFromStaging story)
+      (deeds_first IsShort b (recovery_heeding b (mine b there) (store story) capsule.length layout) (rest ++ more) there))
 
   -- it begins with what was left
   abbrev IsLeft : (kind : JobKind) (story : Story) → CanResume kind story → List Move → Story → Type 0
-  IsLeft kind story r moves there = Starting b (left kind story r) moves there
+  IsLeft kind story r moves there = Starting IsShort b (left kind story r) moves there
 
   work_left : (kind : JobKind) (more : List Move) (story : Story) (r : CanResume kind story) → IsLeft kind story r (work_of (job_notes b) accepts b r.fuses r.good.capsule kind (told kind story) ++ more) (told kind story)
   work_left (ActiveFromRecovery level) more story r =
@@ -87,29 +89,29 @@ module _ (accepts : Acceptance) (b : Bank) where
       let there : Story = told kind story in
       let end : Story = after (worked b kind r.fuses r.good.capsule there) there in
       let rest : List Move = finished_job b end ++ Says (λ _. what.Restored b level) ∷ [] in
-      subst (λ (strokes : List Operation). Starting b strokes ((worked b kind r.fuses r.good.capsule there ++ rest) ++ more) there)
+      subst (λ (strokes : List Operation). Starting IsShort b strokes ((worked b kind r.fuses r.good.capsule there ++ rest) ++ more) there)
       (active_strokes kind b (mine b story) (store story) r.good.capsule (layout_of r.fuses.provision b)) (active_starts kind r.fuses r.good.capsule rest more story)
   work_left (ActiveFromStaging dynamic) more story r =
       let kind : JobKind = ActiveFromStaging dynamic in
       let there : Story = told kind story in
       let end : Story = after (worked b kind r.fuses r.good.capsule there) there in
       let rest : List Move = finished_job b end ++ Says (λ _. what.Updated b dynamic r.good.capsule.manifest.svn) ∷ [] in
-      subst (λ (strokes : List Operation). Starting b strokes ((worked b kind r.fuses r.good.capsule there ++ rest) ++ more) there)
+      subst (λ (strokes : List Operation). Starting IsShort b strokes ((worked b kind r.fuses r.good.capsule there ++ rest) ++ more) there)
       (active_strokes kind b (mine b story) (store story) r.good.capsule (layout_of r.fuses.provision b)) (active_starts kind r.fuses r.good.capsule rest more story)
   work_left RecoveryFromStaging more story r =
       let there : Story = told RecoveryFromStaging story in
       let end : Story = after (copied_over b r.fuses r.good.capsule there) there in
       let rest : List Move = asks b end ++ by_first_pass (job_notes b).given_up (job_notes b).recovery_updated accepts b r.fuses r.good.capsule (judged_recovery accepts b r.fuses end) end in
-      subst (λ (strokes : List Operation). Starting b strokes ((copied_over b r.fuses r.good.capsule there ++ rest) ++ more) there)
+      subst (λ (strokes : List Operation). Starting IsShort b strokes ((copied_over b r.fuses r.good.capsule there ++ rest) ++ more) there)
       (recovery_strokes b (mine b story) (store story) r.good.capsule.length (layout_of r.fuses.provision b)) (recovery_starts r.fuses r.good.capsule rest more story)
 
   module _ (kind : JobKind) (more : List Move) (story : Story) (r : IsResumable kind b (mine b story) (store story) accepts) where
     abbrev Left : List Move → Type 0
-    Left moves = Starting b (left kind story r) (moves ++ more) story
+    Left moves = Starting IsShort b (left kind story r) (moves ++ more) story
 
     left_if : (t : Bool) → t ≡ true → Left (resumed_if t (job_notes b) accepts b r.fuses r.good.capsule kind story)
     left_if true e =
-        says_first b (left kind story r) (λ _. what.Resumed b kind) (work_of (job_notes b) accepts b r.fuses r.good.capsule kind (told kind story) ++ more) story (work_left kind more story r)
+        says_first IsShort b (left kind story r) (λ _. what.Resumed b kind) (work_of (job_notes b) accepts b r.fuses r.good.capsule kind (told kind story) ++ more) story (work_left kind more story r)
     left_if false e = absurd cc
 
     left_source : Left (by_source (job_notes b) accepts b r.fuses kind r.good.capsule.digest (judged_source accepts b r.fuses kind story) story)
@@ -120,20 +122,21 @@ module _ (accepts : Acceptance) (b : Bank) where
     left_open : Left (by_open (job_notes b) accepts b r.fuses (open_job (store story) b) story)
     left_open =
         subst (λ (opened : OpenJob). Left (by_open (job_notes b) accepts b r.fuses opened story)) (sym r.opened)
-        (asks_first b (left kind story r) (device_of b) (by_source (job_notes b) accepts b r.fuses kind r.good.capsule.digest (judged_source accepts b r.fuses kind story) story ++ more) story left_source)
+        (asks_first IsShort b (left kind story r) (device_of b) (by_source (job_notes b) accepts b r.fuses kind r.good.capsule.digest (judged_source accepts b r.fuses kind story) story ++ more) story left_source)
 
     taken_left : Left (taken accepts b story)
     taken_left =
         subst (λ (x : Result FusesState LockWhy). Left (taken_by accepts b x story)) (sym (ready_is b r.fuses story r.provisioned r.layout))
-        (asks_first b (left kind story r) device.Nv (by_open (job_notes b) accepts b r.fuses (open_job (store story) b) story ++ more) story left_open)
+        (asks_first IsShort b (left kind story r) device.Nv (by_open (job_notes b) accepts b r.fuses (open_job (store story) b) story ++ more) story left_open)
 
   -- of a bank that is brought up
-  brought_left : (kind : JobKind) (story : Story) (r : CanResume kind (noted (what.Held b) story)) → Starting b (left kind (noted (what.Held b) story) r) (brought_up accepts b story) story
+  brought_left : (kind : JobKind) (story : Story) (r : CanResume kind (noted (what.Held b) story)) → Starting IsShort b (left kind (noted (what.Held b) story) r) (brought_up accepts b story) story
   brought_left kind story r =
       let there : Story = noted (what.Held b) story in
       let strokes : List Operation = left kind there r in
-      says_first b strokes (what.Held b) _ story (asks_first b strokes device.Nv (by_ready accepts b (ready_of b there) there) there
-      (subst (λ (moves : List Move). Starting b strokes moves there) (sym (ready_parts accepts b there)) (taken_left kind (checked_then accepts b (checked_at accepts b there)) there r)))
+      let rest : List Move = by_ready accepts b (ready_of b there) there in
+      says_first IsShort b strokes (what.Held b) (Asks device.Nv ∷ rest) story (asks_first IsShort b strokes device.Nv rest there
+      (subst (λ (moves : List Move). Starting IsShort b strokes moves there) (sym (ready_parts accepts b there)) (taken_left kind (checked_then accepts b (checked_at accepts b there)) there r)))
 
 -- ---- by counts
 ops_in : (b : Bank) (w : World) → (past_at (device_of b) (story_of w)).ops ≡ (state_at (device_of b) w).ops
@@ -145,21 +148,37 @@ count_in bank.Bmc w = refl
 count_in bank.Pch w = refl
 
 -- the operations since these counts begin with what was left of a job that is resumable
-record Heeded (accepts : Acceptance) (which : Bank) (kind : JobKind) (new : World) (at : Counts) (image nv : List ℕ) : Type 0 where
+record Heeded (accepts : Acceptance) (which : Bank) (kind : JobKind) (new : World) (notes : List Note) (at : Counts) (image nv : List ℕ) : Type 0 where
   from : IsResumable kind which image nv accepts
   ops : List Operation
   since : AddsSince which at ops new
   heeds : ((more : List Operation) × (ops ≡ left_strokes kind which image nv accepts from ++ more)) ⊎ IsPart image (left_strokes kind which image nv accepts from) ops
+  whole : IsCalm which notes → (more : List Operation) × (ops ≡ left_strokes kind which image nv accepts from ++ more)
+
+-- what was done whole, or in part where it isn't calm
+module _ (Whole Part IsSo : Type 0) where
+  in_part : Whole ⊎ ((¬ IsSo) × Part) → Whole ⊎ Part
+  in_part (inl whole) = inl whole
+  in_part (inr (short, part)) = inr part
+
+  in_whole : Whole ⊎ ((¬ IsSo) × Part) → IsSo → Whole
+  in_whole (inl whole) so = whole
+  in_whole (inr (short, part)) so = absurd (short so)
 
 module _ (accepts : Acceptance) (first new : World) (have : HaveBytes new) (which : Bank) (bank_size : IsBankSize (size_of (state_at (device_of which) new))) (c : Begun accepts first new which) where
   abbrev there : Story
   there = noted (what.Held which) (story_of c.at)
 
-  heeded : (at : Counts) → at ≡ counts_in c.at → (kind : JobKind) → IsResumable kind which (mine which there) (store there) accepts → Heeded accepts which kind new at (mine which there) (store there)
+  abbrev Calm : Type 0
+  Calm = IsCalm which (added first new)
+
+  heeded : (at : Counts) → at ≡ counts_in c.at → (kind : JobKind) → IsResumable kind which (mine which there) (store there) accepts → Heeded accepts which kind new (added first new) at (mine which there) (store there)
   heeded at e kind r =
       let strokes : List Operation = left_strokes kind which (mine which there) (store there) accepts r in
       let old : Past = past_at (device_of which) (story_of c.at) in
-      let s : Starts strokes old (past_at (device_of which) (after c.went.trace (story_of c.at))) = brought_left accepts which kind (story_of c.at) r c.went.trace c.went.front in
+      let s : Starts (¬ Calm) strokes old (past_at (device_of which) (after c.went.trace (story_of c.at))) = brought_left accepts which (¬ Calm) kind (story_of c.at) r c.went.trace c.went.front in
+      let same : mine which (story_of c.at) ≡ mine which there = sym (image_noted (device_of which) (what.Held which) (story_of c.at)) in
+      let Whole : Type 0 = (more : List Operation) × (s.ops ≡ strokes ++ more) in
       record {
         from = r;
         ops = s.ops;
@@ -168,21 +187,22 @@ module _ (accepts : Acceptance) (first new : World) (have : HaveBytes new) (whic
           few = count_in which c.at ∙ ap (λ (counts : Counts). count_at which counts) (sym e);
           is = sym (ops_in which new) ∙ ap (λ (past : Past). past.ops) c.went.past ∙ s.is;
         };
-        heeds = subst (λ (image : List ℕ). ((more : List Operation) × (s.ops ≡ strokes ++ more)) ⊎ IsPart image strokes s.ops) (sym (image_noted (device_of which) (what.Held which) (story_of c.at))) s.first;
+        heeds = subst (λ (image : List ℕ). Whole ⊎ IsPart image strokes s.ops) same (in_part Whole (IsPart (mine which (story_of c.at)) strokes s.ops) Calm s.first);
+        whole = in_whole Whole (IsPart (mine which (story_of c.at)) strokes s.ops) Calm s.first;
       }
 
-  heeds_at : (at : Counts) → IsNoted (added first new) (what.Held which at) → (kind : JobKind) → IsNoted (added first new) (what.Resumed which kind) → HeedsMarks accepts which kind new at
+  heeds_at : (at : Counts) → IsNoted (added first new) (what.Held which at) → (kind : JobKind) → IsNoted (added first new) (what.Resumed which kind) → HeedsMarks accepts which kind new (added first new) at
   heeds_at at h kind n =
       let r : AtCounts (λ image nv. IsResumable kind which image nv accepts) which at new = resumed_at accepts first new have which bank_size c at h kind n in
-      let k : AtCounts (λ image nv. IsResumable kind which image nv accepts → Heeded accepts which kind new at image nv) which at new =
-      by_held accepts first new have which bank_size c (λ image nv. IsResumable kind which image nv accepts → Heeded accepts which kind new at image nv) at h
+      let k : AtCounts (λ image nv. IsResumable kind which image nv accepts → Heeded accepts which kind new (added first new) at image nv) which at new =
+      by_held accepts first new have which bank_size c (λ image nv. IsResumable kind which image nv accepts → Heeded accepts which kind new (added first new) at image nv) at h
       (λ there_r. heeded at (held_at accepts first new have which bank_size c at h) kind there_r) in
       let d = k r in
-      record { from = d.from; ops = d.ops; since = d.since; heeds = d.heeds }
+      record { from = d.from; ops = d.ops; since = d.since; heeds = d.heeds; whole = d.whole }
 
 module _ (accepts : Acceptance) (old new : World) (size : size_of old.nv ≡ 32768) (t : Turn accepts event.Power old new) (have : HaveBytes new) (bmc : IsBankSize (size_of old.bmc)) (pch : IsBankSize (size_of old.pch)) where
   by_reached : (which : Bank) (kind : JobKind) (at : Counts) → IsNoted (added old new) (what.Held which at) → IsNoted (added old new) (what.Resumed which kind)
-      → IsReached accepts (begun event.Power old) new which → HeedsMarks accepts which kind new at
+      → IsReached accepts (begun event.Power old) new which → HeedsMarks accepts which kind new (added old new) at
   by_reached which kind at h n (inl c) = heeds_at accepts (begun event.Power old) new have which (new_size accepts old new size t have bmc pch which) c at h kind n
   by_reached which kind at h n (inr w) = absurd (never_noted (IsUnjobbed which) (begun event.Power old) new w (what.Resumed which kind) n refl tt)
 

@@ -30,7 +30,7 @@ use Rattle.pfr_story.specs.Promises.{AtCounts}
 use Rattle.pfr_story.specs.Story.{Story, Move, Says, after, noted, past_at, FailedAt, asking, unbegun, torn, IsCut, device_of}
 use Rattle.pfr_story.specs.Turn.{fault_of, bank_stretch, unreadable, fuse_stretch, begun, Turn}
 use Rattle.pfr_story.specs.World.{World, story_of, counts_in, state_at, AllMoved, added}
-use Rattle.pfr_story.proofs.BringLaws.{Front, Crossed, migrated_apart, crossed_writes, faulted_writes, lost_writes, last_writes, crossed_two, faulted_two, migrated_two, can as can_crossed, by_held as by_crossed, held_then as held_crossed, stands_behind, whole_is, own_is, power_crossed}
+use Rattle.pfr_story.proofs.BringLaws.{Front, Crossed, migrated_apart, crossed_writes, faulted_writes, lost_writes, last_writes, crossed_two, faulted_two, migrated_two, bmc_faulted, bmc_lost, pch_faulted, pch_lost, can as can_crossed, by_held as by_crossed, held_then as held_crossed, stands_behind, whole_is, own_is, power_crossed}
 use Rattle.pfr_story.proofs.Bytes.{HaveBytes, images_then, mine_sized, bank_sized}
 use Rattle.pfr_story.proofs.Courses.{Steps-moved}
 use Rattle.pfr_story.proofs.Endings.{Ending, faulted_ends, lost_ends}
@@ -92,7 +92,7 @@ module _ (accepts : Acceptance) (first new : World) where
     pub behind : Wrote (Apart which) end new
     pub moved : AllMoved at new
     pub two : IsTwo (story_of at)
-    pub went : WentOn accepts which at new
+    pub went : WentOn accepts which (¬ IsCalm which (added first new)) at new
 
   -- ---- how it ends
   module _ (b : Bank) (old : World) where
@@ -148,7 +148,7 @@ module _ (accepts : Acceptance) (first new : World) where
     behind = last_writes accepts first new bank.Pch bank.Bmc (λ e. cc) mid (crossed_two accepts first new bank.Bmc w mid front.two c) rest;
     moved = AllMoved-trans w mid new c.moved (Steps-moved (bank_stretch accepts bank.Pch ∷ []) mid new rest);
     two = front.two;
-    went = crossed_on accepts bank.Bmc new w mid (others_same accepts bank.Bmc new bank.Pch (λ e. cc) mid rest) c;
+    went = crossed_on accepts bank.Bmc new (¬ IsCalm bank.Bmc (added first new)) w mid (others_same accepts bank.Bmc new bank.Pch (λ e. cc) mid rest) c;
   }
   bmc_begun w front (inr (inl (mid, f, rest))) = record {
     at = w;
@@ -161,7 +161,7 @@ module _ (accepts : Acceptance) (first new : World) where
     behind = last_writes accepts first new bank.Pch bank.Bmc (λ e. cc) mid (faulted_two accepts first new bank.Bmc w mid front.two f) rest;
     moved = AllMoved-trans w mid new (AllMoved-trans w f.at mid f.stopped.moved f.noted.moved) (Steps-moved (bank_stretch accepts bank.Pch ∷ []) mid new rest);
     two = front.two;
-    went = faulted_on accepts bank.Bmc new w mid (others_same accepts bank.Bmc new bank.Pch (λ e. cc) mid rest) f;
+    went = faulted_on accepts bank.Bmc new (¬ IsCalm bank.Bmc (added first new)) (bmc_faulted accepts first new w mid front f rest) w mid (others_same accepts bank.Bmc new bank.Pch (λ e. cc) mid rest) f;
   }
   bmc_begun w front (inr (inr l)) = record {
     at = w;
@@ -174,7 +174,7 @@ module _ (accepts : Acceptance) (first new : World) where
     behind = nothing_more bank.Bmc;
     moved = AllMoved-trans w l.at new l.stopped.moved l.noted.moved;
     two = front.two;
-    went = lost_on accepts bank.Bmc new w l;
+    went = lost_on accepts bank.Bmc new (¬ IsCalm bank.Bmc (added first new)) (bmc_lost accepts first new w front l) w l;
   }
 
   last_begun : (w : World) → Wrote (Apart bank.Pch) first w → IsTwo (story_of w) → Steps (bank_stretch accepts bank.Pch ∷ []) w new → Begun bank.Pch
@@ -189,7 +189,7 @@ module _ (accepts : Acceptance) (first new : World) where
     behind = wrote_by (Apart bank.Pch) [] mid new ends.is tt;
     moved = AllMoved-trans w mid new c.moved ends.moved;
     two = two;
-    went = crossed_on accepts bank.Pch new w mid (ap (λ (s : Story). s.pch) ends.is) c;
+    went = crossed_on accepts bank.Pch new (¬ IsCalm bank.Pch (added first new)) w mid (ap (λ (s : Story). s.pch) ends.is) c;
   }
   last_begun w front two (inr (inl (mid, f, ends))) = record {
     at = w;
@@ -202,7 +202,7 @@ module _ (accepts : Acceptance) (first new : World) where
     behind = wrote_by (Apart bank.Pch) [] mid new ends.is tt;
     moved = AllMoved-trans w mid new (AllMoved-trans w f.at mid f.stopped.moved f.noted.moved) ends.moved;
     two = two;
-    went = faulted_on accepts bank.Pch new w mid (ap (λ (s : Story). s.pch) ends.is) f;
+    went = faulted_on accepts bank.Pch new (¬ IsCalm bank.Pch (added first new)) (pch_faulted accepts first new w mid front f ends) w mid (ap (λ (s : Story). s.pch) ends.is) f;
   }
   last_begun w front two (inr (inr l)) = record {
     at = w;
@@ -215,7 +215,7 @@ module _ (accepts : Acceptance) (first new : World) where
     behind = nothing_more bank.Pch;
     moved = AllMoved-trans w l.at new l.stopped.moved l.noted.moved;
     two = two;
-    went = lost_on accepts bank.Pch new w l;
+    went = lost_on accepts bank.Pch new (¬ IsCalm bank.Pch (added first new)) (pch_lost accepts first new w front l) w l;
   }
 
   -- or it isn't, and nothing is noted of its jobs

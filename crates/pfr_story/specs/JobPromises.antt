@@ -100,16 +100,18 @@ pub record AddsSince (which : Bank) (at : Counts) (ops : List Operation) (w : Wo
   pub is : (state_at (device_of which) w).ops ≡ before ++ ops
 
 -- A job that is resumed begins with the strokes of the pages that were left, or did a front of them, the last perhaps torn.
-pub record HeedsMarks (accepts : Acceptance) (which : Bank) (kind : JobKind) (new : World) (at : Counts) : Type 0 where
+pub record HeedsMarks (accepts : Acceptance) (which : Bank) (kind : JobKind) (new : World) (notes : List Note) (at : Counts) : Type 0 where
   pub from : AtCounts (λ image nv. IsResumable kind which image nv accepts) which at new
   pub ops : List Operation
   pub since : AddsSince which at ops new
   pub heeds : ((more : List Operation) × (ops ≡ left_strokes kind which _ _ accepts from ++ more))
       ⊎ IsPart (upto (state_at (device_of which) new) (count_at which at)) (left_strokes kind which _ _ accepts from) ops
+  -- Where no call failed while the bank was in work, all of these were done.
+  pub whole : IsCalm which notes → (more : List Operation) × (ops ≡ left_strokes kind which _ _ accepts from ++ more)
 
 -- In a power-on each bank's job that is resumed heeds the marks that were set.
 abbrev pub MarksAreHeeded : Event → Acceptance → World → World → Type 0
-MarksAreHeeded event.Power accepts old new = (which : Bank) (kind : JobKind) (at : Counts) → IsNoted (added old new) (Held which at) → IsNoted (added old new) (Resumed which kind) → HeedsMarks accepts which kind new at
+MarksAreHeeded event.Power accepts old new = (which : Bank) (kind : JobKind) (at : Counts) → IsNoted (added old new) (Held which at) → IsNoted (added old new) (Resumed which kind) → HeedsMarks accepts which kind new (added old new) at
 MarksAreHeeded e accepts old new = Unit {0}
 
 -- ---- floors and cancellations
