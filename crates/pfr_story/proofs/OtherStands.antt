@@ -1,5 +1,5 @@
 -- What work on a bank does to the store leaves the capsule in the other bank's recovery area: good, and the same one.
-use Rattle.std.proofs.Common.{◌≡◌, ◌≢◌, ◌∙◌, arith, refl, sym, ap, subst, ℕ, ◌≤◌, List, length, false, inl, Ok}
+use Rattle.std.proofs.Common.{◌≡◌, ◌≢◌, ◌∙◌, refl, sym, ap, subst, ℕ, ◌≤◌, List, length, false}
 use Rattle.pfr_flash.specs.FuseRow.{is_cleared}
 use Rattle.pfr_flash.specs.Names.{capsule_type, manifest_type}
 use Rattle.pfr_flash.specs.Operation.{Operation, applied}

@@ -1,5 +1,5 @@
 -- What a job on the recovery area that is taken up at a power-on leaves: the capsule of the job stands there, and its version is noted.
-use Rattle.std.proofs.Common.{◌≡◌, ◌≢◌, ◌∙◌, refl, sym, ap, subst, ℕ, Bool, true, false, List, [], ◌∷◌, ◌++◌, length, append_assoc, ◌⊎◌, inl, inr, Result, Ok, Err}
+use Rattle.std.proofs.Common.{◌≡◌, ◌∙◌, refl, sym, ap, subst, ℕ, Bool, true, false, List, [], ◌∷◌, ◌++◌, append_assoc, ◌⊎◌, inl, inr, Result, Ok, Err}
 use Rattle.std.specs.Cmp.Lexicographic.{same_text}
 use Rattle.pfr_flash.specs.FlashState.{now, size_of}
 use Rattle.pfr_flash.specs.Layout.{IsBankSize}
@@ -31,11 +31,11 @@ use Rattle.pfr_report.specs.declared.note.What.TheVariants as what
 use Rattle.pfr_story.specs.Causes.{IsResumable}
 use Rattle.pfr_story.specs.JobContents.{CanWork}
 use Rattle.pfr_story.specs.JobPlans.{job_notes, source_of, judged_source, same_digest, abandoned, recovery_work, resumed_if, by_source, by_open}
-use Rattle.pfr_story.specs.Plans.{mine, store, ready_of, judged_recovery, by_ready, brought_up, checked_then}
+use Rattle.pfr_story.specs.Plans.{mine, store, ready_of, by_ready, checked_then}
 use Rattle.pfr_story.specs.Promises.{AtCounts}
 use Rattle.pfr_story.specs.Safety.{AllMake}
 use Rattle.pfr_story.specs.Story.{Past, Story, Move, Says, Does, Asks, after, noted, image_of, past_at, device_of}
-use Rattle.pfr_story.specs.World.{World, story_of, counts_in, state_at, added}
+use Rattle.pfr_story.specs.World.{World, story_of, state_at, added}
 use Rattle.pfr_story.proofs.Bytes.{HaveBytes}
 use Rattle.pfr_story.proofs.Endings.{IsTrouble, IsBroken, Ending, ended_trace, ended_is, ended_good, ends_behind, ends_parts}
 use Rattle.pfr_story.proofs.FuseLaws.{profile_kept}
@@ -53,7 +53,7 @@ use Rattle.pfr_story.proofs.RecoveryTail.{Tame, IsStanding, tame_keeps, tail_tam
 use Rattle.pfr_story.proofs.RecoveryTold.{work_told, told_stands}
 use Rattle.pfr_story.proofs.SafetyLaws.{image_noted, kept_by}
 use Rattle.pfr_story.proofs.Sequence.{after-append}
-use Rattle.pfr_story.proofs.TailLaws.{IsOf, Apart}
+use Rattle.pfr_story.proofs.TailLaws.{Apart}
 use Rattle.pfr_story.proofs.TakenLaws.{CanTake, taken_by, taken, checked_at, ready_parts, can_work}
 use Rattle.pfr_story.proofs.TakenNotes.{behind_of, resumable, staged_of}
 use Rattle.pfr_story.proofs.TakesUpLaws.{Begun, cut_said, own_noted, by_held, can as can_take}

@@ -1,5 +1,5 @@
 -- Each bank that is held in a power-on takes its open job up where it can be resumed, and gives it up where it can't: the whole promise.
-use Rattle.std.proofs.Common.{◌≡◌, refl, ℕ, List, inl, inr}
+use Rattle.std.proofs.Common.{◌≡◌, refl, ℕ, inl, inr}
 use Rattle.pfr_flash.specs.FlashState.{size_of}
 use Rattle.pfr_flash.specs.Layout.{IsBankSize}
 use Rattle.pfr_flash.specs.declared.names.Bank.{Bank}
