@@ -51,7 +51,7 @@ pub record BringsUpSo (accepts : Acceptance) (event : Event) (old new : World) :
   pub heeds : MarksAreHeeded event accepts old new
   pub calm : BringsUpCalm event accepts old new
   pub powers : PowerReleases (λ bank image nv. IsRecoverable bank image nv accepts) event old new
-  -- None is called untrusted or restored without cause, and where no fuses change none is judged anew at another event.
+  -- None is called untrusted or restored without cause, and but at a power-on and at an update by a certificate none is judged anew.
   pub distrusts : DistrustsWithCause accepts old new
   pub restores : RestoresGood accepts old new
   pub judges : JudgesAtPower event old new

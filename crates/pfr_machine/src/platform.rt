@@ -132,7 +132,7 @@ impl<F: Flash, E: Engine + Drop> Platform<F, E> {
         // Behind an update of the recovery area the floor is that of its capsule at least, and a key that was cancelled stays so.
         ensures changes { OnOk result (ChangesFuses self.old.world self.new.world) }
         ensures provisions { OnOk result (ProvisionsSo event.now self.old.world self.new.world) }
-        // But at a power-on, and where an update changes fuses, no bank is called untrusted, or locked for its contents.
+        // But at a power-on and at an update by a certificate no bank is called untrusted, or locked for its contents.
         ensures judges { OnOk result (JudgesAtPower event.now self.old.world self.new.world) }
         // Frames on the buses of a bank that runs are judged by what it is trusted by.
         ensures filters { OnOk result (FiltersSo event.now (E.accepts self.old.engine) self.old.world self.new.world) }

@@ -1,5 +1,5 @@
 -- What the store says once a floor was raised or a key cancelled, and that it stays so where no fuse is taken back.
-use Rattle.std.proofs.Common.{◌≡◌, refl, sym, subst, arith, ℕ, zero, suc, ◌-◌, ◌≤◌, ◌<◌, List, [], length, inr, Ok}
+use Rattle.std.proofs.Common.{◌≡◌, ◌∙◌, refl, sym, subst, arith, ℕ, zero, suc, ◌+◌, ◌-◌, ◌≤◌, ◌<◌, List, [], length, ◌⊎◌, inl, inr, Ok}
 use Rattle.pfr_flash.specs.FuseRow.{IsCleared, with_cleared}
 use Rattle.pfr_flash.specs.declared.names.Bank.{Bank}
 use Rattle.pfr_flash.specs.declared.names.Bank.TheVariants as bank
@@ -9,10 +9,10 @@ use Rattle.pfr_flash.proofs.FuseLemmas.{IsCleared-with_cleared}
 use Rattle.pfr_fuses.specs.Changes.{AreRows, raised, with_floor, with_row, with_cancelled}
 use Rattle.pfr_fuses.specs.FuseMap.{IsFloor, IsFloorBit, IsSigning, IsCancelled}
 use Rattle.pfr_fuses.specs.FusesOf.{fuses_of, fuses_with}
-use Rattle.pfr_fuses.specs.FusesState.{FusesState, floor_of, floor_row, row_of}
+use Rattle.pfr_fuses.specs.FusesState.{FusesState, floor_in, floor_of, floor_row, row_of}
 use Rattle.pfr_fuses.specs.Growth.{Grows}
 use Rattle.pfr_fuses.proofs.ClearingLemmas.{raised_cases}
-use Rattle.pfr_fuses.proofs.FloorLemmas.{floor_in-above}
+use Rattle.pfr_fuses.proofs.FloorLemmas.{floor_in-above, floor_in-bit}
 use Rattle.pfr_fuses.proofs.StandsLemmas.{floor_stands, kept_floor, same_floor, fuses_of-stands}
 use Rattle.pfr_story.specs.JobPromises.{HasFloor}
 
@@ -57,6 +57,26 @@ raised_high fuses b svn rows few = raised_cases (λ after. svn ≤ floor_of afte
         let cleared : IsCleared row (svn - 1) = (IsCleared-with_cleared (floor_row fuses b) (svn - 1) (svn - 1) (omega (arith, few, floor_long fuses b rows, high))).1 (inr refl) in
         let kept : IsCleared (floor_row (with_floor fuses b row) b) (svn - 1) = subst (λ (bits : List ℕ). IsCleared bits (svn - 1)) (sym (floor_set fuses b row)) cleared in
         omega (arith, high, floor_in-above 128 (floor_row (with_floor fuses b row) b) (svn - 1) (omega (arith, few)) kept)
+
+-- and no higher than what is not below both
+pub raised_low : (fuses : FusesState) (b : Bank) (svn most : ℕ) → AreRows fuses → svn ≤ 127 → floor_of fuses b ≤ most → svn ≤ most → floor_of (raised fuses b svn) b ≤ most
+raised_low fuses b svn most rows few was is = raised_cases (λ after. floor_of after b ≤ most) fuses b svn (λ low. was) (λ high. by_row high)
+  where
+    by_row : floor_of fuses b < svn → floor_of (with_floor fuses b (with_cleared (floor_row fuses b) (svn - 1))) b ≤ most
+    by_row high =
+        let row : List ℕ = with_cleared (floor_row fuses b) (svn - 1) in
+        subst (λ (bits : List ℕ). floor_in 128 bits ≤ most) (sym (floor_set fuses b row)) (by_floor (floor_in 128 row) refl)
+      where
+        below : (k : ℕ) → k < 128 → (IsCleared (floor_row fuses b) k ⊎ (k ≡ svn - 1)) → k < most
+        below k small (inl cleared) = omega (arith, floor_in-above 128 (floor_row fuses b) k small cleared, was)
+        below k small (inr same) = omega (arith, same, high, is)
+
+        by_floor : (n : ℕ) → floor_in 128 (with_cleared (floor_row fuses b) (svn - 1)) ≡ n → n ≤ most
+        by_floor zero e = omega arith
+        by_floor (suc k) e =
+            let found = floor_in-bit 128 (with_cleared (floor_row fuses b) (svn - 1)) k (e ∙ (let s : suc k ≡ k + 1 = omega arith in s)) in
+            let bit = (IsCleared-with_cleared (floor_row fuses b) (svn - 1) k (omega (arith, few, floor_long fuses b rows, high))).0 found.1 in
+            omega (arith, below k found.0 bit)
 
 -- ---- cancellations
 row_long : (fuses : FusesState) (type : ContentType) → IsSigning type → AreRows fuses → length (row_of fuses type) ≡ 32

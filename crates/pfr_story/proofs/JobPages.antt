@@ -4,7 +4,7 @@ use Rattle.std.proofs.lemmas.Bool.{false≢true}
 use Rattle.pfr_flash.specs.Bytes.{AreBytes, bytes_at, written}
 use Rattle.pfr_flash.specs.Layout.{IsValidLayout}
 use Rattle.pfr_flash.specs.Operation.{Operation, play}
-use Rattle.pfr_flash.specs.Range.{AllWithin}
+use Rattle.pfr_flash.specs.Range.{AllWithin, SameOutside}
 use Rattle.pfr_flash.specs.declared.layout.Layout.{Layout}
 use Rattle.pfr_flash.specs.declared.names.Bank.{Bank}
 use Rattle.pfr_flash.proofs.AreBytesLemmas.{AreBytes-bytes_at, AreBytes-written}
@@ -116,13 +116,18 @@ module _ (image nv : List ℕ) (b : Bank) (accepts : Acceptance) (layout : Layou
   pub recovery_bytes : AreBytes written_so
   recovery_bytes = subst AreBytes (sym recovery_replaced) (replaced_bytes (length image) image (recovery_page image layout.staging_at g.capsule.length layout) list bytes recovery_can)
 
-  -- and the staging area as it was
+  -- and all but the recovery area as it was
+  pub recovery_outside : SameOutside layout.recovery_at layout.area_len image written_so
+  recovery_outside =
+      let content : ℕ → List ℕ = recovery_page image layout.staging_at g.capsule.length layout in
+      SameOutside-play layout.recovery_at layout.area_len image (strokes_of content list) (strokes_inside layout.recovery_at layout.area_len content list in_area)
+
+  -- so the staging area too
   pub staging_stays : bytes_at written_so layout.staging_at layout.area_len ≡ bytes_at image layout.staging_at layout.area_len
   staging_stays =
       let ops : List Operation = strokes_of (recovery_page image layout.staging_at g.capsule.length layout) list in
       bytes_at-outside layout.recovery_at layout.area_len image (play image ops) layout.staging_at layout.area_len
-      (SameOutside-play layout.recovery_at layout.area_len image ops (strokes_inside layout.recovery_at layout.area_len (recovery_page image layout.staging_at g.capsule.length layout) list in_area))
-      (length-play image ops) (apart valid.apart.recovery_staging) valid.inside.staging
+      recovery_outside (length-play image ops) (apart valid.apart.recovery_staging) valid.inside.staging
     where
       apart : ((layout.recovery_at + layout.area_len ≤ layout.staging_at) ⊎ (layout.staging_at + layout.area_len ≤ layout.recovery_at))
           → ((layout.staging_at + layout.area_len ≤ layout.recovery_at) ⊎ (layout.recovery_at + layout.area_len ≤ layout.staging_at))

@@ -1,13 +1,17 @@
--- Banks are judged anew at a power-on, and where fuses change: one that runs is trusted, so at no other event it is called untrusted.
-use Rattle.std.proofs.Common.{◌≡◌, refl, sym, subst, ℕ, Bool, true, false, List, [], ◌∷◌, ◌⊎◌, inl, inr, Result, Ok, Err}
+-- Banks are judged anew at a power-on, and where a key may be cancelled: one that runs is trusted, so at no other event it is called
+-- untrusted.
+use Rattle.std.proofs.Common.{◌≡◌, ◌∙◌, refl, sym, subst, ℕ, Bool, true, false, List, [], ◌∷◌, length, ◌⊎◌, inl, inr, Result, Ok, Err}
 use Rattle.std.specs.Prelude.{◌&&◌}
-use Rattle.pfr_flash.specs.FlashState.{size_of}
+use Rattle.pfr_flash.specs.FlashState.{now, size_of}
+use Rattle.pfr_flash.specs.Layout.{IsBankSize}
 use Rattle.pfr_flash.specs.declared.names.Bank.{Bank}
 use Rattle.pfr_flash.specs.declared.names.Bank.TheVariants as bank
 use Rattle.pfr_flash.specs.declared.names.Counts.{Counts}
 use Rattle.pfr_flash.specs.declared.names.Device.{Device}
 use Rattle.pfr_flash.specs.declared.names.Device.TheVariants as device
+use Rattle.pfr_flash.proofs.PlayLemmas.{length-play}
 use Rattle.pfr_engine.specs.Acceptance.{Acceptance}
+use Rattle.pfr_fuses.specs.Changes.{raised}
 use Rattle.pfr_fuses.specs.FusesState.{FusesState}
 use Rattle.pfr_fuses.specs.FusesOf.{fuses_of}
 use Rattle.pfr_fuses.specs.Provisioning.{provision_plan}
@@ -18,8 +22,10 @@ use Rattle.pfr_manifest.specs.declared.manifest.Manifest.{Manifest}
 use Rattle.pfr_auth.specs.Trusted.{IsTrusted}
 use Rattle.pfr_auth.specs.declared.fail.ActiveFail.{ActiveFail}
 use Rattle.pfr_auth.proofs.TrustedLaw.{stands_whole, trusted_found}
+use Rattle.pfr_jobs.specs.LogState.{is_spent}
 use Rattle.pfr_jobs.specs.declared.job.JobKind.{JobKind}
 use Rattle.pfr_jobs.specs.declared.job.JobKind.TheVariants.{ActiveFromRecovery, ActiveFromStaging}
+use Rattle.pfr_recoverable.proofs.StaysLaw.{fuses_one}
 use Rattle.pfr_script.specs.declared.event.Event.{Event}
 use Rattle.pfr_script.specs.declared.event.Event.TheVariants as event
 use Rattle.pfr_script.specs.declared.event.Intent.{Intent}
@@ -32,30 +38,39 @@ use Rattle.pfr_report.specs.declared.note.Refusal.TheVariants as refusing
 use Rattle.pfr_report.specs.declared.note.What.{What}
 use Rattle.pfr_report.specs.declared.note.What.TheVariants as what
 use Rattle.pfr_story.specs.Guards.{guard_at}
-use Rattle.pfr_story.specs.JobPlans.{job_notes, with_job}
+use Rattle.pfr_story.specs.JobContents.{CanWork}
+use Rattle.pfr_story.specs.JobPlans.{job_notes, recovery_job, with_job}
+use Rattle.pfr_story.specs.Keeping.{IsSettled}
 use Rattle.pfr_story.specs.Story.{Story, Move, Says, after, noted, device_of, other_bank, called, IsCut}
-use Rattle.pfr_story.specs.World.{World, story_of}
+use Rattle.pfr_story.specs.World.{World, story_of, AllMoved}
 use Rattle.pfr_story.specs.Safety.{Rule, AllGood, AllSafe}
-use Rattle.pfr_story.specs.Plans.{mine, store, ready_of, judged_active, provisioned_in, expired}
-use Rattle.pfr_story.specs.UpdatePlans.{updating}
+use Rattle.pfr_story.specs.Plans.{mine, store, ready_of, judged_active, judged_staging, provisioned_in, expired}
+use Rattle.pfr_story.specs.UpdatePlans.{has_manifest, updating}
 use Rattle.pfr_story.specs.Course.{Follows}
 use Rattle.pfr_story.specs.Standing.{Standing, Off, Held, Running, Locked, standing_of, is_running}
-use Rattle.pfr_story.specs.Turn.{fault_of, expiry_stretch, is_due, stage_at, pass_note, ignored, off_course, tick_course, boot_course, begun, Turn}
-use Rattle.pfr_story.specs.Promises.{IsFaultLock, IsWatchLock, IsPower, IsFuseUpdate, JudgesAtPower}
+use Rattle.pfr_story.specs.Turn.{fault_of, expiry_stretch, is_due, stage_at, pass_note, ignored, off_course, tick_course, boot_course, update_course, begun, Turn}
+use Rattle.pfr_story.specs.Promises.{IsFaultLock, IsWatchLock, IsPower, IsCertUpdate, JudgesAtPower, Runs, RunningHasNoJob}
 use Rattle.pfr_story.proofs.WorldLaws.{AllMoved-refl}
 use Rattle.pfr_story.proofs.SafetyLaws.{AllSafe-append, safe_whole, safe_cut, kept_by, image_noted}
 use Rattle.pfr_story.proofs.Courses.{IsTakenBy, Turn-cases, taken_runs, taken_boots}
 use Rattle.pfr_story.proofs.BringAllowed.{IsSized, AllowsBank, expired_allowed}
 use Rattle.pfr_story.proofs.BringMakes.{Whenever, made_told}
-use Rattle.pfr_story.proofs.BringRules.{Any, ready_found, ready_is, level_at, Walks, WalksBack, expired_safe, WalksAnew, WalksUpdate, updating_safe}
+use Rattle.pfr_story.proofs.BringRules.{Any, ready_found, ready_is, level_at, Walks, WalksBack, expired_safe, WalksAnew, WalksCopy, WalksUpdate, updating_safe}
+use Rattle.pfr_story.proofs.Bytes.{HaveBytes}
 use Rattle.pfr_story.proofs.BusRules.{AllowsSpi, spi_safe, smbus_safe}
 use Rattle.pfr_story.proofs.Traces.{Saying, call_says, Traced, Traced-known}
-use Rattle.pfr_story.proofs.JobMakes.{with_job_makes}
+use Rattle.pfr_story.proofs.FuseLaws.{profile_kept}
+use Rattle.pfr_story.proofs.JobMakes.{with_job_makes, recovery_job_makes}
+use Rattle.pfr_story.proofs.JobReleases.{holds_jobs}
+use Rattle.pfr_story.proofs.JobSafety.{IsJobless, holds_noted}
+use Rattle.pfr_story.proofs.JobSafetyLaws.{recovery_job_ends}
 use Rattle.pfr_story.proofs.JobTrust.{IsTrustedNow, KeepsTrust, trust_kept, jobs_trust, noted_trust, jobs_trust_told}
 use Rattle.pfr_story.proofs.Made.{Whichever}
+use Rattle.pfr_story.proofs.RecoveryUpdateLaws.{can_there}
+use Rattle.pfr_story.proofs.RenewedTrust.{trusted_renewed}
 use Rattle.pfr_story.proofs.StepTraces.{IsGoodStretch, AllowsFaults, tick_along, pass_noted, noted_by, provision_by, spi_by, smbus_by, failed_by, update_by, sized}
 use Rattle.pfr_story.proofs.StoreLaws.{judged_here}
-use Rattle.pfr_story.proofs.Entry.{TrustedRunning, trusted_here}
+use Rattle.pfr_story.proofs.Entry.{TrustedRunning, trusted_here, sized_here, follows_moved}
 
 -- a note that judges no image
 abbrev pub IsUnjudged : What → Type 0
@@ -78,6 +93,12 @@ due_runs Off expiring e = absurd (let never : false ≡ true = e in cc)
 due_runs Held expiring e = absurd (let never : false ≡ true = e in cc)
 due_runs Locked expiring e = absurd (let never : false ≡ true = e in cc)
 
+-- what is known where no job is open is what work goes by
+jobless_can : (b : Bank) (fuses : FusesState) (story : Story) → IsJobless b fuses story → CanWork b fuses story
+jobless_can b fuses story p =
+    let h = p.holds in
+    record { provisioned = h.provisioned; two = profile_kept (store story) fuses h.provisioned ∙ h.two; layout = h.layout; size = h.size; bytes = h.bytes; store_size = h.store_size }
+
 -- ---- the work on a bank that is trusted
 module _ (accepts : Acceptance) (b : Bank) where
   abbrev pub IsTrustedIn : Story → Type 0
@@ -99,20 +120,42 @@ module _ (accepts : Acceptance) (b : Bank) where
   not_against fuses cause story (t, provisioned) e =
       absurd (let found = trusted_found (mine b story) (store story) b accepts fuses (stands_whole (store story) fuses b provisioned) t in cc)
 
-  -- no job is open where its watch expires, or where it is updated
+  -- the check of a bank that is trusted, by what is known besides
+  module _ (S : Story → Type 0) (P : FusesState → Story → Type 0) (trusted : (story : Story) → S story → IsTrustedIn story) (reads : (fuses : FusesState) (story : Story) → S story → fuses_of (store story) ≡ Ok fuses → P fuses story)
+      (read : (fuses : FusesState) (story : Story) → P fuses story → IsReadIn fuses story) where
+    judged_walks : Walks Unjudged accepts b (λ story. ⊥) S P (λ fuses cause story. ⊥) (λ fuses story. Unit {0})
+    judged_walks = record {
+      asks = λ which story own. tt;
+      resumes = λ fuses story never e. absurd never;
+      unset = λ cause story never e. absurd never;
+      ready = λ fuses story q e. reads fuses story q (ready_found b fuses story e).provisioned;
+      unready = λ cause story q e. absurd (not_unready cause story (trusted story q) e);
+      released = λ fuses m story p j. tt;
+      untrusted = λ fuses cause story p j. absurd (not_against fuses cause story (read fuses story p) j);
+      no_image = λ fuses cause other story never j. absurd never;
+      restores = λ fuses cause capsule story never j. absurd never;
+      again = λ fuses m story r j. tt;
+    }
+
+  -- where its watch expires
   trusted_walks : Walks Unjudged accepts b (λ story. ⊥) IsTrustedIn IsReadIn (λ fuses cause story. ⊥) (λ fuses story. Unit {0})
-  trusted_walks = record {
-    asks = λ which story own. tt;
-    resumes = λ fuses story never e. absurd never;
-    unset = λ cause story never e. absurd never;
-    ready = λ fuses story q e. (q, (ready_found b fuses story e).provisioned);
-    unready = λ cause story q e. absurd (not_unready cause story q e);
-    released = λ fuses m story p j. tt;
-    untrusted = λ fuses cause story p j. absurd (not_against fuses cause story p j);
-    no_image = λ fuses cause other story never j. absurd never;
-    restores = λ fuses cause capsule story never j. absurd never;
-    again = λ fuses m story r j. tt;
-  }
+  trusted_walks = judged_walks IsTrustedIn IsReadIn (λ story t. t) (λ fuses story t e. (t, e)) (λ fuses story p. p)
+
+  -- where it is updated no job is open
+  abbrev IsReadyFor : FusesState → Story → Type 0
+  IsReadyFor fuses story = IsTrustedIn story × IsJobless b fuses story
+
+  abbrev pub IsJoblessIn : Story → Type 0
+  IsJoblessIn story = IsTrustedIn story × (fuses : FusesState) × IsJobless b fuses story
+
+  jobless_reads : (fuses : FusesState) (story : Story) → IsJoblessIn story → fuses_of (store story) ≡ Ok fuses → IsReadyFor fuses story
+  jobless_reads fuses story (t, others, jobless) e = (t, subst (λ (f : FusesState). IsJobless b f story) (fuses_one (store story) others fuses jobless.holds.provisioned e) jobless)
+
+  jobless_walks : Walks Unjudged accepts b (λ story. ⊥) IsJoblessIn IsReadyFor (λ fuses cause story. ⊥) (λ fuses story. Unit {0})
+  jobless_walks = judged_walks IsJoblessIn IsReadyFor (λ story s. s.0) jobless_reads (λ fuses story p. (p.0, p.1.holds.provisioned))
+
+  ready_then : (fuses : FusesState) (w : Counts → What) (story : Story) → IsReadyFor fuses story → IsReadyFor fuses (noted w story)
+  ready_then fuses w story p = (trusted_noted w story p.0, record { holds = holds_noted b fuses w story p.1.holds; none = p.1.none })
 
   -- a job, and what is noted behind it
   job_unjudged : (kind : JobKind) (fuses : FusesState) (capsule : CapsuleState) (that : What) (story : Story) → IsUnjudged that → AllSafe Unjudged (with_job b kind fuses capsule that story) story
@@ -126,23 +169,46 @@ module _ (accepts : Acceptance) (b : Bank) where
     restores = λ fuses capsule story few p j. (job_unjudged (ActiveFromRecovery level) fuses capsule (what.Restored b level) story tt, tt);
   }
 
-  trusted_anew : (dynamic : Bool) → WalksAnew Unjudged accepts b dynamic IsReadIn (λ fuses story. Unit {0})
+  -- an update of the active image
+  trusted_anew : (dynamic : Bool) → WalksAnew Unjudged accepts b dynamic IsReadyFor (λ fuses story. Unit {0})
   trusted_anew dynamic = record {
     staged = λ fuses capsule story p j. (job_unjudged (ActiveFromStaging dynamic) fuses capsule (what.Updated b dynamic capsule.manifest.svn) story tt, tt);
-    refused = λ fuses cause story p j. (tt, (trusted_noted (λ _. what.Refused b (refusing.Capsule cause)) story p.0, p.1));
+    refused = λ fuses cause story p j. (tt, ready_then fuses (λ _. what.Refused b (refusing.Capsule cause)) story p);
   }
 
-  -- an update of the active image
-  trusted_update : (intent : Intent) → ¬ IsFuseUpdate (event.Update b intent) → WalksUpdate Unjudged accepts b intent IsTrustedIn IsReadIn (λ fuses story. Unit {0})
+  -- one of the recovery area leaves it trusted
+  abbrev copy_moves : FusesState → CapsuleState → Story → List Move
+  copy_moves fuses capsule story = recovery_job (job_notes b).given_up (job_notes b).recovery_updated accepts b fuses capsule story
+
+  copy_unjudged : (fuses : FusesState) (capsule : CapsuleState) (story : Story) → AllSafe Unjudged (copy_moves fuses capsule story) story
+  copy_unjudged fuses capsule story =
+      made_told Whichever IsUnjudged (copy_moves fuses capsule story) story
+      (recovery_job_makes Whichever (Whenever IsUnjudged) b tt tt (job_notes b).given_up (job_notes b).recovery_updated (λ at. tt) (λ svn at. tt) accepts fuses capsule story)
+
+  copied_jobless : (fuses : FusesState) (capsule : CapsuleState) (story : Story) → IsReadyFor fuses story → judged_staging accepts b fuses story ≡ Ok capsule → has_manifest capsule (judged_active accepts b fuses story) ≡ true
+      → is_spent (store story) b ≡ false → IsJoblessIn (after (copy_moves fuses capsule story) story)
+  copied_jobless fuses capsule story p j alike free =
+      let can : CanWork b fuses story = jobless_can b fuses story p.1 in
+      let r = recovery_job_ends accepts b fuses (job_notes b).given_up (job_notes b).recovery_updated capsule story p.1 free j in
+      (trusted_renewed (job_notes b).given_up (job_notes b).recovery_updated accepts b fuses capsule story can p.0 j alike p.1.none free, raised fuses b r.svn, r.jobless)
+
+  trusted_copy : WalksCopy Unjudged accepts b IsJoblessIn IsReadyFor
+  trusted_copy = record {
+    copies = λ fuses capsule story p j alike free. (copy_unjudged fuses capsule story, copied_jobless fuses capsule story p j alike free);
+    refused = λ fuses cause story p j. (tt, ready_then fuses (λ _. what.Refused b (refusing.Capsule cause)) story p);
+    differs = λ fuses capsule story p j other. (tt, ready_then fuses (λ _. what.Refused b refusing.ManifestDiffers) story p);
+    spent = λ fuses capsule story p j alike spent. (tt, ready_then fuses (λ _. what.Refused b refusing.JobsSpent) story p);
+  }
+
+  trusted_update : (intent : Intent) → ¬ IsCertUpdate (event.Update b intent) → WalksUpdate Unjudged accepts b intent IsJoblessIn IsReadyFor (λ fuses story. Unit {0})
   trusted_update Active other = trusted_anew false
   trusted_update Full other = trusted_anew true
-  trusted_update Recovery other = absurd (other tt)
+  trusted_update Recovery other = trusted_copy
   trusted_update Cert other = absurd (other tt)
 
-  updating_unjudged : (intent : Intent) (story : Story) → ¬ IsFuseUpdate (event.Update b intent) → IsTrustedIn story → AllSafe Unjudged (updating accepts b intent story) story
-  updating_unjudged intent story other t =
-      updating_safe Unjudged accepts b (λ there. ⊥) IsTrustedIn IsReadIn (λ fuses cause there. ⊥) (λ fuses there. Unit {0}) trusted_walks intent story (trusted_update intent other) tt
-      (trusted_noted (what.Held b) story t)
+  updating_unjudged : (intent : Intent) (story : Story) → ¬ IsCertUpdate (event.Update b intent) → IsJoblessIn (noted (what.Held b) story) → AllSafe Unjudged (updating accepts b intent story) story
+  updating_unjudged intent story other idle =
+      updating_safe Unjudged accepts b (λ there. ⊥) IsJoblessIn IsReadyFor (λ fuses cause there. ⊥) (λ fuses there. Unit {0}) jobless_walks intent story (trusted_update intent other) tt idle
 
   expired_unjudged : (story : Story) → IsTrustedIn story → AllSafe Unjudged (expired accepts b story) story
   expired_unjudged story t =
@@ -243,14 +309,24 @@ module _ (begin new : World) where
         accepts n judged AreTrustedDue (IsTrustedDue bank.Pch) Any first_expiry (λ there p. p bank.Pch) last_expiry (λ there p. tt) trusted t
 
 -- ---- a whole step
-module _ (accepts : Acceptance) (old new : World) (size : size_of old.nv ≡ 32768) (trusted : TrustedRunning accepts old) where
+module _ (accepts : Acceptance) (old new : World) (have : HaveBytes new) (bmc : IsBankSize (size_of old.bmc)) (pch : IsBankSize (size_of old.pch)) (size : size_of old.nv ≡ 32768) (trusted : TrustedRunning accepts old)
+    (idle : RunningHasNoJob old) (settled : (which : Bank) → Runs which old → IsSettled (now old.nv)) where
   abbrev here : Event → World
   here e = begun e old
 
   trusted_at : (e : Event) (b : Bank) → standing_of b old.notes.list ≡ Running → IsTrustedIn accepts b (story_of (here e))
   trusted_at e b runs = trusted_here accepts e old trusted b runs
 
-  taken_unjudged : (e : Event) → ¬ IsPower e → ¬ IsFuseUpdate e → IsTakenBy accepts e old new → Traced Unjudged (here e) new
+  -- where it is held for an update
+  jobless_at : (intent : Intent) (b : Bank) → Runs b old → AllMoved (here (event.Update b intent)) new → IsJoblessIn accepts b (noted (what.Held b) (story_of (here (event.Update b intent))))
+  jobless_at intent b runs moved =
+      let e : Event = event.Update b intent in
+      let t = trusted_at e b runs in
+      let can = can_there accepts b (here e) new t moved have (sized_here e old bmc pch b) (length-play old.nv.start old.nv.ops ∙ size) (settled b runs) in
+      let held : Story = noted (what.Held b) (story_of (here e)) in
+      (trusted_noted accepts b (what.Held b) (story_of (here e)) t, t.fuses, record { holds = holds_jobs b t.fuses held can; none = idle b runs })
+
+  taken_unjudged : (e : Event) → ¬ IsPower e → ¬ IsCertUpdate e → IsTakenBy accepts e old new → Traced Unjudged (here e) new
   taken_unjudged event.Power other own on = absurd (other tt)
   taken_unjudged event.Off other own on = noted_unjudged (here event.Off) new off_course.first (tt, tt) on.1
   taken_unjudged (event.Provision root) other own on =
@@ -271,19 +347,20 @@ module _ (accepts : Acceptance) (old new : World) (size : size_of old.nv ≡ 327
   taken_unjudged (event.Update b intent) other own on =
       let e : Event = event.Update b intent in
       update_by Unjudged faults_unjudged.lost (here e) new Any (λ w moved. tt) accepts b intent (faults_unjudged.locked b)
-      (λ any. updating_unjudged accepts b intent (story_of (here e)) own (trusted_at e b (taken_runs (standing_of b old.notes.list) on.0))) on.1
+      (λ any. updating_unjudged accepts b intent (story_of (here e)) own (jobless_at intent b (taken_runs (standing_of b old.notes.list) on.0) (follows_moved (update_course accepts b intent) (here e) new on.1))) on.1
 
-  all_unjudged : (e : Event) → ¬ IsPower e → ¬ IsFuseUpdate e → Turn accepts e old new → Traced Unjudged (here e) new
+  all_unjudged : (e : Event) → ¬ IsPower e → ¬ IsCertUpdate e → Turn accepts e old new → Traced Unjudged (here e) new
   all_unjudged e other own t = elim (Turn-cases accepts e old new t) [
     | inl idle ↦ noted_unjudged (here e) new ignored.first (tt, tt) idle.1
     | inr on ↦ taken_unjudged e other own on
   ]
 
 -- Banks that run are trusted where a step begins, so none is locked for its contents or called untrusted, but at a power-on, and
--- where fuses change.
-pub Turn-judges : (accepts : Acceptance) (e : Event) (old new : World) → size_of old.nv ≡ 32768 → Turn accepts e old new → TrustedRunning accepts old → JudgesAtPower e old new
-Turn-judges accepts e old new size t trusted other own =
-    let known = Traced-known (λ that story. IsUnjudged that) (begun e old) new (all_unjudged accepts old new size trusted e other own t) in
+-- at an update by a certificate.
+pub Turn-judges : (accepts : Acceptance) (e : Event) (old new : World) → Turn accepts e old new → HaveBytes new → IsBankSize (size_of old.bmc) → IsBankSize (size_of old.pch)
+    → size_of old.nv ≡ 32768 → TrustedRunning accepts old → RunningHasNoJob old → ((which : Bank) → Runs which old → IsSettled (now old.nv)) → JudgesAtPower e old new
+Turn-judges accepts e old new t have bmc pch size trusted idle settled other own =
+    let known = Traced-known (λ that story. IsUnjudged that) (begun e old) new (all_unjudged accepts old new have bmc pch size trusted idle settled e other own t) in
     record {
       locked = λ which cause at n. (known (what.Locked which cause at) n).1;
       trusted = λ which cause n. (known (what.Untrusted which cause) n).1;

@@ -111,6 +111,7 @@ pub mod RecoveryTail
 pub mod RefusalLaws
 pub mod RecoveryTold
 pub mod RecoveryUpdateLaws
+pub mod RenewedTrust
 pub mod ChangeLaws
 pub mod Fronts
 pub mod HeedLaws

@@ -470,15 +470,12 @@ module _ (accepts : Acceptance) (b : Bank) (fuses : FusesState) (first new : Wor
   gives_none_up : (c : Bank) → ¬ IsNoted (added first new) (what.Abandoned c)
   gives_none_up c n = (known (what.Abandoned c) n).1
 
--- ---- a whole step
-module _ (accepts : Acceptance) (b : Bank) (old new : World) where
-  abbrev first : World
-  first = begun (event.Update b intent.Recovery) old
-
-  abbrev there_held : Story
+-- ---- where it is held behind the begin of a step, the work can be done
+module _ (accepts : Acceptance) (b : Bank) (first new : World) where
+  abbrev pub there_held : Story
   there_held = noted (what.Held b) (story_of first)
 
-  can_there : (t : IsTrusted (mine b (story_of first)) (store (story_of first)) b accepts) → AllMoved first new → HaveBytes new → IsBankSize (length (mine b (story_of first))) → IsSized (story_of first)
+  pub can_there : (t : IsTrusted (mine b (story_of first)) (store (story_of first)) b accepts) → AllMoved first new → HaveBytes new → IsBankSize (length (mine b (story_of first))) → IsSized (story_of first)
       → IsSettled (store (story_of first)) → CanWork b t.fuses there_held
   can_there t moved have size sized settled =
       let p = precedes_moved first new moved in
@@ -493,13 +490,18 @@ module _ (accepts : Acceptance) (b : Bank) (old new : World) where
         store_size = sized;
       }
 
+-- ---- a whole step
+module _ (accepts : Acceptance) (b : Bank) (old new : World) where
+  abbrev first : World
+  first = begun (event.Update b intent.Recovery) old
+
   updates_by : HaveBytes new → IsBankSize (length (mine b (story_of first))) → IsSized (story_of first) → IsTrusted (mine b (story_of first)) (store (story_of first)) b accepts
       → open_job (store (story_of first)) b ≡ job.None → IsSettled (store (story_of first)) → Follows (update_course accepts b intent.Recovery) first new → UpdatesRecovery accepts b new (added old new) (counts_in old) × ((c : Bank) → ¬ IsNoted (added old new) (what.Abandoned c))
   updates_by have size sized t idle settled f =
       let moved : AllMoved first new = follows_moved (update_course accepts b intent.Recovery) first new f in
       let ending = single_ends (update_stretch accepts b intent.Recovery) b (Unit {0}) (λ d. refl) tt first new f in
-      let ready : IsReady b t.fuses there_held = ready_noted b t.fuses (what.Held b) (story_of first) (trusted_ready accepts b (story_of first) t) in
-      let can : CanWork b t.fuses there_held = can_there t moved have size sized settled in
+      let ready : IsReady b t.fuses (noted (what.Held b) (story_of first)) = ready_noted b t.fuses (what.Held b) (story_of first) (trusted_ready accepts b (story_of first) t) in
+      let can : CanWork b t.fuses (noted (what.Held b) (story_of first)) = can_there accepts b first new t moved have size sized settled in
       (updates_recovery accepts b t.fuses first new ready can idle ending moved t, gives_none_up accepts b t.fuses first new ready can idle ending moved)
 
   update_turn : Turn accepts (event.Update b intent.Recovery) old new → HaveBytes new → IsBankSize (size_of old.bmc) → IsBankSize (size_of old.pch) → size_of old.nv ≡ 32768

@@ -314,22 +314,21 @@ BelongsTo e old (Refused which why) = Runs which old × IsRefusable which why e
 abbrev pub NotesBelong : Event → World → World → Type 0
 NotesBelong e old new = (that : What) → IsNoted (added old new) that → BelongsTo e old that
 
--- ---- what is judged anew at a power-on, and where fuses change
+-- ---- what is judged anew at a power-on, and where a key may be cancelled
 
 -- no bank is locked but for a fault or by an expired watch, and none is called untrusted
 pub record JudgesNone (notes : List Note) : Type 0 where
   pub locked : (which : Bank) (cause : LockWhy) (at : Counts) → IsNoted notes (Locked which cause at) → IsFaultLock cause ⊎ IsWatchLock cause
   pub trusted : (which : Bank) (cause : ActiveFail) → ¬ IsNoted notes (Untrusted which cause)
 
--- updates behind which the bank is checked by other fuses than before
-abbrev pub IsFuseUpdate : Event → Type 0
-IsFuseUpdate (event.Update which Recovery) = Unit {0}
-IsFuseUpdate (event.Update which Cert) = Unit {0}
-IsFuseUpdate e = ⊥
+-- an update by a certificate, behind which the bank may be checked by other cancellations than before
+abbrev pub IsCertUpdate : Event → Type 0
+IsCertUpdate (event.Update which Cert) = Unit {0}
+IsCertUpdate e = ⊥
 
 -- At no other event is a bank locked for its contents or called untrusted, since one that runs is trusted.
 abbrev pub JudgesAtPower : Event → World → World → Type 0
-JudgesAtPower e old new = ¬ IsPower e → ¬ IsFuseUpdate e → JudgesNone (added old new)
+JudgesAtPower e old new = ¬ IsPower e → ¬ IsCertUpdate e → JudgesNone (added old new)
 
 -- ---- provisions
 

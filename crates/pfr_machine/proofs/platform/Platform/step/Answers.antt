@@ -96,7 +96,7 @@ pub returns-clause-dark : goal.returns-clause-dark
 returns-clause-dark g c = by_both c.work-done.result c.work-done.ensures.turn c.work-done.ensures.dark (λ t dark. Turn-dark _ c.args.event.now _ _ t (Turn-lost _ c.args.event.now _ _ t) dark)
 
 pub returns-clause-judges : goal.returns-clause-judges
-returns-clause-judges g c = by_turn c.work-done.result c.work-done.ensures.turn (λ t. let s = sizes_before _ c.args.event.now _ _ t c.known-2.ensures.sizes in Turn-judges _ c.args.event.now _ _ s.nv t c.known.ensures.trusted)
+returns-clause-judges g c = by_turn c.work-done.result c.work-done.ensures.turn (λ t. let s = sizes_before _ c.args.event.now _ _ t c.known-2.ensures.sizes in Turn-judges _ c.args.event.now _ _ t (have_bytes _ c.known-2.ensures.bytes) s.bmc s.pch s.nv c.known.ensures.trusted (λ which. (c.known.ensures.spans which).idle) (λ which. (c.known.ensures.spans which).settled))
 
 pub returns-clause-updates : goal.returns-clause-updates
 returns-clause-updates g c = by_turn c.work-done.result c.work-done.ensures.turn (λ t. let s = sizes_before _ c.args.event.now _ _ t c.known-2.ensures.sizes in Turn-updates _ c.args.event.now _ _ t (have_bytes _ c.known-2.ensures.bytes) s.bmc s.pch s.nv c.known.ensures.trusted (λ which. (c.known.ensures.spans which).idle))
