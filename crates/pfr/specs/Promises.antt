@@ -105,7 +105,7 @@ pub record TellsOfFaults (bench : Bench) : Type 0 where
 
 -- In the run, unless a device failed, each power-on released each bank that was trusted, restored and released each that wasn't and had
 -- a good capsule, and locked each that had a cause; each frame of a bank that ran passed or was blocked as it should be, each update was
--- done from a good capsule alone, and each watch that expired restored or locked its bank. And no event, whatever failed, took a bank's
--- good capsule away.
+-- done from a good capsule alone, and each watch that expired restored or locked its bank. And no event, whatever failed, took it
+-- from a bank that it could be recovered.
 abbrev pub BringsBanksUp : Bench → Type 0
 BringsBanksUp bench = (items : List Item) → IsRun items bench → IsRunWith (BringsUpIn (acceptance bench.engine)) items bench

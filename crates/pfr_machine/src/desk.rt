@@ -236,7 +236,7 @@ impl<F: Flash> Desk<F> {
         self.with_job(fuses, capsule, kind, What::Updated { bank, dynamic, svn })
     }
 
-    /// Notes that what is in the staging area is no good image.
+    /// Notes that what is in the staging area is no good capsule.
     pub fn refuse(&mut self, cause: CapsuleFail)
         requires room { 1 ≤ self.old.world.notes.spare }
         requires cause { IsFound capsule_failure cause }

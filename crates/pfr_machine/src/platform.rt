@@ -123,9 +123,9 @@ impl<F: Flash, E: Engine + Drop> Platform<F, E> {
         ensures brings_up { OnOk result (BringsUpCalm event.now (E.accepts self.old.engine) self.old.world self.new.world) }
         // A job that is open at a power-on is taken up where it can be, and else given up.
         ensures takes_up { OnOk result (TakesJobsUp event.now (E.accepts self.old.engine) self.old.world self.new.world) }
-        // Behind that it begins with the pages whose groups weren't marked.
+        // Behind that it begins with the pages whose groups weren't marked, and unless a call fails does all of these.
         ensures heeds { OnOk result (MarksAreHeeded event.now (E.accepts self.old.engine) self.old.world self.new.world) }
-        // An update of the recovery area is judged before anything is written; behind it the staged capsule stands there.
+        // An update of the recovery area is refused with its cause, and then writes nothing; else the staged capsule stands there behind it.
         ensures updates_recovery { OnOk result (RecoveryUpdates event.now (E.accepts self.old.engine) self.old.world self.new.world) }
         // A key is cancelled exactly where a certificate for it stands in the staging area and the recovery area doesn't need it.
         ensures cancels { OnOk result (Cancels event.now (E.accepts self.old.engine) self.old.world self.new.world) }

@@ -115,7 +115,7 @@ impl<F: Flash> Desk<F> {
         self.copy_with(log, fuses, capsule, Marks::Heed)
     }
 
-    /// Copies all of its pages, whatever is marked.
+    /// Copies all pages of a capsule from the staging area to the recovery area, whatever is marked.
     pub fn copy_again(
         &mut self,
         log: &mut JobLog,

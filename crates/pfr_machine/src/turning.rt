@@ -192,7 +192,7 @@ impl<F: Flash> Inner<F> {
         }
     }
 
-    /// Does an event, as the banks stand. A bank that runs is trusted.
+    /// Does an event, as the banks stand. A bank that runs is trusted, and has no job open.
     pub fn turn<E: Engine>(mut self, event: &Event, engine: &E) -> Inner<F>
         requires room { 64 ≤ self.notes.spare }
         requires whole { IsWhole self }

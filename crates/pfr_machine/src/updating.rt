@@ -1,4 +1,4 @@
-// How the active image of a bank is updated.
+// How a bank is updated.
 ghost use Rattle.pfr_jobs.specs.Log.{open_job};
 ghost use Rattle.pfr_jobs.specs.declared.job.OpenJob.TheVariants as job;
 ghost use Rattle.pfr_fuses.specs.declared.profile.Profile.TheVariants.{Two};
@@ -134,7 +134,7 @@ impl<F: Flash> Desk<F> {
 }
 
 impl<F: Flash> Inner<F> {
-    /// Updates the active image of a bank that runs.
+    /// Updates a bank that runs, as is asked.
     pub fn update<E: Engine>(self, bank: Bank, intent: Intent, engine: &E) -> Inner<F>
         requires room { 64 ≤ self.notes.spare }
         requires whole { IsWhole self }

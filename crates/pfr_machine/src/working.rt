@@ -29,7 +29,7 @@ use pfr_script::Intent;
 /// What a bank is held for.
 #[derive(Clone, Copy, Debug, PartialEq, Eq)]
 pub enum Work {
-    /// It is checked, and restored where its active image isn't trusted.
+    /// Its open job is taken up or given up, and it is checked, and restored where its active image isn't trusted.
     BringUp,
     /// Its active image is restored, at this level of recovery.
     Recover { level: u8 },

@@ -62,8 +62,7 @@ pub record TakesUp (accepts : Acceptance) (which : Bank) (new : World) (notes : 
   pub resumes : (kind : JobKind) → IsCalm which notes → AtCounts (λ image nv. IsResumable kind which image nv accepts) which at new → IsNotedBehind (Held which at) (Resumed which kind) notes
   pub abandoned : IsNoted notes (Abandoned which) → AtCounts (λ image nv. IsGivenUp which image nv accepts) which at new
   pub abandons : IsCalm which notes → AtCounts (λ image nv. IsGivenUp which image nv accepts) which at new → IsNotedBehind (Held which at) (Abandoned which) notes
-  -- What was taken up is done, with the capsule's security version number; of the recovery area that of the capsule which stands there
-  -- then is noted.
+  -- What was taken up is done, and of the active image the capsule's security version number is noted.
   pub done : (kind : JobKind) → IsCalm which notes → (r : AtCounts (λ image nv. IsResumable kind which image nv accepts) which at new)
       → (svn : ℕ) × (¬ (kind ≡ RecoveryFromStaging) → svn ≡ r.good.capsule.manifest.svn) × IsNotedBehind (Resumed which kind) (done_note which kind svn) notes
   -- Where an update of the recovery area is noted, such a job was open, and its capsule stands good there at the end, with the security
@@ -99,7 +98,8 @@ pub record AddsSince (which : Bank) (at : Counts) (ops : List Operation) (w : Wo
   pub few : length before ≡ count_at which at
   pub is : (state_at (device_of which) w).ops ≡ before ++ ops
 
--- A job that is resumed begins with the strokes of the pages that were left, or did a front of them, the last perhaps torn.
+-- A job that is resumed begins with the strokes of the pages that were left, or where a call failed did a front of them, the last perhaps
+-- torn.
 pub record HeedsMarks (accepts : Acceptance) (which : Bank) (kind : JobKind) (new : World) (notes : List Note) (at : Counts) : Type 0 where
   pub from : AtCounts (λ image nv. IsResumable kind which image nv accepts) which at new
   pub ops : List Operation
@@ -167,7 +167,7 @@ pub record UpdatesRecovery (accepts : Acceptance) (which : Bank) (new : World) (
   -- One that is refused writes nothing.
   pub writes_nothing : (why : Refusal) → IsNoted notes (Refused which why) → counts_in new ≡ at
 
--- An update of the recovery area of a bank that runs is judged before anything is written.
+-- An update of the recovery area of a bank that runs comes to that.
 abbrev pub RecoveryUpdates : Event → Acceptance → World → World → Type 0
 RecoveryUpdates (event.Update which Recovery) accepts old new = Runs which old → UpdatesRecovery accepts which new (added old new) (counts_in old)
 RecoveryUpdates e accepts old new = Unit {0}
@@ -203,7 +203,7 @@ pub record CancelsKey (accepts : Acceptance) (which : Bank) (new : World) (notes
   -- One that is refused writes nothing.
   pub writes_nothing : (why : Refusal) → IsNoted notes (Refused which why) → counts_in new ≡ at
 
--- A certificate is judged before anything is written.
+-- An update of a bank that runs by a certificate comes to that.
 abbrev pub Cancels : Event → Acceptance → World → World → Type 0
 Cancels (event.Update which CertIntent) accepts old new = Runs which old → CancelsKey accepts which new (added old new) (counts_in old)
 Cancels e accepts old new = Unit {0}

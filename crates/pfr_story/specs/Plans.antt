@@ -86,7 +86,7 @@ abbrev pub by_ready : Acceptance → Bank → Result FusesState LockWhy → Plan
 by_ready accepts bank (Ok fuses) = then (resumed (job_notes bank) accepts bank fuses) (checked_then accepts bank)
 by_ready accepts bank (Err why) = says (Locked bank why)
 
--- It is held, its fuses are read off the store, and it is checked.
+-- It is held, its fuses are read off the store, the job that is open is resumed or given up, and it is checked.
 abbrev pub brought_up : Acceptance → Bank → Plan
 brought_up accepts bank = then (says (Held bank)) (then asks_store (λ story. by_ready accepts bank (ready_of bank story) story))
 

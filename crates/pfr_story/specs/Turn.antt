@@ -86,7 +86,7 @@ smbus_course accepts which frame story = record { first = smbus_judged accepts w
 abbrev pub expiry_stretch : Acceptance → Bank → Stretch
 expiry_stretch accepts which = record { plan = expired accepts which; on_fault = λ device. Says (Locked which (fault_of device)) ∷ []; goes_on = true }
 
--- an update of a bank's active image
+-- an update of a bank, by whatever intent
 abbrev pub update_stretch : Acceptance → Bank → Intent → Stretch
 update_stretch accepts which intent = record { plan = updating accepts which intent; on_fault = λ device. Says (Locked which (fault_of device)) ∷ []; goes_on = false }
 
