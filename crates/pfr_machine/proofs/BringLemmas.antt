@@ -28,7 +28,7 @@ use Rattle.pfr_fuses.specs.declared.root_slot.RootSlot.{RootSlot}
 use Rattle.pfr_story.specs.Story.{Story, Move, Plan, after, then, device_of}
 use Rattle.pfr_story.specs.World.{World, AllMoved, story_of, state_at}
 use Rattle.pfr_story.specs.Goes.{Ran, Goes}
-use Rattle.pfr_story.specs.Plans.{mine, store, asks, judged_active, judged_recovery, judged_staging, ready_of, restored, by_second, checked_again, checked_then, by_fuses, by_active, by_ready, tail}
+use Rattle.pfr_story.specs.Plans.{mine, store, asks, judged_active, judged_recovery, judged_staging, restored, by_second, checked_again, checked_then, by_fuses, by_active, by_ready, tail}
 use Rattle.pfr_story.specs.UpdatePlans.{updated}
 use Rattle.pfr_story.specs.JobPlans.{job_notes, resumed}
 use Rattle.pfr_story.specs.declared.stop.Stop.{Stop}

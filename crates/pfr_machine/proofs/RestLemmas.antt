@@ -1,19 +1,14 @@
 -- The store is left ready for work on a bank.
-use Rattle.std.proofs.Common.{◌≡◌, ◌∙◌, refl, sym, ap, subst, ℕ, ◌+◌, ◌≤◌, ◌<◌, Bool, min, true, false, arith, List, length, Result, Ok, Err}
+use Rattle.std.proofs.Common.{◌≡◌, ◌∙◌, refl, sym, subst, ℕ, ◌≤◌, ◌<◌, Bool, true, false, arith, List, length, Result, Ok, Err}
 use Rattle.std.specs.Prelude.{nat_lt, OnOk}
 use Rattle.std.proofs.lemmas.Bool.Decides.{nat_tests}
 use Rattle.pfr_flash.specs.FlashState.{now, size_of}
 use Rattle.pfr_flash.specs.declared.names.Bank.{Bank}
 use Rattle.pfr_flash.specs.declared.names.Bank.TheVariants as bank
 use Rattle.pfr_engine.specs.Acceptance.{Acceptance}
-use Rattle.pfr_fuses.specs.FusesState.{FusesState}
 use Rattle.pfr_fuses.specs.FusesOf.{fuses_of}
-use Rattle.pfr_fuses.specs.declared.profile.Profile.TheVariants.{Two}
 use Rattle.pfr_jobs.specs.Log.{open_job}
-use Rattle.pfr_jobs.specs.LogPlans.{IsKind}
-use Rattle.pfr_jobs.specs.declared.job.JobKind.TheVariants.{ActiveFromRecovery}
 use Rattle.pfr_jobs.specs.declared.job.OpenJob.TheVariants as job
-use Rattle.pfr_recoverable.proofs.StaysLaw.{fuses_one}
 use Rattle.pfr_watch.specs.declared.watch.Watch.{Watch}
 use Rattle.pfr_report.specs.declared.note.What.{What}
 use Rattle.pfr_story.specs.Course.{CrossesOrFaults}
@@ -30,11 +25,9 @@ use Rattle.pfr_story.specs.World.{World, AreDevices, story_of}
 use Rattle.pfr_story.proofs.StoreLeft.{brought_left, expired_left, quiet_left, quiet_settled, two_left}
 use Rattle.pfr_story.proofs.SpanRules.{NotOne}
 use Rattle.pfr_machine.specs.Inside.{IsAtRest, IsMigrated}
-use Rattle.pfr_machine.specs.Ready.{BroughtUp}
 use Rattle.pfr_machine.specs.Watching.{BringsDue}
 use Rattle.pfr_machine.specs.Working.{IsFreeFor}
 use Rattle.pfr_machine.specs.Worlds.{with_note}
-use Rattle.pfr_machine.specs.declared.working.Dark.{Dark}
 use Rattle.pfr_machine.specs.declared.working.Work.TheVariants.{Recover}
 
 -- a bank that runs is

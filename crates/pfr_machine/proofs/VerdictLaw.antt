@@ -1,11 +1,8 @@
 -- What a verdict tells is so, and what is so it tells.
-use Rattle.std.proofs.Common.{◌≡◌, ◌∙◌, refl, sym, ap, subst, ◌↔◌, inr, Some, None, ℕ, List, length, Bool, true, false, IsTrue, Result, Ok, Err, IfOk}
+use Rattle.std.proofs.Common.{◌≡◌, ◌∙◌, refl, sym, ap, subst, ◌↔◌, ℕ, List, length, Bool, true, false, IsTrue, Result, Ok, Err, IfOk}
 use Rattle.std.specs.Cmp.Lexicographic.{same_text, other_text}
 use Rattle.std.proofs.lemmas.Cmp.{nat_list_eq_equiv}
-use Rattle.pfr_flash.specs.FlashState.{FlashState}
-use Rattle.pfr_flash.specs.Reading.{EndsAt, failed_by}
 use Rattle.pfr_flash.specs.Layout.{judge_layout}
-use Rattle.pfr_flash.specs.declared.flash.FlashFail.{FlashFail}
 use Rattle.pfr_flash.specs.declared.layout.Layout.{Layout}
 use Rattle.pfr_flash.specs.declared.layout.LayoutRule.{LayoutRule}
 use Rattle.pfr_flash.specs.declared.names.Bank.{Bank}
@@ -38,7 +35,8 @@ use Rattle.pfr_jobs.specs.LogState.{LogState, log_of}
 use Rattle.pfr_jobs.specs.declared.job.OpenJob.{OpenJob}
 use Rattle.pfr_report.specs.declared.verdict.Standing.{Standing}
 use Rattle.pfr_report.specs.declared.verdict.Standing.TheVariants.{Ready, Unprovisioned, SlotsSpent, LayoutBad}
-use Rattle.pfr_machine.specs.Verdicts.{EndsEither, HasGood, HasSameManifest, HasTrusted, IsVerdict, images_of, job_told, ready, ready_if, share_manifest, spell_same, svn_of_capsule, svn_of_image, verdict_of, verdict_with}
+use Rattle.pfr_story.specs.UpdatePlans.{spell_same}
+use Rattle.pfr_machine.specs.Verdicts.{HasGood, HasSameManifest, HasTrusted, IsVerdict, images_of, job_told, ready, ready_if, share_manifest, svn_of_capsule, svn_of_image, verdict_of, verdict_with}
 use Rattle.pfr_machine.specs.VerdictsInside.{AreOne, IsBorneOut, IsGoodIn, IsSound, TellsImages, tells}
 use Rattle.pfr_machine.proofs.JudgeLemmas.{stands_bank}
 

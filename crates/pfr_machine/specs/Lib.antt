@@ -9,4 +9,5 @@ pub mod Verdicts
 pub mod VerdictsInside
 pub mod Passing
 pub mod Renewing
+pub mod Jobs
 pub mod Cancelling

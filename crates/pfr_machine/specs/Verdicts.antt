@@ -1,6 +1,5 @@
 -- What is found of a bank and its images, by what its flash and the store hold.
-use Rattle.std.specs.Prelude.{◌⊎◌, Some, None, ◌≡◌, ◌↔◌, ℕ, List, length, Bool, false, IsTrue, nat_eq, Result, Ok, Err}
-use Rattle.std.specs.Cmp.Lexicographic.{pointwise}
+use Rattle.std.specs.Prelude.{◌⊎◌, Some, None, ◌≡◌, ◌↔◌, ℕ, List, length, Bool, false, IsTrue, Result, Ok, Err}
 use Rattle.pfr_flash.specs.Bytes.{bytes_at}
 use Rattle.pfr_flash.specs.Layout.{judge_layout}
 use Rattle.pfr_flash.specs.declared.layout.LayoutRule.{LayoutRule}
@@ -10,7 +9,6 @@ use Rattle.pfr_flash.specs.declared.flash.FlashFail.{FlashFail}
 use Rattle.pfr_flash.specs.declared.names.Bank.{Bank}
 use Rattle.pfr_engine.specs.Acceptance.{Acceptance}
 use Rattle.pfr_chain.specs.declared.fail.ChainFail.TheVariants.{ShortBlock}
-use Rattle.pfr_manifest.specs.Spelling.{manifest_bytes}
 use Rattle.pfr_manifest.specs.declared.manifest.Manifest.{Manifest}
 use Rattle.pfr_fuses.specs.FusesState.{FusesState, floor_of}
 use Rattle.pfr_fuses.specs.FusesOf.{fuses_of}
@@ -34,6 +32,7 @@ use Rattle.pfr_jobs.specs.declared.job.OpenJob.TheVariants as job
 use Rattle.pfr_report.specs.declared.verdict.BankVerdict.{BankVerdict}
 use Rattle.pfr_report.specs.declared.verdict.Standing.{Standing}
 use Rattle.pfr_report.specs.declared.verdict.Standing.TheVariants.{Unprovisioned, SlotsSpent, LayoutBad, Ready}
+use Rattle.pfr_story.specs.UpdatePlans.{spell_same}
 
 -- the security version number of what is judged well
 abbrev pub svn_of_image : Result Manifest ActiveFail → Result ℕ ActiveFail
@@ -43,10 +42,6 @@ svn_of_image (Err cause) = Err cause
 abbrev pub svn_of_capsule : Result CapsuleState CapsuleFail → Result ℕ CapsuleFail
 svn_of_capsule (Ok found) = Ok found.manifest.svn
 svn_of_capsule (Err cause) = Err cause
-
--- the same bytes spell both manifests
-abbrev pub spell_same : Manifest → Manifest → Bool
-spell_same manifest other = pointwise nat_eq (manifest_bytes manifest) (manifest_bytes other)
 
 -- an image and a capsule that are judged well have the same manifest
 abbrev pub share_manifest : Result Manifest ActiveFail → Result CapsuleState CapsuleFail → Bool

@@ -12,8 +12,7 @@ ghost use Rattle.pfr_copy.specs.Applying.{CanApply, CanCopyOver};
 ghost use Rattle.pfr_fuses.specs.FusesOf.{fuses_of};
 ghost use Rattle.pfr_fuses.specs.RootSlot.{layout_of};
 ghost use Rattle.pfr_report.specs.Texts.{HasLockText, HasText};
-ghost use Rattle.pfr_report.specs.declared.note.What.TheVariants.{Released, Refused, Locked, Lost, Untrusted};
-ghost use Rattle.pfr_report.specs.declared.note.Refusal.TheVariants.{Capsule as Staged};
+ghost use Rattle.pfr_report.specs.declared.note.What.TheVariants.{Released, Locked, Lost, Untrusted};
 ghost use Rattle.pfr_story.specs.Goes.{Goes, Ran};
 ghost use Rattle.pfr_story.specs.Guards.{latch_after};
 ghost use Rattle.pfr_story.specs.Plans.{asks, asks_store, mine, restored};
@@ -38,10 +37,10 @@ use pfr_auth::{ActiveFail, Area, capsule_at};
 use pfr_bank::{Checked, Held, Unchecked};
 use pfr_capsule::{Capsule, CapsuleFail};
 use pfr_chain::Engine;
-use pfr_flash::{Bank, Counts, Device, Flash, FlashFail};
+use pfr_flash::{Bank, Counts, Device, Flash};
 use pfr_fuses::{FuseFail, Fuses};
 use pfr_jobs::JobKind;
-use pfr_report::{LockWhy, Refusal, What};
+use pfr_report::{LockWhy, What};
 use pfr_story::Stop;
 use std::marker::Model;
 
@@ -234,17 +233,6 @@ impl<F: Flash> Desk<F> {
         let kind = JobKind::ActiveFromStaging { dynamic };
         let (bank, svn) = (self.bank, capsule.manifest().svn);
         self.with_job(fuses, capsule, kind, What::Updated { bank, dynamic, svn })
-    }
-
-    /// Notes that what is in the staging area is no good capsule.
-    pub fn refuse(&mut self, cause: CapsuleFail)
-        requires room { 1 ≤ self.old.world.notes.spare }
-        requires cause { IsFound capsule_failure cause }
-        ensures noted { self.new ≡ record self.old { world = with_note (Refused self.old.bank (Staged cause)) self.old.world } }
-    {
-        let bank = self.bank;
-        let why = Refusal::Capsule(cause);
-        self.note(What::Refused { bank, why });
     }
 
     /// Notes that the active image isn't trusted.

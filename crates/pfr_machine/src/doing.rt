@@ -1,5 +1,5 @@
 // Jobs on the active image of a bank in work are done.
-ghost use Rattle.std.specs.Prelude.{◌≡◌, ◌≢◌, ◌≤◌, Bool, OnOk, false, true};
+ghost use Rattle.std.specs.Prelude.{◌≡◌, ◌≤◌, Bool, OnOk, false, true};
 ghost use Rattle.pfr_flash.specs.FlashState.{now};
 ghost use Rattle.pfr_flash.specs.declared.names.Bank.{Bank};
 ghost use Rattle.pfr_copy.specs.Applying.{CanApply, IsActive};
@@ -16,6 +16,7 @@ ghost use Rattle.pfr_story.specs.JobPlans.{abandoned, by_log, done_with, with_jo
 ghost use Rattle.pfr_story.specs.Standing.{Standing, standing_after};
 ghost use Rattle.pfr_story.specs.Story.{device_of};
 ghost use Rattle.pfr_story.specs.World.{state_at};
+ghost use Rattle.pfr_machine.specs.Jobs.{IsAtJob};
 ghost use Rattle.pfr_machine.specs.Worlds.{IsAwake, Stays};
 
 use crate::desk::Desk;
@@ -31,9 +32,7 @@ impl<F: Flash> Desk<F> {
     /// Finishes the job that is open, and notes this.
     pub fn close_job(&mut self, log: &mut JobLog, what: What) -> Result<(), Stop>
         requires room { 1 ≤ self.old.world.notes.spare }
-        requires on { IsAwake self.old.bank self.old.world }
-        requires stands { log.old ≡ log_of (now self.old.world.nv) self.old.bank }
-        requires open { log.old.job ≢ job.None }
+        requires at_job { IsAtJob self.old log.old }
         requires text { HasText what }
         requires still { (which : Bank) (s : Standing) → standing_after which what s ≡ s }
         requires still_latch { (which : Bank) (latch : Bool) → latch_after which what latch ≡ latch }
@@ -55,9 +54,7 @@ impl<F: Flash> Desk<F> {
         capsule: &Capsule,
         kind: JobKind,
     ) -> Result<(), Stop>
-        requires on { IsAwake self.old.bank self.old.world }
-        requires stands { log.old ≡ log_of (now self.old.world.nv) self.old.bank }
-        requires open { log.old.job ≢ job.None }
+        requires at_job { IsAtJob self.old log.old }
         requires can { CanApply (now (state_at (device_of self.old.bank) self.old.world))
             (layout_of fuses.now.provision self.old.bank) capsule.now }
         requires kind { IsActive kind }
@@ -99,9 +96,7 @@ impl<F: Flash> Desk<F> {
         that: What,
     ) -> Result<(), Stop>
         requires room { 1 ≤ self.old.world.notes.spare }
-        requires on { IsAwake self.old.bank self.old.world }
-        requires stands { log.old ≡ log_of (now self.old.world.nv) self.old.bank }
-        requires open { log.old.job ≢ job.None }
+        requires at_job { IsAtJob self.old log.old }
         requires can { CanApply (now (state_at (device_of self.old.bank) self.old.world))
             (layout_of fuses.now.provision self.old.bank) capsule.now }
         requires kind { IsActive kind }

@@ -16,6 +16,7 @@ ghost use Rattle.pfr_story.specs.JobPlans.{begun_job, finished_job, raised_to};
 ghost use Rattle.pfr_story.specs.Plans.{asks_store};
 ghost use Rattle.pfr_story.specs.Story.{device_of};
 ghost use Rattle.pfr_story.specs.World.{state_at};
+ghost use Rattle.pfr_machine.specs.Jobs.{IsAtJob};
 ghost use Rattle.pfr_machine.specs.Inside.{KeepsLaid};
 ghost use Rattle.pfr_machine.specs.Worlds.{IsAwake, Stays};
 
@@ -131,9 +132,7 @@ impl<F: Flash> Desk<F> {
 
     /// Finishes the job that the bank's log has open.
     pub fn finish_job(&mut self, log: &mut JobLog) -> Result<(), Stop>
-        requires on { IsAwake self.old.bank self.old.world }
-        requires stands { log.old ≡ log_of (now self.old.world.nv) self.old.bank }
-        requires open { log.old.job ≢ job.None }
+        requires at_job { IsAtJob self.old log.old }
         ensures goes { Goes (finished_job self.old.bank) self.old.world self.new.world result }
         ensures stands { OnOk result (log.new ≡ log_of (now self.new.world.nv) self.old.bank) }
         ensures none { OnOk result (log.new.job ≡ job.None) }

@@ -1,7 +1,6 @@
 // The recovery area of a bank in work is replaced, by a job.
-ghost use Rattle.std.specs.Prelude.{◌≡◌, ◌≢◌, ◌≤◌, OnOk, Ok, false};
-ghost use Rattle.pfr_flash.specs.FlashState.{now, size_of};
-ghost use Rattle.pfr_flash.specs.Layout.{IsValidLayout};
+ghost use Rattle.std.specs.Prelude.{◌≡◌, ◌≤◌, OnOk, Ok, false};
+ghost use Rattle.pfr_flash.specs.FlashState.{now};
 ghost use Rattle.pfr_copy.specs.Applying.{CanCopyOver};
 ghost use Rattle.pfr_fuses.specs.FusesOf.{fuses_of};
 ghost use Rattle.pfr_fuses.specs.RootSlot.{layout_of};
@@ -14,6 +13,7 @@ ghost use Rattle.pfr_story.specs.Goes.{Goes};
 ghost use Rattle.pfr_story.specs.JobPlans.{abandoned, by_digest, concluded, copied_again, copied_over, recovery_job, recovery_work, same_digest, second_pass};
 ghost use Rattle.pfr_story.specs.Story.{device_of};
 ghost use Rattle.pfr_story.specs.World.{state_at};
+ghost use Rattle.pfr_machine.specs.Jobs.{HasFuses, IsAtJob, LeavesNoJob};
 ghost use Rattle.pfr_machine.specs.Renewing.{looked_again, looked_over};
 ghost use Rattle.pfr_machine.specs.Worlds.{IsAwake, Stays};
 
@@ -39,9 +39,7 @@ impl<F: Flash> Desk<F> {
     /// Gives the job up that is open.
     pub fn give_up(&mut self, log: &mut JobLog) -> Result<(), Stop>
         requires room { 1 ≤ self.old.world.notes.spare }
-        requires on { IsAwake self.old.bank self.old.world }
-        requires stands { log.old ≡ log_of (now self.old.world.nv) self.old.bank }
-        requires open { log.old.job ≢ job.None }
+        requires at_job { IsAtJob self.old log.old }
         ensures goes { Goes (abandoned (Abandoned self.old.bank) self.old.bank) self.old.world self.new.world result }
         ensures none { OnOk result (open_job (now self.new.world.nv) self.old.bank ≡ job.None) }
         ensures stays { Stays 1 self.old self.new result }
@@ -54,9 +52,7 @@ impl<F: Flash> Desk<F> {
     // Finishes the job that is open, and notes that the recovery area was updated.
     fn close_renewed(&mut self, log: &mut JobLog, svn: u8) -> Result<(), Stop>
         requires room { 1 ≤ self.old.world.notes.spare }
-        requires on { IsAwake self.old.bank self.old.world }
-        requires stands { log.old ≡ log_of (now self.old.world.nv) self.old.bank }
-        requires open { log.old.job ≢ job.None }
+        requires at_job { IsAtJob self.old log.old }
         ensures goes { Goes (abandoned (RecoveryUpdated self.old.bank svn) self.old.bank) self.old.world self.new.world result }
         ensures none { OnOk result (open_job (now self.new.world.nv) self.old.bank ≡ job.None) }
         ensures stays { Stays 1 self.old self.new result }
@@ -74,17 +70,12 @@ impl<F: Flash> Desk<F> {
         capsule: &Capsule,
     ) -> Result<(), Stop>
         requires room { 1 ≤ self.old.world.notes.spare }
-        requires on { IsAwake self.old.bank self.old.world }
-        requires stands { log.old ≡ log_of (now self.old.world.nv) self.old.bank }
-        requires open { log.old.job ≢ job.None }
+        requires at_job { IsAtJob self.old log.old }
         requires found { fuses_of (now self.old.world.nv) ≡ Ok fuses.old }
         requires two { fuses.old.profile ≡ Two }
         requires svn { capsule.now.manifest.svn ≤ 127 }
         ensures goes { Goes (concluded (λ svn. RecoveryUpdated self.old.bank svn) self.old.bank fuses.old capsule.now) self.old.world self.new.world result }
-        ensures found { OnOk result (fuses_of (now self.new.world.nv) ≡ Ok fuses.new) }
-        ensures none { OnOk result (open_job (now self.new.world.nv) self.old.bank ≡ job.None) }
-        ensures two { fuses.new.profile ≡ Two }
-        ensures provision { fuses.new.provision ≡ fuses.old.provision }
+        ensures leaves { LeavesNoJob self.old self.new fuses.old fuses.new result }
         ensures stays { Stays 1 self.old self.new result }
     {
         let svn = capsule.manifest().svn;
@@ -99,9 +90,7 @@ impl<F: Flash> Desk<F> {
         fuses: &Fuses,
         capsule: &Capsule,
     ) -> Result<(), Stop>
-        requires on { IsAwake self.old.bank self.old.world }
-        requires stands { log.old ≡ log_of (now self.old.world.nv) self.old.bank }
-        requires open { log.old.job ≢ job.None }
+        requires at_job { IsAtJob self.old log.old }
         requires can { CanCopyOver (now (state_at (device_of self.old.bank) self.old.world))
             (layout_of fuses.now.provision self.old.bank) capsule.now }
         ensures goes { Goes (copied_over self.old.bank fuses.now capsule.now) self.old.world self.new.world result }
@@ -122,9 +111,7 @@ impl<F: Flash> Desk<F> {
         fuses: &Fuses,
         capsule: &Capsule,
     ) -> Result<(), Stop>
-        requires on { IsAwake self.old.bank self.old.world }
-        requires stands { log.old ≡ log_of (now self.old.world.nv) self.old.bank }
-        requires open { log.old.job ≢ job.None }
+        requires at_job { IsAtJob self.old log.old }
         requires can { CanCopyOver (now (state_at (device_of self.old.bank) self.old.world))
             (layout_of fuses.now.provision self.old.bank) capsule.now }
         ensures goes { Goes (copied_again self.old.bank fuses.now capsule.now) self.old.world self.new.world result }
@@ -143,18 +130,10 @@ impl<F: Flash> Desk<F> {
         engine: &E,
     ) -> Result<(), Stop>
         requires room { 1 ≤ self.old.world.notes.spare }
-        requires on { IsAwake self.old.bank self.old.world }
-        requires stands { log.old ≡ log_of (now self.old.world.nv) self.old.bank }
-        requires open { log.old.job ≢ job.None }
-        requires found { fuses_of (now self.old.world.nv) ≡ Ok fuses.old }
-        requires two { fuses.old.profile ≡ Two }
-        requires valid { IsValidLayout (layout_of fuses.old.provision self.old.bank)
-            (size_of (state_at (device_of self.old.bank) self.old.world)) }
+        requires at_job { IsAtJob self.old log.old }
+        requires fused { HasFuses self.old fuses.old }
         ensures goes { Goes (looked_again (Abandoned self.old.bank) (λ svn. RecoveryUpdated self.old.bank svn) (E.accepts engine.now) fuses.old self.old.bank) self.old.world self.new.world result }
-        ensures found { OnOk result (fuses_of (now self.new.world.nv) ≡ Ok fuses.new) }
-        ensures none { OnOk result (open_job (now self.new.world.nv) self.old.bank ≡ job.None) }
-        ensures two { fuses.new.profile ≡ Two }
-        ensures provision { fuses.new.provision ≡ fuses.old.provision }
+        ensures leaves { LeavesNoJob self.old self.new fuses.old fuses.new result }
         ensures stays { Stays 1 self.old self.new result }
     {
         match self.judge(Area::Recovery, fuses, engine) {
@@ -173,20 +152,12 @@ impl<F: Flash> Desk<F> {
         engine: &E,
     ) -> Result<(), Stop>
         requires room { 1 ≤ self.old.world.notes.spare }
-        requires on { IsAwake self.old.bank self.old.world }
-        requires stands { log.old ≡ log_of (now self.old.world.nv) self.old.bank }
-        requires open { log.old.job ≢ job.None }
-        requires found { fuses_of (now self.old.world.nv) ≡ Ok fuses.old }
-        requires two { fuses.old.profile ≡ Two }
-        requires valid { IsValidLayout (layout_of fuses.old.provision self.old.bank)
-            (size_of (state_at (device_of self.old.bank) self.old.world)) }
+        requires at_job { IsAtJob self.old log.old }
+        requires fused { HasFuses self.old fuses.old }
         requires can { CanCopyOver (now (state_at (device_of self.old.bank) self.old.world))
             (layout_of fuses.old.provision self.old.bank) capsule.now }
         ensures goes { Goes (second_pass (Abandoned self.old.bank) (λ svn. RecoveryUpdated self.old.bank svn) (E.accepts engine.now) self.old.bank fuses.old capsule.now) self.old.world self.new.world result }
-        ensures found { OnOk result (fuses_of (now self.new.world.nv) ≡ Ok fuses.new) }
-        ensures none { OnOk result (open_job (now self.new.world.nv) self.old.bank ≡ job.None) }
-        ensures two { fuses.new.profile ≡ Two }
-        ensures provision { fuses.new.provision ≡ fuses.old.provision }
+        ensures leaves { LeavesNoJob self.old self.new fuses.old fuses.new result }
         ensures stays { Stays 1 self.old self.new result }
     {
         self.copy_again(log, fuses, capsule)?;
@@ -203,21 +174,13 @@ impl<F: Flash> Desk<F> {
         engine: &E,
     ) -> Result<(), Stop>
         requires room { 1 ≤ self.old.world.notes.spare }
-        requires on { IsAwake self.old.bank self.old.world }
-        requires stands { log.old ≡ log_of (now self.old.world.nv) self.old.bank }
-        requires open { log.old.job ≢ job.None }
-        requires found { fuses_of (now self.old.world.nv) ≡ Ok fuses.old }
-        requires two { fuses.old.profile ≡ Two }
-        requires valid { IsValidLayout (layout_of fuses.old.provision self.old.bank)
-            (size_of (state_at (device_of self.old.bank) self.old.world)) }
+        requires at_job { IsAtJob self.old log.old }
+        requires fused { HasFuses self.old fuses.old }
         requires can { CanCopyOver (now (state_at (device_of self.old.bank) self.old.world))
             (layout_of fuses.old.provision self.old.bank) capsule.now }
         requires svn { found.now.manifest.svn ≤ 127 }
         ensures goes { Goes (by_digest (same_digest found.now.digest capsule.now.digest) (Abandoned self.old.bank) (λ svn. RecoveryUpdated self.old.bank svn) (E.accepts engine.now) self.old.bank fuses.old capsule.now found.now) self.old.world self.new.world result }
-        ensures found { OnOk result (fuses_of (now self.new.world.nv) ≡ Ok fuses.new) }
-        ensures none { OnOk result (open_job (now self.new.world.nv) self.old.bank ≡ job.None) }
-        ensures two { fuses.new.profile ≡ Two }
-        ensures provision { fuses.new.provision ≡ fuses.old.provision }
+        ensures leaves { LeavesNoJob self.old self.new fuses.old fuses.new result }
         ensures stays { Stays 1 self.old self.new result }
     {
         if same_digest(&found.digest(), &capsule.digest()) {
@@ -236,20 +199,12 @@ impl<F: Flash> Desk<F> {
         engine: &E,
     ) -> Result<(), Stop>
         requires room { 1 ≤ self.old.world.notes.spare }
-        requires on { IsAwake self.old.bank self.old.world }
-        requires stands { log.old ≡ log_of (now self.old.world.nv) self.old.bank }
-        requires open { log.old.job ≢ job.None }
-        requires found { fuses_of (now self.old.world.nv) ≡ Ok fuses.old }
-        requires two { fuses.old.profile ≡ Two }
-        requires valid { IsValidLayout (layout_of fuses.old.provision self.old.bank)
-            (size_of (state_at (device_of self.old.bank) self.old.world)) }
+        requires at_job { IsAtJob self.old log.old }
+        requires fused { HasFuses self.old fuses.old }
         requires can { CanCopyOver (now (state_at (device_of self.old.bank) self.old.world))
             (layout_of fuses.old.provision self.old.bank) capsule.now }
         ensures goes { Goes (looked_over (Abandoned self.old.bank) (λ svn. RecoveryUpdated self.old.bank svn) (E.accepts engine.now) fuses.old capsule.now self.old.bank) self.old.world self.new.world result }
-        ensures found { OnOk result (fuses_of (now self.new.world.nv) ≡ Ok fuses.new) }
-        ensures none { OnOk result (open_job (now self.new.world.nv) self.old.bank ≡ job.None) }
-        ensures two { fuses.new.profile ≡ Two }
-        ensures provision { fuses.new.provision ≡ fuses.old.provision }
+        ensures leaves { LeavesNoJob self.old self.new fuses.old fuses.new result }
         ensures stays { Stays 1 self.old self.new result }
     {
         match self.judge(Area::Recovery, fuses, engine) {
@@ -269,20 +224,12 @@ impl<F: Flash> Desk<F> {
         engine: &E,
     ) -> Result<(), Stop>
         requires room { 1 ≤ self.old.world.notes.spare }
-        requires on { IsAwake self.old.bank self.old.world }
-        requires stands { log.old ≡ log_of (now self.old.world.nv) self.old.bank }
-        requires open { log.old.job ≢ job.None }
-        requires found { fuses_of (now self.old.world.nv) ≡ Ok fuses.old }
-        requires two { fuses.old.profile ≡ Two }
-        requires valid { IsValidLayout (layout_of fuses.old.provision self.old.bank)
-            (size_of (state_at (device_of self.old.bank) self.old.world)) }
+        requires at_job { IsAtJob self.old log.old }
+        requires fused { HasFuses self.old fuses.old }
         requires can { CanCopyOver (now (state_at (device_of self.old.bank) self.old.world))
             (layout_of fuses.old.provision self.old.bank) capsule.now }
         ensures goes { Goes (recovery_work (Abandoned self.old.bank) (λ svn. RecoveryUpdated self.old.bank svn) (E.accepts engine.now) self.old.bank fuses.old capsule.now) self.old.world self.new.world result }
-        ensures found { OnOk result (fuses_of (now self.new.world.nv) ≡ Ok fuses.new) }
-        ensures none { OnOk result (open_job (now self.new.world.nv) self.old.bank ≡ job.None) }
-        ensures two { fuses.new.profile ≡ Two }
-        ensures provision { fuses.new.provision ≡ fuses.old.provision }
+        ensures leaves { LeavesNoJob self.old self.new fuses.old fuses.new result }
         ensures stays { Stays 1 self.old self.new result }
     {
         self.copy_over(log, fuses, capsule)?;
@@ -302,17 +249,11 @@ impl<F: Flash> Desk<F> {
         requires stands { log.old ≡ log_of (now self.old.world.nv) self.old.bank }
         requires none { log.old.job ≡ job.None }
         requires left { is_spent_in log.old ≡ false }
-        requires found { fuses_of (now self.old.world.nv) ≡ Ok fuses.old }
-        requires two { fuses.old.profile ≡ Two }
-        requires valid { IsValidLayout (layout_of fuses.old.provision self.old.bank)
-            (size_of (state_at (device_of self.old.bank) self.old.world)) }
+        requires fused { HasFuses self.old fuses.old }
         requires can { CanCopyOver (now (state_at (device_of self.old.bank) self.old.world))
             (layout_of fuses.old.provision self.old.bank) capsule.now }
         ensures goes { Goes (recovery_job (Abandoned self.old.bank) (λ svn. RecoveryUpdated self.old.bank svn) (E.accepts engine.now) self.old.bank fuses.old capsule.now) self.old.world self.new.world result }
-        ensures found { OnOk result (fuses_of (now self.new.world.nv) ≡ Ok fuses.new) }
-        ensures none { OnOk result (open_job (now self.new.world.nv) self.old.bank ≡ job.None) }
-        ensures two { fuses.new.profile ≡ Two }
-        ensures provision { fuses.new.provision ≡ fuses.old.provision }
+        ensures leaves { LeavesNoJob self.old self.new fuses.old fuses.new result }
         ensures stays { Stays 1 self.old self.new result }
     {
         self.begin_job(log, JobKind::RecoveryFromStaging, &capsule.digest())?;

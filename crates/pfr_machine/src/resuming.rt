@@ -1,18 +1,14 @@
 // A job that the log of a bank in work has open at a power-on is resumed.
-ghost use Rattle.std.specs.Prelude.{◌≡◌, ◌≢◌, ◌≤◌, OnOk, Ok, true};
-ghost use Rattle.pfr_flash.specs.FlashState.{now, size_of};
-ghost use Rattle.pfr_flash.specs.Layout.{IsValidLayout};
+ghost use Rattle.std.specs.Prelude.{◌≡◌, ◌≤◌, true};
+ghost use Rattle.pfr_flash.specs.FlashState.{now};
 ghost use Rattle.pfr_copy.specs.Working.{CanDo};
-ghost use Rattle.pfr_fuses.specs.FusesOf.{fuses_of};
 ghost use Rattle.pfr_fuses.specs.RootSlot.{layout_of};
-ghost use Rattle.pfr_fuses.specs.declared.profile.Profile.TheVariants.{Two};
-ghost use Rattle.pfr_jobs.specs.Log.{open_job};
 ghost use Rattle.pfr_jobs.specs.LogState.{log_of};
-ghost use Rattle.pfr_jobs.specs.declared.job.OpenJob.TheVariants as job;
 ghost use Rattle.pfr_story.specs.Goes.{Goes};
 ghost use Rattle.pfr_story.specs.JobPlans.{by_open, job_notes, resumed, resumed_if, same_digest, source_of, work_of};
 ghost use Rattle.pfr_story.specs.Story.{device_of};
 ghost use Rattle.pfr_story.specs.World.{state_at};
+ghost use Rattle.pfr_machine.specs.Jobs.{HasFuses, IsAtJob, LeavesNoJob};
 ghost use Rattle.pfr_machine.specs.Renewing.{source_judged};
 ghost use Rattle.pfr_machine.specs.Worlds.{IsAwake, Stays};
 
@@ -48,20 +44,12 @@ impl<F: Flash> Desk<F> {
         engine: &E,
     ) -> Result<(), Stop>
         requires room { 1 ≤ self.old.world.notes.spare }
-        requires on { IsAwake self.old.bank self.old.world }
-        requires stands { log.old ≡ log_of (now self.old.world.nv) self.old.bank }
-        requires open { log.old.job ≢ job.None }
-        requires found { fuses_of (now self.old.world.nv) ≡ Ok fuses.old }
-        requires two { fuses.old.profile ≡ Two }
-        requires valid { IsValidLayout (layout_of fuses.old.provision self.old.bank)
-            (size_of (state_at (device_of self.old.bank) self.old.world)) }
+        requires at_job { IsAtJob self.old log.old }
+        requires fused { HasFuses self.old fuses.old }
         requires can { CanDo kind (now (state_at (device_of self.old.bank) self.old.world))
             (layout_of fuses.old.provision self.old.bank) capsule.now }
         ensures goes { Goes (work_of (job_notes self.old.bank) (E.accepts engine.now) self.old.bank fuses.old capsule.now kind) self.old.world self.new.world result }
-        ensures found { OnOk result (fuses_of (now self.new.world.nv) ≡ Ok fuses.new) }
-        ensures none { OnOk result (open_job (now self.new.world.nv) self.old.bank ≡ job.None) }
-        ensures two { fuses.new.profile ≡ Two }
-        ensures provision { fuses.new.provision ≡ fuses.old.provision }
+        ensures leaves { LeavesNoJob self.old self.new fuses.old fuses.new result }
         ensures stays { Stays 1 self.old self.new result }
     {
         let bank = self.bank;
@@ -93,20 +81,12 @@ impl<F: Flash> Desk<F> {
         engine: &E,
     ) -> Result<(), Stop>
         requires room { 2 ≤ self.old.world.notes.spare }
-        requires on { IsAwake self.old.bank self.old.world }
-        requires stands { log.old ≡ log_of (now self.old.world.nv) self.old.bank }
-        requires open { log.old.job ≢ job.None }
-        requires found { fuses_of (now self.old.world.nv) ≡ Ok fuses.old }
-        requires two { fuses.old.profile ≡ Two }
-        requires valid { IsValidLayout (layout_of fuses.old.provision self.old.bank)
-            (size_of (state_at (device_of self.old.bank) self.old.world)) }
+        requires at_job { IsAtJob self.old log.old }
+        requires fused { HasFuses self.old fuses.old }
         requires can { CanDo kind (now (state_at (device_of self.old.bank) self.old.world))
             (layout_of fuses.old.provision self.old.bank) capsule.now }
         ensures goes { Goes (resumed_if true (job_notes self.old.bank) (E.accepts engine.now) self.old.bank fuses.old capsule.now kind) self.old.world self.new.world result }
-        ensures found { OnOk result (fuses_of (now self.new.world.nv) ≡ Ok fuses.new) }
-        ensures none { OnOk result (open_job (now self.new.world.nv) self.old.bank ≡ job.None) }
-        ensures two { fuses.new.profile ≡ Two }
-        ensures provision { fuses.new.provision ≡ fuses.old.provision }
+        ensures leaves { LeavesNoJob self.old self.new fuses.old fuses.new result }
         ensures stays { Stays 2 self.old self.new result }
     {
         let bank = self.bank;
@@ -125,20 +105,12 @@ impl<F: Flash> Desk<F> {
         engine: &E,
     ) -> Result<(), Stop>
         requires room { 2 ≤ self.old.world.notes.spare }
-        requires on { IsAwake self.old.bank self.old.world }
-        requires stands { log.old ≡ log_of (now self.old.world.nv) self.old.bank }
-        requires open { log.old.job ≢ job.None }
-        requires found { fuses_of (now self.old.world.nv) ≡ Ok fuses.old }
-        requires two { fuses.old.profile ≡ Two }
-        requires valid { IsValidLayout (layout_of fuses.old.provision self.old.bank)
-            (size_of (state_at (device_of self.old.bank) self.old.world)) }
+        requires at_job { IsAtJob self.old log.old }
+        requires fused { HasFuses self.old fuses.old }
         requires can { CanDo kind (now (state_at (device_of self.old.bank) self.old.world))
             (layout_of fuses.old.provision self.old.bank) capsule.now }
         ensures goes { Goes (resumed_if (same_digest capsule.now.digest digest.now) (job_notes self.old.bank) (E.accepts engine.now) self.old.bank fuses.old capsule.now kind) self.old.world self.new.world result }
-        ensures found { OnOk result (fuses_of (now self.new.world.nv) ≡ Ok fuses.new) }
-        ensures none { OnOk result (open_job (now self.new.world.nv) self.old.bank ≡ job.None) }
-        ensures two { fuses.new.profile ≡ Two }
-        ensures provision { fuses.new.provision ≡ fuses.old.provision }
+        ensures leaves { LeavesNoJob self.old self.new fuses.old fuses.new result }
         ensures stays { Stays 2 self.old self.new result }
     {
         if same_digest(&capsule.digest(), digest) {
@@ -158,18 +130,10 @@ impl<F: Flash> Desk<F> {
         engine: &E,
     ) -> Result<(), Stop>
         requires room { 2 ≤ self.old.world.notes.spare }
-        requires on { IsAwake self.old.bank self.old.world }
-        requires stands { log.old ≡ log_of (now self.old.world.nv) self.old.bank }
-        requires open { log.old.job ≢ job.None }
-        requires found { fuses_of (now self.old.world.nv) ≡ Ok fuses.old }
-        requires two { fuses.old.profile ≡ Two }
-        requires valid { IsValidLayout (layout_of fuses.old.provision self.old.bank)
-            (size_of (state_at (device_of self.old.bank) self.old.world)) }
+        requires at_job { IsAtJob self.old log.old }
+        requires fused { HasFuses self.old fuses.old }
         ensures goes { Goes (source_judged (job_notes self.old.bank) (E.accepts engine.now) fuses.old kind digest.now self.old.bank) self.old.world self.new.world result }
-        ensures found { OnOk result (fuses_of (now self.new.world.nv) ≡ Ok fuses.new) }
-        ensures none { OnOk result (open_job (now self.new.world.nv) self.old.bank ≡ job.None) }
-        ensures two { fuses.new.profile ≡ Two }
-        ensures provision { fuses.new.provision ≡ fuses.old.provision }
+        ensures leaves { LeavesNoJob self.old self.new fuses.old fuses.new result }
         ensures stays { Stays 2 self.old self.new result }
     {
         match self.judge(source_of(kind), fuses, engine) {
@@ -189,15 +153,9 @@ impl<F: Flash> Desk<F> {
         requires room { 2 ≤ self.old.world.notes.spare }
         requires on { IsAwake self.old.bank self.old.world }
         requires stands { log.old ≡ log_of (now self.old.world.nv) self.old.bank }
-        requires found { fuses_of (now self.old.world.nv) ≡ Ok fuses.old }
-        requires two { fuses.old.profile ≡ Two }
-        requires valid { IsValidLayout (layout_of fuses.old.provision self.old.bank)
-            (size_of (state_at (device_of self.old.bank) self.old.world)) }
+        requires fused { HasFuses self.old fuses.old }
         ensures goes { Goes (by_open (job_notes self.old.bank) (E.accepts engine.now) self.old.bank fuses.old log.old.job) self.old.world self.new.world result }
-        ensures found { OnOk result (fuses_of (now self.new.world.nv) ≡ Ok fuses.new) }
-        ensures none { OnOk result (open_job (now self.new.world.nv) self.old.bank ≡ job.None) }
-        ensures two { fuses.new.profile ≡ Two }
-        ensures provision { fuses.new.provision ≡ fuses.old.provision }
+        ensures leaves { LeavesNoJob self.old self.new fuses.old fuses.new result }
         ensures stays { Stays 2 self.old self.new result }
     {
         match log.job() {
@@ -211,15 +169,9 @@ impl<F: Flash> Desk<F> {
     pub fn resume<E: Engine>(&mut self, fuses: &mut Fuses, engine: &E) -> Result<(), Stop>
         requires room { 2 ≤ self.old.world.notes.spare }
         requires on { IsAwake self.old.bank self.old.world }
-        requires found { fuses_of (now self.old.world.nv) ≡ Ok fuses.old }
-        requires two { fuses.old.profile ≡ Two }
-        requires valid { IsValidLayout (layout_of fuses.old.provision self.old.bank)
-            (size_of (state_at (device_of self.old.bank) self.old.world)) }
+        requires fused { HasFuses self.old fuses.old }
         ensures goes { Goes (resumed (job_notes self.old.bank) (E.accepts engine.now) self.old.bank fuses.old) self.old.world self.new.world result }
-        ensures found { OnOk result (fuses_of (now self.new.world.nv) ≡ Ok fuses.new) }
-        ensures none { OnOk result (open_job (now self.new.world.nv) self.old.bank ≡ job.None) }
-        ensures two { fuses.new.profile ≡ Two }
-        ensures provision { fuses.new.provision ≡ fuses.old.provision }
+        ensures leaves { LeavesNoJob self.old self.new fuses.old fuses.new result }
         ensures stays { Stays 2 self.old self.new result }
     {
         let mut log = self.load_log()?;

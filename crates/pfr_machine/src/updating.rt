@@ -3,21 +3,17 @@ ghost use Rattle.pfr_jobs.specs.Log.{open_job};
 ghost use Rattle.pfr_jobs.specs.declared.job.OpenJob.TheVariants as job;
 ghost use Rattle.pfr_fuses.specs.declared.profile.Profile.TheVariants.{Two};
 ghost use Rattle.std.specs.Prelude.{◌≡◌, ◌≤◌, Ok};
-ghost use Rattle.pfr_capsule.specs.Answer.{capsule_failure};
 ghost use Rattle.pfr_copy.specs.Applying.{CanApply};
-ghost use Rattle.pfr_flash.specs.Answer.{IsFound};
 ghost use Rattle.pfr_flash.specs.FlashState.{now, size_of};
 ghost use Rattle.pfr_flash.specs.Layout.{IsValidLayout};
 ghost use Rattle.pfr_flash.specs.declared.names.Bank.TheVariants.{Bmc};
 ghost use Rattle.pfr_fuses.specs.FusesOf.{fuses_of};
 ghost use Rattle.pfr_fuses.specs.RootSlot.{layout_of};
-ghost use Rattle.pfr_report.specs.declared.note.Refusal.TheVariants.{Capsule as Staged};
-ghost use Rattle.pfr_report.specs.declared.note.What.TheVariants.{Refused};
 ghost use Rattle.pfr_story.specs.Course.{Follows};
-ghost use Rattle.pfr_story.specs.Plans.{checked_again, judged_staging, tail};
+ghost use Rattle.pfr_story.specs.Plans.{checked_again, judged_staging};
 ghost use Rattle.pfr_story.specs.Promises.{Runs};
 ghost use Rattle.pfr_story.specs.Standing.{standing_of, Off};
-ghost use Rattle.pfr_story.specs.Story.{then, says, device_of};
+ghost use Rattle.pfr_story.specs.Story.{then, device_of};
 ghost use Rattle.pfr_story.specs.Turn.{update_course};
 ghost use Rattle.pfr_story.specs.World.{IsDark, state_at, story_of};
 ghost use Rattle.pfr_story.specs.UpdatePlans.{active_updated, by_intent, updated};
@@ -29,10 +25,11 @@ use crate::desk::{Desk, Halt};
 use crate::inner::Inner;
 use crate::working::Work;
 use pfr_auth::Area;
-use pfr_capsule::{Capsule, CapsuleFail};
+use pfr_capsule::Capsule;
 use pfr_chain::Engine;
 use pfr_flash::{Bank, Flash};
 use pfr_fuses::Fuses;
+use pfr_report::Refusal;
 use pfr_script::Intent;
 
 impl<F: Flash> Desk<F> {
@@ -63,27 +60,6 @@ impl<F: Flash> Desk<F> {
         }
     }
 
-    // Refuses to update the bank, and checks it as it is.
-    fn refuse_and_check<E: Engine>(
-        mut self,
-        cause: CapsuleFail,
-        fuses: &Fuses,
-        engine: &E,
-    ) -> Result<Inner<F>, Halt<F>>
-        requires room { 4 ≤ self.world.notes.spare }
-        requires on { IsAwake self.bank self.world }
-        requires none { open_job (now self.world.nv) self.bank ≡ job.None }
-        requires found { fuses_of (now self.world.nv) ≡ Ok fuses.now }
-        requires valid { let layout = layout_of fuses.now.provision self.bank in
-            IsValidLayout layout (size_of (state_at (device_of self.bank) self.world)) }
-        requires cause { IsFound capsule_failure cause }
-        ensures { let refused = says (λ _. Refused self.bank (Staged cause)) in
-            EndsSeated (then refused (tail (E.accepts engine.now) self.bank fuses.now)) 4 self result }
-    {
-        self.refuse(cause);
-        self.tail(fuses, engine)
-    }
-
     /// Updates the bank from its staging area: from a good capsule, or not at all.
     pub fn update_from_staging<E: Engine>(
         mut self,
@@ -101,7 +77,7 @@ impl<F: Flash> Desk<F> {
     {
         match self.judge(Area::Staging, fuses, engine) {
             Ok(Ok(capsule)) => self.update_and_check(fuses, &capsule, dynamic, engine),
-            Ok(Err(cause)) => self.refuse_and_check(cause, fuses, engine),
+            Ok(Err(cause)) => self.refuse_so(Refusal::Capsule(cause), fuses, engine),
             Err(stop) => Err(Halt { stop, desk: self }),
         }
     }

@@ -16,8 +16,8 @@ invariant_of-self g c =
 
 pub returns-clause-goes : goal.returns-clause-goes
 returns-clause-goes g c =
-    let on = awake_store c.self.inside.bank (g.F.Flash.device c.self.inside.held.flash) (g.F.Flash.device (flash_in c.self.inside.other)) (g.F.Flash.device c.self.inside.board.nv) (latches_by c.self.inside.bank false (latch_in c.self.inside.other)) c.self.inside.board (rw (← c.self.view_is) at c.requires.on) in
-    let own = ap (λ (l : LogState). l.bank) c.requires.stands ∙ sym (ap (λ (d : DeskState). d.bank) c.self.view_is) in
+    let on = awake_store c.self.inside.bank (g.F.Flash.device c.self.inside.held.flash) (g.F.Flash.device (flash_in c.self.inside.other)) (g.F.Flash.device c.self.inside.board.nv) (latches_by c.self.inside.bank false (latch_in c.self.inside.other)) c.self.inside.board (rw (← c.self.view_is) at c.requires.at_job.on) in
+    let own = ap (λ (l : LogState). l.bank) c.requires.at_job.stands ∙ sym (ap (λ (d : DeskState). d.bank) c.self.view_is) in
     let goes = stored_called c.self.inside.bank (g.F.Flash.device c.self.inside.held.flash) (g.F.Flash.device (flash_in c.self.inside.other)) (g.F.Flash.device c.self.inside.board.nv) (g.F.Flash.device c.finish.new.nv) (latches_by c.self.inside.bank false (latch_in c.self.inside.other)) c.self.inside.board c.finish.new.nv on (λ (image : List ℕ) (b : Bank). finish_plan image b) c.args.log.now.bank in
     elim c.match-finish.branch [
       | in-Ok w ↦ rw (w.result-is, ← c.self.view_is) (goes (Ok tt) own w.in-Ok.ensures.follows)

@@ -26,8 +26,8 @@ pub returns-in-Ok-Err : goal.returns-in-Ok-Err
 returns-in-Ok-Err g c =
     let accepts = g.E.Engine.accepts c.args.engine.now in
     let next : Bank → Result CapsuleState CapsuleFail → Plan = λ b found. by_staged accepts b c.args.dynamic c.args.fuses.now found in
-    found_ends accepts c.args.fuses.now Staging next 4 c.args.self c.judge.new.self _ c.refuse_and_check.result c.in-Ok-Err.ensures.goes c.in-Ok-Err.ensures.stays
-    (Err c.in-Ok-Err.cause) (rw c.in-Ok-Err.field-0-is at c.in-Ok-Err.ensures.is) c.refuse_and_check.ensures
+    found_ends accepts c.args.fuses.now Staging next 4 c.args.self c.judge.new.self _ c.refuse_so.result c.in-Ok-Err.ensures.goes c.in-Ok-Err.ensures.stays
+    (Err c.in-Ok-Err.cause) (rw c.in-Ok-Err.field-0-is at c.in-Ok-Err.ensures.is) c.refuse_so.ensures
 
 pub returns-in-Err : goal.returns-in-Err
 returns-in-Err g c =
