@@ -1,3 +1,4 @@
+pub mod Keeping
 pub mod Lending
 pub mod Spelling
 pub mod Seats

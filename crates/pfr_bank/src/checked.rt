@@ -5,10 +5,10 @@ ghost use Rattle.pfr_flash.specs.FlashState.{now, op_count_of};
 ghost use Rattle.pfr_bank.specs.Spelling.{StillSpells};
 
 use crate::held::Held;
+use crate::room::Room;
 use crate::running::Running;
 use pfr_auth::ActiveFail;
 use pfr_flash::{Bank, Flash, Layout, Rigged, Tear};
-use pfr_manifest::{Manifest, RegionTable};
 use std::marker::Model;
 
 /// A bank whose active image is trusted by the manifest that it keeps, with the layout of that judgement. It lends its
@@ -17,20 +17,21 @@ use std::marker::Model;
 pub struct Checked<F: Flash> {
     pub(crate) flash: F,
     pub(crate) bank: Bank,
-    pub(crate) manifest: Manifest,
     pub(crate) layout: Layout,
+    pub(crate) room: Room,
 }
 
 impl<F: Flash> Model for Checked<F> {
     ghost use Rattle.pfr_flash.specs.FlashState.{now};
+    ghost use Rattle.pfr_bank.specs.Keeping.{IsKept, manifest_in};
     ghost use Rattle.pfr_bank.specs.Seats.{JudgedState};
     ghost use Rattle.pfr_bank.specs.Spelling.{StillSpells};
 
     ghost Value = { JudgedState F };
 
-    ghost view = { λ c. record { flash = c.flash; bank = c.bank; manifest = c.manifest; layout = c.layout } };
+    ghost view = { λ c. record { flash = c.flash; bank = c.bank; manifest = manifest_in c.room; layout = c.layout } };
 
-    ghost invariant = { λ c. StillSpells (now (F.device c.flash)) c.manifest c.layout };
+    ghost invariant = { λ c. StillSpells (now (F.device c.flash)) (manifest_in c.room) c.layout × IsKept c.room };
 }
 
 /// A bank whose active image isn't trusted, and the first cause against it.
@@ -49,17 +50,15 @@ impl<F: Flash> Checked<F> {
         ensures layout { result.layout ≡ self.layout }
         ensures latch { result.latch ≡ false }
     {
-        let table = RegionTable::new(&self.manifest);
         let bank = self.bank;
         let layout = self.layout;
-        let manifest = self.manifest;
+        let room = self.room;
         let flash = self.flash;
         Running {
             flash,
             bank,
-            manifest,
             layout,
-            table,
+            room,
             latch: false,
         }
     }

@@ -18,6 +18,7 @@ ghost use Rattle.pfr_bank.specs.Lending.{lends_flash};
 use crate::checked::{Checked, Unchecked};
 use crate::locked::Locked;
 use crate::off::Off;
+use crate::room::Room;
 use pfr_auth::active;
 use pfr_engine::Engine;
 use pfr_flash::{Bank, Flash, Layout, Rigged, Tear};
@@ -28,6 +29,7 @@ use pfr_fuses::Fuses;
 pub struct Held<F: Flash> {
     pub(crate) flash: F,
     pub(crate) bank: Bank,
+    pub(crate) room: Room,
 }
 
 impl<F: Flash> Held<F> {
@@ -69,18 +71,20 @@ impl<F: Flash> Held<F> {
     {
         let bank = self.bank;
         let mut flash = self.flash;
+        let mut room = self.room;
         match active(&mut flash, bank, layout, fuses, engine) {
             Ok(manifest) => {
                 let layout = *layout;
+                room.keep(manifest);
                 Ok(Checked {
                     flash,
                     bank,
-                    manifest,
                     layout,
+                    room,
                 })
             }
             Err(why) => {
-                let held = Held { flash, bank };
+                let held = Held { flash, bank, room };
                 Err(Unchecked { held, why })
             }
         }
@@ -93,7 +97,8 @@ impl<F: Flash> Held<F> {
     {
         let bank = self.bank;
         let flash = self.flash;
-        Locked { flash, bank }
+        let room = self.room;
+        Locked { flash, bank, room }
     }
 
     /// Takes the flash's power. The bytes stay.
@@ -104,7 +109,8 @@ impl<F: Flash> Held<F> {
         let bank = self.bank;
         let mut flash = self.flash;
         flash.power_down();
-        Off { flash, bank }
+        let room = self.room;
+        Off { flash, bank, room }
     }
 
     /// How many bytes the flash has.

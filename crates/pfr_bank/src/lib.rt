@@ -6,6 +6,7 @@ mod checked;
 mod held;
 mod locked;
 mod off;
+mod room;
 mod running;
 #[cfg(test)]
 mod tests;
@@ -14,4 +15,5 @@ pub use checked::{Checked, Unchecked};
 pub use held::Held;
 pub use locked::Locked;
 pub use off::Off;
+pub use room::Room;
 pub use running::Running;

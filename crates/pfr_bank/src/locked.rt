@@ -5,6 +5,7 @@ ghost use Rattle.pfr_flash.specs.FlashState.{op_count_of, size_of};
 
 use crate::held::Held;
 use crate::off::Off;
+use crate::room::Room;
 use pfr_flash::{Bank, Flash, Rigged, Tear};
 
 /// A bank that is kept from running. Its flash has the power that it had when the bank was held, and is lent to nobody.
@@ -12,6 +13,7 @@ use pfr_flash::{Bank, Flash, Rigged, Tear};
 pub struct Locked<F: Flash> {
     pub(crate) flash: F,
     pub(crate) bank: Bank,
+    pub(crate) room: Room,
 }
 
 impl<F: Flash> Locked<F> {
@@ -22,7 +24,8 @@ impl<F: Flash> Locked<F> {
     {
         let bank = self.bank;
         let flash = self.flash;
-        Held { flash, bank }
+        let room = self.room;
+        Held { flash, bank, room }
     }
 
     /// Takes the flash's power. The bytes stay.
@@ -33,7 +36,8 @@ impl<F: Flash> Locked<F> {
         let bank = self.bank;
         let mut flash = self.flash;
         flash.power_down();
-        Off { flash, bank }
+        let room = self.room;
+        Off { flash, bank, room }
     }
 
     /// How many bytes the flash has.

@@ -4,6 +4,7 @@ ghost use Rattle.pfr_flash.specs.Flash.{with_cut, with_fault};
 ghost use Rattle.pfr_flash.specs.FlashState.{op_count_of, size_of};
 
 use crate::held::Held;
+use crate::room::Room;
 use pfr_flash::{Bank, Flash, Rigged, Tear};
 
 /// A bank that has no power. It owns the bank's flash, and lends it to nobody.
@@ -11,15 +12,16 @@ use pfr_flash::{Bank, Flash, Rigged, Tear};
 pub struct Off<F: Flash> {
     pub(crate) flash: F,
     pub(crate) bank: Bank,
+    pub(crate) room: Room,
 }
 
 impl<F: Flash> Off<F> {
     /// A bank with this flash. The flash is left as it is: what state its power is in shows at `hold`.
-    pub fn new(flash: F, bank: Bank) -> Off<F>
+    pub fn new(flash: F, bank: Bank, room: Room) -> Off<F>
         ensures flash { result.flash ≡ flash }
         ensures bank { result.bank ≡ bank }
     {
-        Off { flash, bank }
+        Off { flash, bank, room }
     }
 
     /// Gives the flash power, and holds the bank. The bytes stay.
@@ -30,7 +32,8 @@ impl<F: Flash> Off<F> {
         let bank = self.bank;
         let mut flash = self.flash;
         flash.power_up();
-        Held { flash, bank }
+        let room = self.room;
+        Held { flash, bank, room }
     }
 
     /// Takes the flash's power, where it has any. The bytes stay.
@@ -41,7 +44,8 @@ impl<F: Flash> Off<F> {
         let bank = self.bank;
         let mut flash = self.flash;
         flash.power_down();
-        Off { flash, bank }
+        let room = self.room;
+        Off { flash, bank, room }
     }
 
     /// How many bytes the flash has.

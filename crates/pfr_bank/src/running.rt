@@ -15,9 +15,10 @@ ghost use Rattle.pfr_bank.specs.Spelling.{StillSpells};
 use crate::bus::{carry_out, latched};
 use crate::held::Held;
 use crate::off::Off;
+use crate::room::Room;
 use pfr_filter::{Judged, Verdict, judge_counted};
 use pfr_flash::{Bank, Flash, FlashFail, Layout, Rigged, Tear};
-use pfr_manifest::{Manifest, RegionTable, Steps};
+use pfr_manifest::{Manifest, Steps};
 use std::marker::Model;
 use std::sync::ledger::Ledger;
 
@@ -28,24 +29,22 @@ use std::sync::ledger::Ledger;
 pub struct Running<F: Flash> {
     pub(crate) flash: F,
     pub(crate) bank: Bank,
-    pub(crate) manifest: Manifest,
     pub(crate) layout: Layout,
-    pub(crate) table: RegionTable,
+    pub(crate) room: Room,
     pub(crate) latch: bool,
 }
 
 impl<F: Flash> Model for Running<F> {
-    ghost use Rattle.std.specs.Prelude.{◌≡◌};
     ghost use Rattle.pfr_flash.specs.FlashState.{now};
-    ghost use Rattle.pfr_manifest.specs.Stretches.{stretches_of};
+    ghost use Rattle.pfr_bank.specs.Keeping.{IsKept, manifest_in};
     ghost use Rattle.pfr_bank.specs.Seats.{RunningState};
     ghost use Rattle.pfr_bank.specs.Spelling.{StillSpells};
 
     ghost Value = { RunningState F };
 
-    ghost view = { λ r. record { flash = r.flash; bank = r.bank; manifest = r.manifest; layout = r.layout; latch = r.latch } };
+    ghost view = { λ r. record { flash = r.flash; bank = r.bank; manifest = manifest_in r.room; layout = r.layout; latch = r.latch } };
 
-    ghost invariant = { λ r. StillSpells (now (F.device r.flash)) r.manifest r.layout × (r.table ≡ stretches_of r.manifest) };
+    ghost invariant = { λ r. StillSpells (now (F.device r.flash)) (manifest_in r.room) r.layout × IsKept r.room };
 }
 
 impl<F: Flash> Running<F> {
@@ -53,7 +52,7 @@ impl<F: Flash> Running<F> {
     pub fn manifest(&self) -> &Manifest
         ensures { result.now ≡ self.now.manifest }
     {
-        &self.manifest
+        self.room.manifest()
     }
 
     /// Holds the bank. The flash stays as it is.
@@ -63,7 +62,8 @@ impl<F: Flash> Running<F> {
     {
         let bank = self.bank;
         let flash = self.flash;
-        Held { flash, bank }
+        let room = self.room;
+        Held { flash, bank, room }
     }
 
     /// Takes the flash's power. The bytes stay.
@@ -74,7 +74,8 @@ impl<F: Flash> Running<F> {
         let bank = self.bank;
         let mut flash = self.flash;
         flash.power_down();
-        Off { flash, bank }
+        let room = self.room;
+        Off { flash, bank, room }
     }
 
     /// What was found of the image holds still. This does nothing.
@@ -98,7 +99,7 @@ impl<F: Flash> Running<F> {
     {
         judge_counted(
             frame,
-            &self.table,
+            self.room.table(),
             &self.layout,
             self.flash.size(),
             self.latch,

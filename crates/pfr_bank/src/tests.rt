@@ -3,6 +3,7 @@ ghost use Rattle.std.specs.Prelude.{◌≡◌, IfOk};
 ghost use Rattle.pfr_flash.specs.FlashState.{size_of};
 
 use crate::off::Off;
+use crate::room::Room;
 use pfr_flash::{Bank, Flash, FlashFail, MemFlash};
 use std::alloc::Global;
 use std::process::Abort;
@@ -15,7 +16,7 @@ fn dark(rt: &impl Abort, alloc: Global) -> Result<Off<MemFlash>, Fail>
     let bytes = vec![in alloc; 0xFF; 4096]?;
     assert_eq!(rt; bytes.len(), 4096);
     let flash = MemFlash::new(alloc, bytes, 4)?;
-    Ok(Off::new(flash, Bank::Pch))
+    Ok(Off::new(flash, Bank::Pch, Room::new(alloc)?))
 }
 
 #[test]

@@ -24,3 +24,5 @@ pub mod StretchLemmas
 pub mod WatchLemmas
 pub mod RestLemmas
 mod VerdictLaw
+pub mod QuietLemmas
+pub mod ReadyLemmas

@@ -1,5 +1,5 @@
 -- A platform carries that each bank was trusted while it stood released.
-use Rattle.std.proofs.Common.{◌≡◌, ◌∙◌, sym, ap, subst, List, Option, Some, None}
+use Rattle.std.proofs.Common.{◌≡◌, ◌∙◌, sym, ap, subst, List, arith}
 use Rattle.pfr_flash.specs.FlashState.{now}
 use Rattle.pfr_flash.specs.declared.names.Bank.{Bank}
 use Rattle.pfr_flash.specs.declared.names.Bank.TheVariants as bank
@@ -20,10 +20,14 @@ use Rattle.pfr_story.specs.declared.line.Line.{Line}
 use Rattle.pfr_story.specs.declared.line.Line.TheVariants as line
 use Rattle.pfr_story.proofs.Bytes.{have_bytes}
 use Rattle.pfr_story.proofs.KeepingLaws.{Turn-trusted_spans, trusted_now}
-use Rattle.pfr_machine.specs.Inside.{HasSizes, IsSound, IsThere, world_in}
+use Rattle.pfr_machine.specs.Inside.{HasSizes, IsSound, IsWhole}
 use Rattle.pfr_machine.specs.Ready.{LeavesWhole}
+use Rattle.pfr_machine.specs.Stages.{IsHere, IsReady, IsThere, world_in}
+use Rattle.pfr_machine.specs.Turning.{RestsSo}
 use Rattle.pfr_machine.specs.Watching.{clocked}
 use Rattle.pfr_machine.specs.Worlds.{PlatformState}
+use Rattle.pfr_machine.specs.declared.stage.Stage.{Stage}
+use Rattle.pfr_machine.specs.declared.stage.Stage.TheVariants as stage
 use Rattle.pfr_machine.proofs.TurnLemmas.{Begun, turned, still_whole, sizes_before}
 
 -- a step leaves it so, with devices that hold bytes
@@ -56,28 +60,55 @@ pub begun_idle : (old next : World) → Begun old next → (accepts : Acceptance
 begun_idle old next b accepts h which runs =
     subst (λ (w : World). open_job (now w.nv) which ≡ job.None) (sym b.is) ((h.trusted which).idle (ap (λ (list : List Note). standing_of which list) (sym b.list) ∙ runs))
 
+-- more room for notes leaves it so
+pub room_sound : (accepts : Acceptance) (old new : World) → new ≡ record old { notes = new.notes } → new.notes.list ≡ old.notes.list → IsSound accepts old → IsSound accepts new
+room_sound accepts old new is list h =
+    let same : new ≡ record old { notes = record { list = old.notes.list; spare = new.notes.spare } } = is ∙ ap (λ (l : List Note). record old { notes = record { list = l; spare = new.notes.spare } }) list in
+    subst (λ (w : World). IsSound accepts w) (sym same) (record {
+      whole = record { together = h.whole.together; apart = h.whole.apart; on = h.whole.on; few = h.whole.few };
+      trusted = h.trusted;
+    })
+
+pub there_sound : {F : Type 0} (accepts : Acceptance) (o : Stage F) → IsThere accepts o → IsSound accepts (world_in o)
+there_sound accepts (stage.Fresh w) h = h
+there_sound accepts (stage.Ready w) h = h
+there_sound accepts stage.Away h = absurd h
+
+pub sound_there : {F : Type 0} (accepts : Acceptance) (o : Stage F) → IsHere o → IsSound accepts (world_in o) → IsThere accepts o
+sound_there accepts (stage.Fresh w) here h = h
+sound_there accepts (stage.Ready w) here h = h
+sound_there accepts stage.Away here h = absurd here
+
+pub ready_here : {F : Type 0} (o : Stage F) → IsReady o → IsHere o
+ready_here (stage.Fresh w) h = absurd h
+ready_here (stage.Ready w) h = tt
+ready_here stage.Away h = absurd h
+
+pub there_here : {F : Type 0} (accepts : Acceptance) (o : Stage F) → IsThere accepts o → IsHere o
+there_here accepts (stage.Fresh w) h = tt
+there_here accepts (stage.Ready w) h = tt
+there_here accepts stage.Away h = absurd h
+
+-- what a turn asks for, where an item was begun
+pub begun_rests : (old next : World) → Begun old next → (accepts : Acceptance) → IsSound accepts old → RestsSo accepts next
+begun_rests old next b accepts h =
+    let same : next ≡ record (next_item old) { notes = record { list = old.notes.list; spare = next.notes.spare } } = b.is ∙ ap (λ (l : List Note). record (next_item old) { notes = record { list = l; spare = next.notes.spare } }) b.list in
+    record {
+      whole = subst (λ (w : World). IsWhole w) (sym same) (record { together = h.whole.together; apart = h.whole.apart; on = h.whole.on; few = omega (arith, h.whole.few) });
+      settled = begun_settled old next b accepts h;
+      idle = begun_idle old next b accepts h;
+      trusted = begun_trusted old next b accepts h;
+    }
+
 -- a bank that runs is trusted now
-module _ {E : Type 0} (accepts : E → Acceptance) (which : Bank) where
-  runs_trusted : (o : Option World) (engine : E) (inner : World) → IsThere (accepts engine) o → o ≡ Some inner → standing_of which inner.notes.list ≡ Running
-      → IsTrusted (now (state_at (device_of which) (world_in o))) (now (world_in o).nv) which (accepts engine)
-  runs_trusted (Some w) engine inner h e runs =
-      let same : w ≡ inner = cc in
-      trusted_now (accepts engine) which w (h.trusted which) (subst (λ (v : World). standing_of which v.notes.list ≡ Running) (sym same) runs)
-  runs_trusted None engine inner h e runs = absurd h
+module _ {E F : Type 0} (accepts : E → Acceptance) (which : Bank) (p : PlatformState E) (o : Stage F) (engine : E) (view : record { world = world_in o; engine = engine } ≡ p) (h : IsThere (accepts engine) o) where
+  pub known_spans : HasTrustedSpans (accepts p.engine) which (story_of p.world)
+  known_spans = subst (λ (q : PlatformState E). HasTrustedSpans (accepts q.engine) which (story_of q.world)) view ((there_sound (accepts engine) o h).trusted which)
 
-  pub line_trusted : (p : PlatformState E) (o : Option World) (engine : E) (inner : World) (how : Line) → record { world = world_in o; engine = engine } ≡ p → IsThere (accepts engine) o → o ≡ Some inner
-      → standing_by how ≡ standing_of which inner.notes.list → how ≡ line.Running → IsTrusted (now (state_at (device_of which) p.world)) (now p.world.nv) which (accepts p.engine)
-  line_trusted p o engine inner how view h e stands runs =
-      subst (λ (q : PlatformState E). IsTrusted (now (state_at (device_of which) q.world)) (now q.world.nv) which (accepts q.engine)) view
-      (runs_trusted o engine inner h e (sym stands ∙ ap standing_by runs))
+  pub known_trusted : Runs which p.world → IsTrusted (now (state_at (device_of which) p.world)) (now p.world.nv) which (accepts p.engine)
+  known_trusted runs = trusted_now (accepts p.engine) which p.world known_spans runs
 
-  pub known_trusted : (p : PlatformState E) (o : Option World) (engine : E) → record { world = world_in o; engine = engine } ≡ p → IsThere (accepts engine) o
-      → Runs which p.world → IsTrusted (now (state_at (device_of which) p.world)) (now p.world.nv) which (accepts p.engine)
-  known_trusted p (Some w) engine view h =
-      subst (λ (q : PlatformState E). Runs which q.world → IsTrusted (now (state_at (device_of which) q.world)) (now q.world.nv) which (accepts q.engine)) view
-      (λ runs. trusted_now (accepts engine) which w (h.trusted which) runs)
-  known_trusted p None engine view h = absurd h
-
-  pub known_spans : (p : PlatformState E) (o : Option World) (engine : E) → record { world = world_in o; engine = engine } ≡ p → IsThere (accepts engine) o → HasTrustedSpans (accepts p.engine) which (story_of p.world)
-  known_spans p (Some w) engine view h = subst (λ (q : PlatformState E). HasTrustedSpans (accepts q.engine) which (story_of q.world)) view (h.trusted which)
-  known_spans p None engine view h = absurd h
+  pub line_trusted : (inner : World) (how : Line) → world_in o ≡ inner → standing_by how ≡ standing_of which inner.notes.list → how ≡ line.Running
+      → IsTrusted (now (state_at (device_of which) p.world)) (now p.world.nv) which (accepts p.engine)
+  line_trusted inner how same stands runs =
+      known_trusted (ap (λ (q : PlatformState E). standing_of which q.world.notes.list) (sym view) ∙ ap (λ (w : World). standing_of which w.notes.list) same ∙ sym stands ∙ ap standing_by runs)

@@ -1,5 +1,5 @@
 -- A whole step, from what was done at its event.
-use Rattle.std.proofs.Common.{◌≡◌, ◌≢◌, ◌∙◌, refl, sym, ap, subst, ℕ, ◌+◌, Bool, true, false, not, List, [], ◌∷◌, length, inr, arith, Option, Some, None, Result, Ok, Err, OnOk}
+use Rattle.std.proofs.Common.{◌≡◌, ◌≢◌, ◌∙◌, refl, sym, ap, subst, ℕ, ◌+◌, Bool, true, false, not, List, [], ◌∷◌, length, drop, ◌⊎◌, inl, inr, arith, Option, Some, None, Result, Ok, Err, OnOk}
 use Rattle.pfr_flash.specs.FlashState.{FlashState, size_of}
 use Rattle.pfr_flash.specs.Layout.{IsBankSize}
 use Rattle.pfr_flash.specs.declared.flash.FlashFail.{FlashFail}
@@ -20,11 +20,11 @@ use Rattle.pfr_script.specs.declared.event.Event.TheVariants as event
 use Rattle.pfr_story.specs.Course.{Stretch, Course, CrossesOrFaults, LosesPower, Steps, Follows}
 use Rattle.pfr_story.specs.Goes.{Ran, Stopped}
 use Rattle.pfr_story.specs.Plans.{Ruling, migrated, mine, ready_in, ready_of, ruling, ruling_by, ruling_with, smbus_by, smbus_judged, store}
-use Rattle.pfr_story.specs.Promises.{IsKnownSlot}
+use Rattle.pfr_story.specs.Promises.{AreOff, CallsNone, IsIdle, IsKnownSlot, IsUneventful}
 use Rattle.pfr_story.specs.Standing.{Standing, standing_of, is_off, is_running, Off, Held, Locked, Running}
 use Rattle.pfr_story.specs.Story.{Story, Move, Says, after}
-use Rattle.pfr_story.specs.Turn.{bank_stretch, fuse_stretch, unreadable, power_course, course, ignored, ignored_if, is_idle, guards_at, next_item, taken, begun, Turn}
-use Rattle.pfr_story.specs.World.{World, story_of}
+use Rattle.pfr_story.specs.Turn.{bank_stretch, fuse_stretch, is_due, unreadable, power_course, course, ignored, ignored_if, is_idle, guards_at, next_item, taken, begun, Turn}
+use Rattle.pfr_story.specs.World.{World, IsDark, SameDevices, added, story_of}
 use Rattle.pfr_story.proofs.Courses.{Steps-next, Steps-ended}
 use Rattle.pfr_story.proofs.RunLaws.{Turn-item}
 use Rattle.pfr_story.proofs.Turns.{Turn-moved}
@@ -170,6 +170,16 @@ course_item accepts (event.Boot which true) story item = refl
 course_item accepts (event.Boot which false) story item = refl
 course_item accepts (event.Update which intent) story item = refl
 
+idle_item : (e : Event) (story : Story) (item : ℕ) → is_idle e (record story { item = item }) ≡ is_idle e story
+idle_item event.Power story item = refl
+idle_item event.Off story item = refl
+idle_item (event.Provision what) story item = refl
+idle_item (event.Spi which frame) story item = refl
+idle_item (event.Smbus which frame) story item = refl
+idle_item (event.Tick n) story item = refl
+idle_item (event.Boot which pass) story item = refl
+idle_item (event.Update which intent) story item = refl
+
 -- ---- an item was begun
 pub record Begun (old next : World) : Type 0 where
   pub is : next ≡ record (next_item old) { notes = next.notes }
@@ -178,6 +188,37 @@ pub record Begun (old next : World) : Type 0 where
 module _ (old next : World) (b : Begun old next) where
   story_next : story_of next ≡ record (story_of old) { item = old.item + 1 }
   story_next = ap story_of b.is ∙ ap (λ (l : List Note). record (story_of (next_item old)) { notes = l }) b.list
+
+  idle_next : (e : Event) → is_idle e (story_of next) ≡ is_idle e (story_of old)
+  idle_next e = ap (λ (s : Story). is_idle e s) story_next ∙ idle_item e (story_of old) (old.item + 1)
+
+  quiet_next : (e : Event) → IsUneventful e old → IsUneventful e next
+  quiet_next (event.Tick n) u = λ which. ap (λ (s : Story). is_due which n s) story_next ∙ u which
+  quiet_next event.Power u = absurd u
+  quiet_next event.Off u = absurd u
+  quiet_next (event.Provision what) u = absurd u
+  quiet_next (event.Spi which frame) u = absurd u
+  quiet_next (event.Smbus which frame) u = absurd u
+  quiet_next (event.Boot which pass) u = absurd u
+  quiet_next (event.Update which intent) u = absurd u
+
+  same_begun : (new : World) → SameDevices next new → SameDevices old new
+  same_begun new s = record {
+    bmc = s.bmc ∙ ap (λ (w : World). w.bmc) b.is;
+    pch = s.pch ∙ ap (λ (w : World). w.pch) b.is;
+    nv = s.nv ∙ ap (λ (w : World). w.nv) b.is;
+  }
+
+  -- what an event leaves untouched
+  pub untouched_begun : (e : Event) (new : World) → (IsIdle e next ⊎ IsUneventful e next → SameDevices next new) → CallsNone e old new
+  untouched_begun e new f (inl idle) = same_begun new (f (inl (idle_next e ∙ idle)))
+  untouched_begun e new f (inr quiet) = same_begun new (f (inr (quiet_next e quiet)))
+
+  -- what is dark behind it
+  pub dark_begun : (e : Event) (new : World) → (is_idle e (story_of next) ≡ false → added next new ≢ [] → standing_of bank.Bmc new.notes.list ≡ Off → IsDark new)
+      → is_idle e (story_of old) ≡ false → added old new ≢ [] → AreOff new → IsDark new
+  dark_begun e new f active some off =
+      f (idle_next e ∙ active) (λ none. some (ap (λ (l : List Note). drop (length l) new.notes.list) (sym b.list) ∙ none)) (off_only _ off)
 
   story_begun : (e : Event) → story_of (clocked e next) ≡ story_of (begun e old)
   story_begun e =

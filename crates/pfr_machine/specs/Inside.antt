@@ -129,16 +129,7 @@ no_device = record {
 abbrev pub no_world : World
 no_world = record { bmc = no_device; pch = no_device; nv = no_device; item = 0; notes = record { list = []; spare = 0 }; guards = first_guards }
 
-abbrev pub world_in : Option World → World
-world_in (Some w) = w
-world_in None = no_world
-
 -- Between two events; and each bank was trusted throughout the spans in which it stood released.
 pub record IsSound (accepts : Acceptance) (w : World) : Type 0 where
   pub whole : IsWhole w
   pub trusted : (which : Bank) → HasTrustedSpans accepts which (story_of w)
-
--- the platform is there, between two events
-abbrev pub IsThere : Acceptance → Option World → Type 0
-IsThere accepts (Some w) = IsSound accepts w
-IsThere accepts None = ⊥

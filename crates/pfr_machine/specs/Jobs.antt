@@ -1,7 +1,9 @@
 -- What the work of a job begins with, and what it comes to.
-use Rattle.std.specs.Prelude.{◌≡◌, ◌≢◌, OnOk, Result, Ok}
+use Rattle.std.specs.Prelude.{◌≡◌, ◌≢◌, ◌≤◌, ℕ, OnOk, Result, Ok}
 use Rattle.pfr_flash.specs.FlashState.{now, size_of}
 use Rattle.pfr_flash.specs.Layout.{IsValidLayout}
+use Rattle.pfr_capsule.specs.CapsuleState.{CapsuleState}
+use Rattle.pfr_copy.specs.Applying.{CanCopyOver}
 use Rattle.pfr_fuses.specs.FusesOf.{fuses_of}
 use Rattle.pfr_fuses.specs.FusesState.{FusesState}
 use Rattle.pfr_fuses.specs.RootSlot.{layout_of}
@@ -25,6 +27,17 @@ pub record HasFuses (desk : DeskState) (fuses : FusesState) : Type 0 where
   pub found : fuses_of (now desk.world.nv) ≡ Ok fuses
   pub two : fuses.profile ≡ Two
   pub valid : IsValidLayout (layout_of fuses.provision desk.bank) (size_of (state_at (device_of desk.bank) desk.world))
+
+-- A bank in work whose devices have power, with room for so many notes, no job open, and these fuses in the store.
+pub record IsReady (most : ℕ) (desk : DeskState) (fuses : FusesState) : Type 0 where
+  pub room : most ≤ desk.world.notes.spare
+  pub on : IsAwake desk.bank desk.world
+  pub none : open_job (now desk.world.nv) desk.bank ≡ job.None
+  pub fused : HasFuses desk fuses
+
+-- its device can take a copy of this capsule in its staging area
+abbrev pub CanRenew : DeskState → FusesState → CapsuleState → Type 0
+CanRenew desk fuses capsule = CanCopyOver (now (state_at (device_of desk.bank) desk.world)) (layout_of fuses.provision desk.bank) capsule
 
 -- Where all went well no job of the bank is open, and the store has the later fuses. They are of profile 2, and provision what the
 -- earlier ones did.

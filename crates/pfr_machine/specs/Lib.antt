@@ -5,6 +5,8 @@ pub mod Ready
 pub mod Working
 pub mod Watching
 pub mod Provisions
+pub mod Stages
+pub mod Turning
 pub mod Verdicts
 pub mod VerdictsInside
 pub mod Passing

@@ -60,6 +60,10 @@ pub record Sitting : Type 0 where
 abbrev pub sits_in : {F : Type 0} → Seat F → Sitting
 sits_in s = record { whose = bank_in s; line = line_in s; latch = latch_in s; ruling = ruling_in s }
 
+-- of a bank that is off
+abbrev pub sits_off : Bank → Sitting
+sits_off which = record { whose = which; line = line.Off; latch = false; ruling = None }
+
 -- ---- latches
 -- whether writes of the banks' buses are enabled
 pub record Latches : Type 0 where

@@ -8,7 +8,7 @@ use pfr_flash::{Device, Rigged, Tear};
 use pfr_script::{Arm, ArmWhat};
 
 // Arms a failure of a device.
-fn arm_device<F: Rigged>(device: &mut F, arm: &Arm, tear: &Tear)
+pub fn arm_device<F: Rigged>(device: &mut F, arm: &Arm, tear: &Tear)
     requires some { 1 ≤ arm.now.nth }
     requires arms { takes_arm arm.now.what ≤ (F.device device.old).arms }
     ensures { F.device device.new ≡ with_arm arm.now.what arm.now.nth tear.now (F.device device.old) }

@@ -84,6 +84,7 @@ impl<F: Flash> Desk<F> {
     }
 
     // Looks at the recovery area of a bank whose active image isn't trusted: restores it from there, or locks it.
+    #[inline(never)]
     fn recover<E: Engine>(
         mut self,
         why: ActiveFail,

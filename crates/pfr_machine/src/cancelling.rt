@@ -236,6 +236,7 @@ impl<F: Flash> Desk<F> {
     }
 
     /// Cancels the key that a certificate in the staging area names, or refuses to.
+    #[inline(never)]
     pub fn cancel_key<E: Engine>(mut self, fuses: Fuses, engine: &E) -> Result<Inner<F>, Halt<F>>
         requires room { 5 ≤ self.world.notes.spare }
         requires on { IsAwake self.bank self.world }

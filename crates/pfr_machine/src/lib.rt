@@ -21,6 +21,7 @@ mod renewing;
 mod resuming;
 mod seat;
 mod sides;
+mod stage;
 mod turning;
 mod updating;
 mod verdicts;

@@ -28,8 +28,7 @@ ghost use Rattle.pfr_machine.specs.Inside.{HasSizes};
 
 use crate::board::Board;
 use crate::inner::Inner;
-use crate::seat::Seat;
-use pfr_bank::Off;
+use crate::stage::{Fresh, Stage};
 use pfr_chain::Engine;
 use pfr_flash::{Bank, Flash, NoMemory, Rigged, Tear};
 use pfr_report::Notes;
@@ -41,8 +40,8 @@ use std::marker::Model;
 /// The banks' devices and the store, the engine that they are judged by, and the notes of what was done.
 #[derive(Drop)]
 pub struct Platform<F: Flash, E: Engine + Drop> {
-    // always there between two calls
-    inner: Option<Inner<F>>,
+    // never away between two calls
+    stage: Stage<F>,
     engine: E,
 }
 
@@ -58,13 +57,13 @@ pub struct Parts<F: Flash, E: Engine + Drop> {
 
 impl<F: Flash, E: Engine + Drop> Model for Platform<F, E> {
     ghost use Rattle.pfr_machine.specs.Worlds.{PlatformState};
-    ghost use Rattle.pfr_machine.specs.Inside.{IsThere, world_in};
+    ghost use Rattle.pfr_machine.specs.Stages.{IsThere, world_in};
 
     ghost Value = { PlatformState E };
 
-    ghost view = { λ p. record { world = world_in p.inner; engine = p.engine } };
+    ghost view = { λ p. record { world = world_in p.stage; engine = p.engine } };
 
-    ghost invariant = { λ p. IsThere (E.accepts p.engine) p.inner };
+    ghost invariant = { λ p. IsThere (E.accepts p.engine) p.stage };
 }
 
 impl<F: Flash, E: Engine + Drop> Platform<F, E> {
@@ -94,13 +93,14 @@ impl<F: Flash, E: Engine + Drop> Platform<F, E> {
             item: 0,
             watches: Watches::new(),
         };
-        let inner = Inner {
-            bmc: Seat::Off(Off::new(bmc, Bank::Bmc)),
-            pch: Seat::Off(Off::new(pch, Bank::Pch)),
+        let fresh = Fresh {
+            bmc,
+            pch,
             board,
+            alloc,
         };
         Platform {
-            inner: Some(inner),
+            stage: Stage::Fresh(fresh),
             engine,
         }
     }
@@ -201,10 +201,7 @@ impl<F: Flash, E: Engine + Drop> Platform<F, E> {
         ensures trusted { (which : Bank) → Runs which self.now.world →
             IsTrusted (now (state_at (device_of which) self.now.world)) (now self.now.world.nv) which (E.accepts self.now.engine) }
     {
-        match &self.inner {
-            Some(inner) => inner.known(),
-            None => unreachable!(),
-        }
+        self.stage.known();
     }
 
     // Does one event.
@@ -218,33 +215,20 @@ impl<F: Flash, E: Engine + Drop> Platform<F, E> {
             (is_idle event.now (story_of self.old.world) ≡ false → added self.old.world self.new.world ≢ [] → AreOff self.new.world → IsDark self.new.world) }
         ensures err { OnErr result (SameButRoom self.old self.new) }
     {
-        match self.inner.take() {
-            Some(mut inner) => {
-                let begun = inner.begin();
-                match begun {
-                    Ok(()) => {
-                        let inner = inner.turn(event, &self.engine);
-                        inner.known();
-                        self.inner = Some(inner);
-                        Ok(())
-                    }
-                    Err(why) => {
-                        self.inner = Some(inner);
-                        Err(why)
-                    }
-                }
-            }
-            None => unreachable!(),
-        }
+        self.stage.begin()?;
+        self.stage.turn(event, &self.engine);
+        self.stage.known();
+        Ok(())
     }
 
     /// The notes so far, oldest first.
     pub fn notes(&self) -> &Notes
         ensures { result.now ≡ self.now.world.notes }
     {
-        match &self.inner {
-            Some(inner) => &inner.board.notes,
-            None => unreachable!(),
+        match &self.stage {
+            Stage::Fresh(fresh) => &fresh.board.notes,
+            Stage::Ready(inner) => &inner.board.notes,
+            Stage::Away => unreachable!(),
         }
     }
 
@@ -254,9 +238,10 @@ impl<F: Flash, E: Engine + Drop> Platform<F, E> {
         ensures trusted { result ≡ line.Running →
             IsTrusted (now (state_at (device_of bank) self.now.world)) (now self.now.world.nv) bank (E.accepts self.now.engine) }
     {
-        match &self.inner {
-            Some(inner) => inner.line(bank),
-            None => unreachable!(),
+        match &self.stage {
+            Stage::Fresh(fresh) => fresh.line(bank),
+            Stage::Ready(inner) => inner.line(bank),
+            Stage::Away => unreachable!(),
         }
     }
 
@@ -268,16 +253,25 @@ impl<F: Flash, E: Engine + Drop> Platform<F, E> {
         ensures notes { result.notes ≡ self.world.notes }
         ensures engine { result.engine ≡ self.engine }
     {
-        let Platform { inner, engine } = self;
-        match inner {
-            Some(Inner { bmc, pch, board }) => Parts {
+        let Platform { stage, engine } = self;
+        match stage {
+            Stage::Fresh(Fresh {
+                bmc, pch, board, ..
+            }) => Parts {
+                bmc,
+                pch,
+                nv: board.nv,
+                notes: board.notes,
+                engine,
+            },
+            Stage::Ready(Inner { bmc, pch, board }) => Parts {
                 bmc: bmc.into_flash(),
                 pch: pch.into_flash(),
                 nv: board.nv,
                 notes: board.notes,
                 engine,
             },
-            None => unreachable!(),
+            Stage::Away => unreachable!(),
         }
     }
 }
@@ -290,9 +284,10 @@ impl<F: Rigged, E: Engine + Drop> Platform<F, E> {
         requires items { self.old.world.item < 67108863 }
         ensures { self.new ≡ record self.old { world = armed arm.now tear.now self.old.world } }
     {
-        match &mut self.inner {
-            Some(inner) => inner.arm(arm, tear),
-            None => unreachable!(),
+        match &mut self.stage {
+            Stage::Fresh(fresh) => fresh.arm(arm, tear),
+            Stage::Ready(inner) => inner.arm(arm, tear),
+            Stage::Away => unreachable!(),
         }
     }
 }

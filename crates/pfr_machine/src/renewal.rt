@@ -19,6 +19,7 @@ ghost use Rattle.pfr_story.specs.Plans.{asks, judged_active, judged_staging};
 ghost use Rattle.pfr_story.specs.Story.{device_of};
 ghost use Rattle.pfr_story.specs.UpdatePlans.{by_manifest, by_new_recovery, by_room, has_manifest, recovery_updated};
 ghost use Rattle.pfr_story.specs.World.{state_at, story_of};
+ghost use Rattle.pfr_machine.specs.Jobs.{CanRenew, IsReady};
 ghost use Rattle.pfr_machine.specs.Ready.{EndsSeated};
 ghost use Rattle.pfr_machine.specs.Worlds.{IsAwake, Stays};
 
@@ -47,6 +48,7 @@ fn has_manifest(image: &Result<Manifest, ActiveFail>, capsule: &Capsule) -> bool
 
 impl<F: Flash> Desk<F> {
     /// The manifest by which the active image is trusted, or the first cause against it. The bank isn't released.
+    #[inline(never)]
     pub fn judge_image<E: Engine>(
         &mut self,
         fuses: &Fuses,
@@ -76,6 +78,7 @@ impl<F: Flash> Desk<F> {
     }
 
     // Replaces the recovery area by a job, and checks the bank by the fuses as they are then.
+    #[inline(never)]
     fn renew_and_check<E: Engine>(
         mut self,
         mut log: JobLog,
@@ -83,17 +86,10 @@ impl<F: Flash> Desk<F> {
         capsule: &Capsule,
         engine: &E,
     ) -> Result<Inner<F>, Halt<F>>
-        requires room { 4 ≤ self.world.notes.spare }
-        requires on { IsAwake self.bank self.world }
+        requires ready { IsReady 4 self fuses }
         requires stands { log ≡ log_of (now self.world.nv) self.bank }
-        requires none { log.job ≡ job.None }
         requires left { is_spent_in log ≡ false }
-        requires found { fuses_of (now self.world.nv) ≡ Ok fuses }
-        requires two { fuses.profile ≡ Two }
-        requires valid { let layout = layout_of fuses.provision self.bank in
-            IsValidLayout layout (size_of (state_at (device_of self.bank) self.world)) }
-        requires can { let layout = layout_of fuses.provision self.bank in
-            CanCopyOver (now (state_at (device_of self.bank) self.world)) layout capsule.now }
+        requires can { CanRenew self fuses capsule.now }
         ensures { EndsSeated (by_room false (E.accepts engine.now) self.bank fuses capsule.now) 4 self result }
     {
         match self.recovery_job(&mut log, &mut fuses, capsule, engine) {
@@ -110,16 +106,9 @@ impl<F: Flash> Desk<F> {
         capsule: &Capsule,
         engine: &E,
     ) -> Result<Inner<F>, Halt<F>>
-        requires room { 4 ≤ self.world.notes.spare }
-        requires on { IsAwake self.bank self.world }
+        requires ready { IsReady 4 self fuses }
         requires stands { log ≡ log_of (now self.world.nv) self.bank }
-        requires none { open_job (now self.world.nv) self.bank ≡ job.None }
-        requires found { fuses_of (now self.world.nv) ≡ Ok fuses }
-        requires two { fuses.profile ≡ Two }
-        requires valid { let layout = layout_of fuses.provision self.bank in
-            IsValidLayout layout (size_of (state_at (device_of self.bank) self.world)) }
-        requires can { let layout = layout_of fuses.provision self.bank in
-            CanCopyOver (now (state_at (device_of self.bank) self.world)) layout capsule.now }
+        requires can { CanRenew self fuses capsule.now }
         ensures { EndsSeated (by_room (is_spent_in log) (E.accepts engine.now) self.bank fuses capsule.now) 4 self result }
     {
         if log.is_spent() {
@@ -136,15 +125,8 @@ impl<F: Flash> Desk<F> {
         capsule: &Capsule,
         engine: &E,
     ) -> Result<Inner<F>, Halt<F>>
-        requires room { 4 ≤ self.world.notes.spare }
-        requires on { IsAwake self.bank self.world }
-        requires none { open_job (now self.world.nv) self.bank ≡ job.None }
-        requires found { fuses_of (now self.world.nv) ≡ Ok fuses }
-        requires two { fuses.profile ≡ Two }
-        requires valid { let layout = layout_of fuses.provision self.bank in
-            IsValidLayout layout (size_of (state_at (device_of self.bank) self.world)) }
-        requires can { let layout = layout_of fuses.provision self.bank in
-            CanCopyOver (now (state_at (device_of self.bank) self.world)) layout capsule.now }
+        requires ready { IsReady 4 self fuses }
+        requires can { CanRenew self fuses capsule.now }
         ensures { EndsSeated (by_manifest true (E.accepts engine.now) self.bank fuses capsule.now) 4 self result }
     {
         match self.load_log() {
@@ -161,15 +143,8 @@ impl<F: Flash> Desk<F> {
         capsule: &Capsule,
         engine: &E,
     ) -> Result<Inner<F>, Halt<F>>
-        requires room { 4 ≤ self.world.notes.spare }
-        requires on { IsAwake self.bank self.world }
-        requires none { open_job (now self.world.nv) self.bank ≡ job.None }
-        requires found { fuses_of (now self.world.nv) ≡ Ok fuses }
-        requires two { fuses.profile ≡ Two }
-        requires valid { let layout = layout_of fuses.provision self.bank in
-            IsValidLayout layout (size_of (state_at (device_of self.bank) self.world)) }
-        requires can { let layout = layout_of fuses.provision self.bank in
-            CanCopyOver (now (state_at (device_of self.bank) self.world)) layout capsule.now }
+        requires ready { IsReady 4 self fuses }
+        requires can { CanRenew self fuses capsule.now }
         ensures { EndsSeated (by_manifest same (E.accepts engine.now) self.bank fuses capsule.now) 4 self result }
     {
         if same {
@@ -180,22 +155,16 @@ impl<F: Flash> Desk<F> {
     }
 
     // Judges the active image, and replaces the recovery area where the capsule is that of the image.
+    #[inline(never)]
     fn renew<E: Engine>(
         mut self,
         fuses: Fuses,
         capsule: &Capsule,
         engine: &E,
     ) -> Result<Inner<F>, Halt<F>>
-        requires room { 4 ≤ self.world.notes.spare }
-        requires on { IsAwake self.bank self.world }
-        requires none { open_job (now self.world.nv) self.bank ≡ job.None }
-        requires found { fuses_of (now self.world.nv) ≡ Ok fuses }
-        requires two { fuses.profile ≡ Two }
-        requires valid { let layout = layout_of fuses.provision self.bank in
-            IsValidLayout layout (size_of (state_at (device_of self.bank) self.world)) }
+        requires ready { IsReady 4 self fuses }
         requires good { judged_staging (E.accepts engine.now) self.bank fuses (story_of self.world) ≡ Ok capsule.now }
-        requires can { let layout = layout_of fuses.provision self.bank in
-            CanCopyOver (now (state_at (device_of self.bank) self.world)) layout capsule.now }
+        requires can { CanRenew self fuses capsule.now }
         ensures { EndsSeated (by_new_recovery (E.accepts engine.now) self.bank fuses (Ok capsule.now)) 4 self result }
     {
         self.known();
@@ -209,18 +178,13 @@ impl<F: Flash> Desk<F> {
     }
 
     /// Updates the recovery area of the bank from its staging area, or refuses to.
+    #[inline(never)]
     pub fn update_recovery<E: Engine>(
         mut self,
         fuses: Fuses,
         engine: &E,
     ) -> Result<Inner<F>, Halt<F>>
-        requires room { 5 ≤ self.world.notes.spare }
-        requires on { IsAwake self.bank self.world }
-        requires none { open_job (now self.world.nv) self.bank ≡ job.None }
-        requires found { fuses_of (now self.world.nv) ≡ Ok fuses }
-        requires two { fuses.profile ≡ Two }
-        requires valid { let layout = layout_of fuses.provision self.bank in
-            IsValidLayout layout (size_of (state_at (device_of self.bank) self.world)) }
+        requires ready { IsReady 5 self fuses }
         ensures { EndsSeated (recovery_updated (E.accepts engine.now) self.bank fuses) 5 self result }
     {
         match self.judge(Area::Staging, &fuses, engine) {

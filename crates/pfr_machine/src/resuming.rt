@@ -166,6 +166,7 @@ impl<F: Flash> Desk<F> {
     }
 
     /// Resumes the job that the bank's log has open, or gives it up where its capsule isn't there. Then none is open.
+    #[inline(never)]
     pub fn resume<E: Engine>(&mut self, fuses: &mut Fuses, engine: &E) -> Result<(), Stop>
         requires room { 2 ≤ self.old.world.notes.spare }
         requires on { IsAwake self.old.bank self.old.world }

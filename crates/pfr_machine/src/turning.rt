@@ -18,7 +18,9 @@ ghost use Rattle.pfr_story.specs.Turn.{bank_stretch, course, ignored, is_idle, n
 ghost use Rattle.pfr_story.specs.World.{AreDevices, IsDark, SameDevices, added, state_at, story_of};
 ghost use Rattle.pfr_machine.specs.Inside.{AreLit, HasSizes, IsWhole};
 ghost use Rattle.pfr_machine.specs.Ready.{BringsBoth, LeavesWhole};
+ghost use Rattle.pfr_machine.specs.Turning.{TurnsIf};
 ghost use Rattle.pfr_machine.specs.Watching.{clocked};
+ghost use Rattle.pfr_engine.specs.Acceptance.{Acceptance};
 
 use crate::inner::Inner;
 use crate::working::{Dark, Work};
@@ -189,6 +191,30 @@ impl<F: Flash> Inner<F> {
             Event::Tick(n) => self.tick(*n, engine),
             Event::Boot { bank, pass } => self.boot(*bank, *pass, engine),
             Event::Update { bank, intent } => self.update(*bank, *intent, engine),
+        }
+    }
+
+    /// Does an event by which no bank comes into work, and answers true; else does nothing.
+    pub fn pass_by(&mut self, event: &Event) -> bool
+        requires room { 64 ≤ self.old.notes.spare }
+        requires whole { IsWhole self.old }
+        ensures { (accepts : Acceptance) → TurnsIf result accepts event.now self.old self.new }
+    {
+        if self.is_idle(event) {
+            self.ignore();
+            return true;
+        }
+        match event {
+            Event::Tick(n) => self.tick_by(*n),
+            Event::Boot { bank, pass } => {
+                if *pass {
+                    self.pass_stage(*bank);
+                    true
+                } else {
+                    false
+                }
+            }
+            _ => false,
         }
     }
 

@@ -57,6 +57,7 @@ fn pass_note(bank: Bank, mut watch: Watch) -> What
 
 impl<F: Flash> Desk<F> {
     /// Restores the bank at a level of recovery from its recovery area, or locks it where no good capsule is there.
+    #[inline(never)]
     pub fn recover_at<E: Engine>(
         mut self,
         level: u8,
@@ -160,6 +161,23 @@ impl<F: Flash> Inner<F> {
         self.board.watches.tick(n, bmc, pch)
     }
 
+    /// So many ticks pass, of which the watches of the banks that run count all at once, where none of them expires; else
+    /// nothing is done.
+    pub fn tick_by(&mut self, n: u16) -> bool
+        ensures bmc { result ≡ true → is_due Bmc n (story_of self.old) ≡ false }
+        ensures pch { result ≡ true → is_due Pch n (story_of self.old) ≡ false }
+        ensures clocked { result ≡ true → self.new ≡ clocked (Tick n) self.old }
+        ensures left { result ≡ false → self.new ≡ self.old }
+    {
+        let mut watches = self.board.watches;
+        let (bmc, pch) = watches.tick(n, self.runs(Bank::Bmc), self.runs(Bank::Pch));
+        if bmc || pch {
+            return false;
+        }
+        self.board.watches = watches;
+        true
+    }
+
     /// So many ticks pass, of which the watches of the banks that run count all at once. Then the banks whose watches expired
     /// are restored or locked, the BMC's first.
     pub fn tick<E: Engine>(mut self, n: u16, engine: &E) -> Inner<F>
@@ -195,8 +213,8 @@ impl<F: Flash> Inner<F> {
         }
     }
 
-    // Notes that a bank's boot passed its stage.
-    fn pass_stage(&mut self, bank: Bank)
+    /// Notes that a bank's boot passed its stage.
+    pub fn pass_stage(&mut self, bank: Bank)
         requires room { 64 ≤ self.old.notes.spare }
         requires whole { IsWhole self.old }
         requires runs { Runs bank self.old }

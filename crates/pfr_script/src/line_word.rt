@@ -21,6 +21,7 @@ use pfr_flash::Bank;
 use pfr_fuses::RootSlot;
 
 // An event whose word stands alone.
+#[inline(never)]
 fn read_alone(event: Event, rest: Option<&[u8]>) -> Result<Line, ScriptWhy>
     ensures exact { result ≡ judge_alone event (words_behind (option_copied rest.entry)) }
     ensures numbered { IfOk result IsNumbered }
@@ -31,6 +32,7 @@ fn read_alone(event: Event, rest: Option<&[u8]>) -> Result<Line, ScriptWhy>
 
 // `tick <n>`
 #[tactic(auto, unfolding(crate::specs::Line::judge_tick))]
+#[inline(never)]
 fn read_tick(rest: Option<&[u8]>) -> Result<Line, ScriptWhy>
     ensures exact { result ≡ judge_tick (words_behind (option_copied rest.entry)) }
     ensures numbered { IfOk result IsNumbered }
@@ -42,6 +44,7 @@ fn read_tick(rest: Option<&[u8]>) -> Result<Line, ScriptWhy>
 
 // `boot <bank> pass` or `boot <bank> fail`
 #[tactic(auto, unfolding(crate::specs::Line::judge_boot))]
+#[inline(never)]
 fn read_boot(rest: Option<&[u8]>) -> Result<Line, ScriptWhy>
     ensures exact { result ≡ judge_boot (words_behind (option_copied rest.entry)) }
     ensures numbered { IfOk result IsNumbered }
@@ -64,6 +67,7 @@ fn read_frame_line(rest: Option<&[u8]>, most: usize) -> Result<(Bank, Frame), Sc
 
 // `spi <bank> <hex>`
 #[tactic(auto, unfolding(crate::specs::Line::judge_spi))]
+#[inline(never)]
 fn read_spi(rest: Option<&[u8]>) -> Result<Line, ScriptWhy>
     ensures exact { result ≡ judge_spi (words_behind (option_copied rest.entry)) }
     ensures numbered { IfOk result IsNumbered }
@@ -74,6 +78,7 @@ fn read_spi(rest: Option<&[u8]>) -> Result<Line, ScriptWhy>
 
 // `smbus <bank> <hex>`
 #[tactic(auto, unfolding(crate::specs::Line::judge_smbus))]
+#[inline(never)]
 fn read_smbus(rest: Option<&[u8]>) -> Result<Line, ScriptWhy>
     ensures exact { result ≡ judge_smbus (words_behind (option_copied rest.entry)) }
     ensures numbered { IfOk result IsNumbered }
@@ -95,6 +100,7 @@ fn read_update(rest: Option<&[u8]>) -> Result<Line, ScriptWhy>
 
 // `provision <hex>`
 #[tactic(auto, unfolding(crate::specs::Line::judge_provision))]
+#[inline(never)]
 fn read_provision(rest: Option<&[u8]>) -> Result<Line, ScriptWhy>
     ensures exact { result ≡ judge_provision (words_behind (option_copied rest.entry)) }
     ensures numbered { IfOk result IsNumbered }
@@ -124,6 +130,7 @@ fn read_torn(what: ArmWhat, rest: Option<&[u8]>) -> Result<Line, ScriptWhy>
 
 // `readfault <device> <n>`
 #[tactic(auto, unfolding(crate::specs::Line::judge_read_fault))]
+#[inline(never)]
 fn read_read_fault(rest: Option<&[u8]>) -> Result<Line, ScriptWhy>
     ensures exact { result ≡ judge_read_fault (words_behind (option_copied rest.entry)) }
     ensures numbered { IfOk result IsNumbered }
@@ -140,6 +147,7 @@ fn read_read_fault(rest: Option<&[u8]>) -> Result<Line, ScriptWhy>
 }
 
 #[tactic(auto, unfolding(crate::specs::Line::judge_words))]
+#[inline(never)]
 fn read_words(word: &[u8], rest: Option<&[u8]>) -> Result<Line, ScriptWhy>
     ensures exact { result ≡ judge_words word.now (words_behind (option_copied rest.entry)) }
     ensures numbered { IfOk result IsNumbered }

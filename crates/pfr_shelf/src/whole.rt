@@ -14,7 +14,7 @@ const MOST_LINKS: u32 = 40;
 const MOST_NAMES: u32 = 10_000;
 
 // How much of a file is compared at once.
-const PIECE: usize = 0x1_0000;
+const PIECE: usize = 0x1000;
 
 /// Why a file was not stored.
 #[derive(Clone, Copy)]

@@ -1,6 +1,9 @@
 -- Which devices the work on a bank calls, and which notes it makes.
-use Rattle.std.proofs.Common.{◌≡◌, ◌≢◌, refl, sym, subst, ℕ, Bool, false, true, List, [], ◌∷◌, inl, inr, Result, Ok, Err}
+use Rattle.std.proofs.Common.{◌≡◌, ◌≢◌, refl, sym, subst, ℕ, Bool, false, true, List, [], ◌∷◌, length, inl, inr, Result, Ok, Err}
 use Rattle.std.specs.Prelude.{nat_lt}
+use Rattle.pfr_flash.specs.Judging.{◌>>◌, told_as}
+use Rattle.pfr_flash.specs.Layout.{judge_layout}
+use Rattle.pfr_flash.specs.declared.layout.LayoutRule.{LayoutRule}
 use Rattle.pfr_flash.specs.declared.names.Bank.{Bank}
 use Rattle.pfr_flash.specs.declared.names.ContentType.{ContentType}
 use Rattle.pfr_flash.specs.declared.names.Counts.{Counts}
@@ -9,6 +12,10 @@ use Rattle.pfr_flash.specs.declared.names.Device.TheVariants as device
 use Rattle.pfr_engine.specs.Acceptance.{Acceptance}
 use Rattle.pfr_fuses.specs.Changes.{cancellation}
 use Rattle.pfr_fuses.specs.FusesState.{FusesState}
+use Rattle.pfr_fuses.specs.FusesOf.{fuses_of}
+use Rattle.pfr_fuses.specs.RootSlot.{layout_of}
+use Rattle.pfr_fuses.specs.declared.fuse_fail.FuseFail.{FuseFail}
+use Rattle.pfr_fuses.specs.declared.fuse_fail.FuseFail.TheVariants as fuse
 use Rattle.pfr_manifest.specs.declared.manifest.Manifest.{Manifest}
 use Rattle.pfr_capsule.specs.CapsuleState.{CapsuleState}
 use Rattle.pfr_capsule.specs.declared.fail.CapsuleFail.{CapsuleFail}
@@ -25,8 +32,8 @@ use Rattle.pfr_report.specs.declared.note.Refusal.TheVariants as refusing
 use Rattle.pfr_report.specs.declared.note.What.{What}
 use Rattle.pfr_report.specs.declared.note.What.TheVariants as what
 use Rattle.pfr_story.specs.JobPlans.{job_notes, with_job, recovery_job, resumed}
-use Rattle.pfr_story.specs.Plans.{ready_of, judged_active, judged_recovery, restored, by_second, checked_again, by_capsule, recovered_with, by_level, brought_up, expired}
-use Rattle.pfr_story.specs.Promises.{Replaces, IsRefusedFor}
+use Rattle.pfr_story.specs.Plans.{mine, store, lock_of, ready_in, ready_of, judged_active, judged_recovery, restored, by_second, checked_again, by_capsule, recovered_with, by_level, brought_up, expired}
+use Rattle.pfr_story.specs.Promises.{Replaces, IsRefusedFor, IsFaultLock}
 use Rattle.pfr_story.specs.Safety.{AllSafe, AllMake}
 use Rattle.pfr_story.specs.Story.{Story, Move, Says, Does, Asks, after, noted, operated, called, device_of}
 use Rattle.pfr_story.specs.UpdatePlans.{cancelled_key, updating}
@@ -53,18 +60,37 @@ made_told D P (Says w ∷ moves) story all = (all.0 _, made_told D P moves (note
 made_told D P (Does which op ∷ moves) story all = ((tt, λ done t. tt), made_told D P moves (operated which op story) all.1)
 made_told D P (Asks which ∷ moves) story all = (tt, made_told D P moves story all.1)
 
+-- ---- a bank that can't be checked isn't locked for a fault
+unset_unfailed : (f : FuseFail) → ¬ IsFaultLock (lock_of f)
+unset_unfailed fuse.NotProvisioned fault = fault
+unset_unfailed fuse.SlotsSpent fault = fault
+unset_unfailed fuse.AlreadyProvisioned fault = fault
+unset_unfailed (fuse.LayoutBad b rule) fault = fault
+unset_unfailed (fuse.Flash fail) fault = fault
+
+layout_unfailed : (judged : Result (Unit {0}) LayoutRule) (fuses : FusesState) (cause : LockWhy) → (told_as (λ (rule : LayoutRule). why.Layout rule) judged >> Ok fuses) ≡ Err cause → ¬ IsFaultLock cause
+layout_unfailed (Ok valid) fuses cause e = absurd cc
+layout_unfailed (Err rule) fuses cause e = let is : why.Layout rule ≡ cause = cc in subst (λ (c : LockWhy). ¬ IsFaultLock c) is (λ fault. fault)
+
+read_unfailed : (b : Bank) (size : ℕ) (read : Result FusesState FuseFail) (cause : LockWhy) → ready_in b size read ≡ Err cause → ¬ IsFaultLock cause
+read_unfailed b size (Ok fuses) cause e = layout_unfailed (judge_layout (layout_of fuses.provision b) size) fuses cause e
+read_unfailed b size (Err fail) cause e = let is : lock_of fail ≡ cause = cc in subst (λ (c : LockWhy). ¬ IsFaultLock c) is (unset_unfailed fail)
+
+unready_unfailed : (b : Bank) (cause : LockWhy) (story : Story) → ready_of b story ≡ Err cause → ¬ IsFaultLock cause
+unready_unfailed b cause story e = read_unfailed b (length (mine b story)) (fuses_of (store story)) cause e
+
 -- what may be noted of a bank that is brought back
 pub record MayBringBack (S : (Counts → What) → Type 0) (b : Bank) : Type 0 where
   pub held : S (what.Held b)
   pub released : (svn : ℕ) → S (what.Released b svn)
-  pub locked : (cause : LockWhy) → S (what.Locked b cause)
+  pub locked : (cause : LockWhy) → ¬ IsFaultLock cause → S (what.Locked b cause)
   pub restored : (level : ℕ) → S (λ _. what.Restored b level)
 
 -- what may be noted of one that is checked
 pub record MayCheck (S : (Counts → What) → Type 0) (b : Bank) : Type 0 where
   pub held : S (what.Held b)
   pub released : (svn : ℕ) → S (what.Released b svn)
-  pub locked : (cause : LockWhy) → S (what.Locked b cause)
+  pub locked : (cause : LockWhy) → ¬ IsFaultLock cause → S (what.Locked b cause)
   pub untrusted : (cause : ActiveFail) → S (λ _. what.Untrusted b cause)
   pub restored : (level : ℕ) → S (λ _. what.Restored b level)
 
@@ -95,15 +121,15 @@ module _ (D : Device → Type 0) (S : (Counts → What) → Type 0) (b : Bank) (
       let there : Story = after moves story in
       AllMake-append D S moves (checked_again accepts b fuses there) (with_job_makes D S b nv own (ActiveFromRecovery level) fuses capsule (what.Restored b level) (may.restored level) story)
       (own, second_made (judged_active accepts b fuses there) there)
-  capsule_made fuses level (Err cause) story = (may.locked (why.NoRecovery cause), tt)
+  capsule_made fuses level (Err cause) story = (may.locked (why.NoRecovery cause) (λ fault. fault), tt)
 
-  recovered_made : (level : ℕ) (ready : Result FusesState LockWhy) (story : Story) → AllMake D S (recovered_with accepts b level ready story)
-  recovered_made level (Ok fuses) story = (own, capsule_made fuses level (judged_recovery accepts b fuses story) story)
-  recovered_made level (Err cause) story = (may.locked cause, tt)
+  recovered_made : (level : ℕ) (ready : Result FusesState LockWhy) (story : Story) → ready_of b story ≡ ready → AllMake D S (recovered_with accepts b level ready story)
+  recovered_made level (Ok fuses) story e = (own, capsule_made fuses level (judged_recovery accepts b fuses story) story)
+  recovered_made level (Err cause) story e = (may.locked cause (unready_unfailed b cause story e), tt)
 
   level_made : (level : ℕ) (few : Bool) (story : Story) → AllMake D S (by_level accepts b level few story)
-  level_made level true story = (nv, recovered_made level (ready_of b story) story)
-  level_made level false story = (may.locked why.WatchdogSpent, tt)
+  level_made level true story = (nv, recovered_made level (ready_of b story) story refl)
+  level_made level false story = (may.locked why.WatchdogSpent (λ fault. fault), tt)
 
   pub expired_made : (story : Story) → S (λ _. what.Expired b (level_at b story)) → AllMake D S (expired accepts b story)
   expired_made story told =
@@ -124,12 +150,12 @@ module _ (D : Device → Type 0) (S : (Counts → What) → Type 0) (b : Bank) (
   made_walks Q resumes = record {
     asks = λ which story is. asks_made which is;
     resumes = λ fuses story q e. (made_safe D S (resumed (job_notes b) accepts b fuses story) story (resumes fuses story q), tt);
-    unset = λ cause story q e. may.locked cause;
+    unset = λ cause story q e. may.locked cause (unready_unfailed b cause story e);
     ready = λ fuses story q e. tt;
-    unready = λ cause story q e. may.locked cause;
+    unready = λ cause story q e. may.locked cause (unready_unfailed b cause story e);
     released = λ fuses m story p j. may.released m.svn;
     untrusted = λ fuses cause story p j. (may.untrusted cause, tt);
-    no_image = λ fuses cause other story n j. may.locked (why.NoGoodImage cause other);
+    no_image = λ fuses cause other story n j. may.locked (why.NoGoodImage cause other) (λ fault. fault);
     restores = λ fuses cause capsule story n j. (job_safe (ActiveFromRecovery 1) fuses capsule (what.Restored b 1) story (may.restored 1), tt);
     again = λ fuses m story r j. may.released m.svn;
   }

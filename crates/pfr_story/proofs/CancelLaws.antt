@@ -35,8 +35,10 @@ use Rattle.pfr_story.specs.Promises.{AtCounts, Runs}
 use Rattle.pfr_story.specs.Bringing.{IsCalm}
 use Rattle.pfr_story.specs.JobPromises.{HasCert, HasBadCert, CancelsKey, Cancels}
 use Rattle.pfr_story.proofs.SafetyLaws.{AllSafe-append}
-use Rattle.pfr_story.proofs.BringAllowed.{IsSized, AllowsBank, allowed_walks}
-use Rattle.pfr_story.proofs.BringRules.{IsReady, ready_noted, ready_is, use_judged, tail_safe, then_safe}
+use Rattle.pfr_story.proofs.BringAllowed.{IsSized, AllowsBank, allowed_table}
+use Rattle.pfr_story.proofs.WorkShapes.{Brings}
+use Rattle.pfr_story.proofs.WorkWalks.{tail_on, then_on}
+use Rattle.pfr_story.proofs.BringRules.{Any, IsReady, ready_noted, ready_is, use_judged}
 use Rattle.pfr_story.proofs.Courses.{Turn-cases}
 use Rattle.pfr_story.proofs.Traces.{precedes_moved, Saying, call_says, Traced-known, KnownBefore}
 use Rattle.pfr_story.proofs.Made.{said, added_said}
@@ -84,10 +86,10 @@ module _ (accepts : Acceptance) (b : Bank) (fuses : FusesState) (from : Story) w
   trouble_known which w story (inr (e, known)) = subst (λ (v : Counts → What). Saying Key (Says v) story) (sym e) tt
 
   -- the check behind it
-  refused_known : (cause : CertFail) → IsSized from → IsAgainstCert cause → AllSafe (Saying Key) (by_cert accepts b fuses (Err cause) held) held
-  refused_known cause sized against = (
+  refused_known : (cause : CertFail) → IsSized from → IsReady b fuses held → IsAgainstCert cause → AllSafe (Saying Key) (by_cert accepts b fuses (Err cause) held) held
+  refused_known cause sized here against = (
     against,
-    tail_safe (Saying Key) accepts b IsSized IsSized (λ f story. IsSized story) (λ f c story. IsSized story) (λ f story. IsSized story) (allowed_walks (Saying Key) accepts b allows_key) fuses (noted (λ _. what.Refused b (refusing.Cert cause)) held) sized,
+    tail_on (Saying Key) Any accepts b Brings ⊥ (allowed_table (Saying Key) accepts b allows_key Brings tt) tt fuses (noted (λ _. what.Refused b (refusing.Cert cause)) held) (record { size = sized; ready = ready_noted b fuses (λ _. what.Refused b (refusing.Cert cause)) held here; known = λ none. absurd none; kept = tt }),
   )
 
   cancelled_known : (cert : Cert) → IsSized from → IsFor cert → AllSafe (Saying Key) (by_use accepts b fuses cert (Ok tt) held) held
@@ -97,19 +99,19 @@ module _ (accepts : Acceptance) (b : Bank) (fuses : FusesState) (from : Story) w
       let left : Story = after moves held in
       AllSafe-append (Saying Key) moves (checked_then accepts b left) held
       (AllSafe-append (Saying Key) call (Says (λ _. what.Cancelled cert.ty cert.id) ∷ []) held (call_says Key device.Nv (cancellation cert.ty cert.id) held) (is, tt))
-      (then_safe (Saying Key) accepts b IsSized IsSized (λ f story. IsSized story) (λ f c story. IsSized story) (λ f story. IsSized story) (allowed_walks (Saying Key) accepts b allows_key) left (store_sized moves held ∙ sized))
+      (then_on (Saying Key) Any accepts b Brings ⊥ (allowed_table (Saying Key) accepts b allows_key Brings tt) tt left (record { size = store_sized moves held ∙ sized; known = λ none. absurd none; kept = tt }))
 
-  use_known : (cert : Cert) → IsSized from → judged ≡ Ok cert → (used : Result (Unit {0}) CertFail) → use_judged accepts b fuses cert held ≡ used → AllSafe (Saying Key) (by_use accepts b fuses cert used held) held
-  use_known cert sized j (Ok free) u = cancelled_known cert sized (j, u)
-  use_known cert sized j (Err cause) u = refused_known cause sized (inr (cert, j, u))
+  use_known : (cert : Cert) → IsSized from → IsReady b fuses held → judged ≡ Ok cert → (used : Result (Unit {0}) CertFail) → use_judged accepts b fuses cert held ≡ used → AllSafe (Saying Key) (by_use accepts b fuses cert used held) held
+  use_known cert sized here j (Ok free) u = cancelled_known cert sized (j, u)
+  use_known cert sized here j (Err cause) u = refused_known cause sized here (inr (cert, j, u))
 
   -- what is done behind that it is held
   abbrev work : Result Cert CertFail → List Move
   work found = Asks device.Nv ∷ Asks (device_of b) ∷ by_cert accepts b fuses found held
 
-  cert_known : (found : Result Cert CertFail) → IsSized from → judged ≡ found → AllSafe (Saying Key) (work found) held
-  cert_known (Ok cert) sized j = (tt, (tt, (tt, use_known cert sized j (use_judged accepts b fuses cert held) refl)))
-  cert_known (Err cause) sized j = (tt, (tt, refused_known cause sized (inl j)))
+  cert_known : (found : Result Cert CertFail) → IsSized from → IsReady b fuses held → judged ≡ found → AllSafe (Saying Key) (work found) held
+  cert_known (Ok cert) sized here j = (tt, (tt, (tt, use_known cert sized here j (use_judged accepts b fuses cert held) refl)))
+  cert_known (Err cause) sized here j = (tt, (tt, refused_known cause sized here (inl j)))
 
   work_is : IsReady b fuses from → Asks device.Nv ∷ updated_with accepts b intent.Cert (ready_of b held) held ≡ work judged
   work_is ready =
@@ -144,7 +146,7 @@ module _ (accepts : Acceptance) (b : Bank) (fuses : FusesState) (first new : Wor
       Traced-known (Key accepts b fuses start) first new (record {
         trace = Says (what.Held b) ∷ ended_trace b (Unit {0}) (todo found) there (story_of new) behind;
         is = ended_is b (Unit {0}) (todo found) there (story_of new) behind;
-        good = (refl, ended_good b (Unit {0}) (todo found) there (story_of new) (Saying (Key accepts b fuses start)) (cert_known accepts b fuses start found sized refl) (trouble_known accepts b fuses start) behind);
+        good = (refl, ended_good b (Unit {0}) (todo found) there (story_of new) (Saying (Key accepts b fuses start)) (cert_known accepts b fuses start found sized (ready_noted b fuses (what.Held b) start ready) refl) (trouble_known accepts b fuses start) behind);
         moved = moved;
       })
 

@@ -83,13 +83,13 @@ checks_belong : (e : Event) (old : World) (b : Bank) → IsCheck b e old → May
 checks_belong e old b check = record {
   held = λ at. inl (inl check);
   released = λ svn at. inl check;
-  locked = λ cause at. inl (inl (inl check));
+  locked = λ cause unfailed at. inl (inl (inl check));
   untrusted = λ cause at. check;
   restored = λ level at. inl check;
 }
 
 back_belongs : (e : Event) (old : World) (b : Bank) → IsWork b e old → MayBringBack (Whenever (λ that. BelongsTo e old that)) b
-back_belongs e old b work = record { held = λ at. inl work; released = λ svn at. work; locked = λ cause at. inl (inl work); restored = λ level at. work }
+back_belongs e old b work = record { held = λ at. inl work; released = λ svn at. work; locked = λ cause unfailed at. inl (inl work); restored = λ level at. work }
 
 provision_belongs : (root : RootSlot) (old : World) → ¬ AreOff old → (r : Result ℕ FuseFail) (story : Story) → AllSafe (Belongs (event.Provision root) old) (provisioned_in root r story) story
 provision_belongs root old on (Ok number) story =
@@ -168,7 +168,7 @@ update_checks b how old runs =
     record {
       held = λ at. inl (inl (inl check));
       released = λ svn at. inl (inl check);
-      locked = λ cause at. inl (inl (inl (inl check)));
+      locked = λ cause unfailed at. inl (inl (inl (inl check)));
       untrusted = λ cause at. inl check;
       restored = λ level at. inl (inl check);
     }

@@ -51,6 +51,7 @@ use Rattle.pfr_story.specs.JobPlans.{same_digest, judged_source, job_notes, fini
 use Rattle.pfr_story.specs.Plans.{mine, store, lock_of, ready_in, ready_of, judged_active, judged_recovery, restored, brought_up, filtered, smbus_judged, expired}
 use Rattle.pfr_story.specs.UpdatePlans.{cancelled_key, updating}
 use Rattle.pfr_story.specs.Causes.{IsTrustedWith, IsNotTrusted, IsAgainst, IsRestorable, IsResumable, IsDue, HasBadRecovery}
+use Rattle.pfr_story.specs.Promises.{IsFaultLock}
 use Rattle.pfr_story.specs.Turn.{fault_of}
 use Rattle.pfr_story.proofs.SafetyLaws.{AllSafe-append, image_noted, notes_called}
 use Rattle.pfr_story.proofs.RestoreLaws.{found_good}
@@ -398,21 +399,23 @@ module _ (s : Setting) (size : size_of s.first.nv ≡ 32768) (b : Bank) where
       updating_safe (IsTrue s) s.accepts b (λ there. ⊥) (IsFrom Any) (IsReadFrom Any) IsTold (λ fuses there. IsReady b fuses there) (calm_walks Any) intent story (true_update intent) refl
       (Precedes-move (story_of s.first) story (Says (what.Held b)) since, tt)
 
--- ---- and calls its device and the store alone, and notes no loss
-abbrev pub IsLoss : What → Type 0
-IsLoss (what.Lost device at) = Unit {0}
-IsLoss that = ⊥
+-- ---- and calls its device and the store alone, and notes no failed call
+-- a loss of power, or a lock for a fault
+abbrev pub IsFailure : What → Type 0
+IsFailure (what.Lost device at) = Unit {0}
+IsFailure (what.Locked b cause at) = IsFaultLock cause
+IsFailure that = ⊥
 
-abbrev pub IsNoLoss : (Counts → What) → Type 0
-IsNoLoss w = (at : Counts) → ¬ IsLoss (w at)
+abbrev pub IsNoFailure : (Counts → What) → Type 0
+IsNoFailure w = (at : Counts) → ¬ IsFailure (w at)
 
-quiet_check : (b : Bank) → MayCheck IsNoLoss b
-quiet_check b = record { held = λ at loss. loss; released = λ svn at loss. loss; locked = λ cause at loss. loss; untrusted = λ cause at loss. loss; restored = λ level at loss. loss }
+quiet_check : (b : Bank) → MayCheck IsNoFailure b
+quiet_check b = record { held = λ at loss. loss; released = λ svn at loss. loss; locked = λ cause unfailed at. unfailed; untrusted = λ cause at loss. loss; restored = λ level at loss. loss }
 
-quiet_back : (b : Bank) → MayBringBack IsNoLoss b
-quiet_back b = record { held = λ at loss. loss; released = λ svn at loss. loss; locked = λ cause at loss. loss; restored = λ level at loss. loss }
+quiet_back : (b : Bank) → MayBringBack IsNoFailure b
+quiet_back b = record { held = λ at loss. loss; released = λ svn at loss. loss; locked = λ cause unfailed at. unfailed; restored = λ level at loss. loss }
 
-quiet_update : (b : Bank) (intent : Intent) → MayUpdate IsNoLoss b intent
+quiet_update : (b : Bank) (intent : Intent) → MayUpdate IsNoFailure b intent
 quiet_update b intent = record {
   refused = λ cause is at loss. loss;
   updated = λ dynamic is svn at loss. loss;
@@ -421,7 +424,7 @@ quiet_update b intent = record {
   cancelled = λ is type id at loss. loss;
 }
 
-quiet_notes : (b : Bank) → AreJobNotes (IsOwn b) IsNoLoss b (inr refl) (inl refl) (job_notes b)
+quiet_notes : (b : Bank) → AreJobNotes (IsOwn b) IsNoFailure b (inr refl) (inl refl) (job_notes b)
 quiet_notes b = record {
   resumes = λ kind at loss. loss;
   gives = λ at loss. loss;
@@ -430,36 +433,36 @@ quiet_notes b = record {
   updates = λ dynamic svn at loss. loss;
 }
 
-pub brought_makes : (accepts : Acceptance) (b : Bank) (story : Story) → AllMake (IsOwn b) IsNoLoss (brought_up accepts b story)
-brought_makes accepts b story = brought_made (IsOwn b) IsNoLoss b (inr refl) (inl refl) (quiet_check b) accepts (quiet_notes b) story
+pub brought_makes : (accepts : Acceptance) (b : Bank) (story : Story) → AllMake (IsOwn b) IsNoFailure (brought_up accepts b story)
+brought_makes accepts b story = brought_made (IsOwn b) IsNoFailure b (inr refl) (inl refl) (quiet_check b) accepts (quiet_notes b) story
 
-pub expired_makes : (accepts : Acceptance) (b : Bank) (story : Story) → AllMake (IsOwn b) IsNoLoss (expired accepts b story)
-expired_makes accepts b story = expired_made (IsOwn b) IsNoLoss b (inr refl) (inl refl) (quiet_back b) accepts story (λ at loss. loss)
+pub expired_makes : (accepts : Acceptance) (b : Bank) (story : Story) → AllMake (IsOwn b) IsNoFailure (expired accepts b story)
+expired_makes accepts b story = expired_made (IsOwn b) IsNoFailure b (inr refl) (inl refl) (quiet_back b) accepts story (λ at loss. loss)
 
-pub updating_makes : (accepts : Acceptance) (b : Bank) (intent : Intent) (story : Story) → AllMake (IsOwn b) IsNoLoss (updating accepts b intent story)
-updating_makes accepts b intent story = updating_made (IsOwn b) IsNoLoss b (inr refl) (inl refl) (quiet_check b) accepts intent (quiet_update b intent) story
+pub updating_makes : (accepts : Acceptance) (b : Bank) (intent : Intent) (story : Story) → AllMake (IsOwn b) IsNoFailure (updating accepts b intent story)
+updating_makes accepts b intent story = updating_made (IsOwn b) IsNoFailure b (inr refl) (inl refl) (quiet_check b) accepts intent (quiet_update b intent) story
 
 -- a frame on its SPI bus calls its device alone
 abbrev pub IsMine : Bank → Device → Type 0
 IsMine b which = which ≡ device_of b
 
-quiet_spi : (b : Bank) → AllowsSpi (Making (IsMine b) IsNoLoss) b
+quiet_spi : (b : Bank) → AllowsSpi (Making (IsMine b) IsNoFailure) b
 quiet_spi b = record { passed = λ op story at loss. loss; blocked = λ cause story at loss. loss; asks = λ story. refl; works = λ op story. refl }
 
-pub filtered_makes : (accepts : Acceptance) (b : Bank) (frame : List ℕ) (story : Story) → AllMake (IsMine b) IsNoLoss (filtered accepts b frame story)
+pub filtered_makes : (accepts : Acceptance) (b : Bank) (frame : List ℕ) (story : Story) → AllMake (IsMine b) IsNoFailure (filtered accepts b frame story)
 filtered_makes accepts b frame story =
-    safe_made (IsMine b) IsNoLoss (filtered accepts b frame story) story (spi_safe (Making (IsMine b) IsNoLoss) accepts b frame (quiet_spi b) story)
+    safe_made (IsMine b) IsNoFailure (filtered accepts b frame story) story (spi_safe (Making (IsMine b) IsNoFailure) accepts b frame (quiet_spi b) story)
 
 -- and one on its SMBus calls none
 abbrev pub NoDevice : Device → Type 0
 NoDevice which = ⊥
 
-quiet_smbus : (b : Bank) → AllowsSmbus (Making NoDevice IsNoLoss) b
+quiet_smbus : (b : Bank) → AllowsSmbus (Making NoDevice IsNoFailure) b
 quiet_smbus b = record { passed = λ story at loss. loss; blocked = λ cause story at loss. loss }
 
-pub smbus_makes : (accepts : Acceptance) (b : Bank) (frame : List ℕ) (story : Story) → AllMake NoDevice IsNoLoss (smbus_judged accepts b frame story)
+pub smbus_makes : (accepts : Acceptance) (b : Bank) (frame : List ℕ) (story : Story) → AllMake NoDevice IsNoFailure (smbus_judged accepts b frame story)
 smbus_makes accepts b frame story =
-    safe_made NoDevice IsNoLoss (smbus_judged accepts b frame story) story (smbus_safe (Making NoDevice IsNoLoss) accepts b frame (quiet_smbus b) story story)
+    safe_made NoDevice IsNoFailure (smbus_judged accepts b frame story) story (smbus_safe (Making NoDevice IsNoFailure) accepts b frame (quiet_smbus b) story story)
 
 -- so a lock for a fault of one of them is true
 pub lock_true : (s : Setting) (b : Bank) (which : Device) (story : Story) → IsOwn b which → Rose (state_at which s.first).faults (state_at which s.last).faults → LockFact s (fault_of which) b story

@@ -1,5 +1,5 @@
 -- What a capsule or a certificate that was found says, whatever else the bytes are.
-use Rattle.std.proofs.Common.{◌≡◌, arith, ◌≤◌, ◌<◌, false, length, inl, inr, Ok}
+use Rattle.std.proofs.Common.{◌≡◌, arith, ◌<◌, false, length, inl, inr, Ok}
 use Rattle.pfr_flash.specs.declared.names.Bank.{Bank}
 use Rattle.pfr_flash.specs.declared.names.ContentType.{ContentType}
 use Rattle.pfr_engine.specs.Acceptance.{Acceptance}
@@ -14,20 +14,13 @@ use Rattle.pfr_jobs.specs.LogPlans.{begin_plan}
 use Rattle.pfr_jobs.specs.LogState.{is_spent}
 use Rattle.pfr_jobs.specs.declared.job.JobKind.{JobKind}
 use Rattle.pfr_story.specs.JobPlans.{judged_source, source_of}
-use Rattle.pfr_story.specs.Plans.{mine, store, judged_recovery}
+use Rattle.pfr_story.specs.Plans.{mine, store}
 use Rattle.pfr_story.specs.Story.{Story}
 use Rattle.pfr_story.specs.UpdatePlans.{judged_cert}
 use Rattle.pfr_story.proofs.JobRules.{AllInLog}
 use Rattle.pfr_story.proofs.JobSafetyCancelled.{IsTypeOf}
 use Rattle.pfr_story.proofs.FoundParts.{judged_small}
 use Rattle.pfr_story.proofs.FoundLog.{begins_own}
-
--- the security version number of a capsule that was found is small
-pub found_small : (accepts : Acceptance) (b : Bank) (fuses : FusesState) (story : Story) (capsule : CapsuleState) → judged_recovery accepts b fuses story ≡ Ok capsule → capsule.manifest.svn ≤ 128
-found_small accepts b fuses story capsule j =
-    let layout = layout_of fuses.provision b in
-    let small = judged_small (mine b story) layout.recovery_at layout.area_len b layout fuses accepts capsule j in
-    omega (arith, small.svn)
 
 -- a job that works on it is begun in the bank's log, where that isn't spent
 pub found_begins : (accepts : Acceptance) (b : Bank) (fuses : FusesState) (kind : JobKind) (capsule : CapsuleState) (story : Story) → judged_source accepts b fuses kind story ≡ Ok capsule

@@ -25,7 +25,7 @@ use Rattle.pfr_story.specs.Story.{Past, Story, Move, Says, Does, Asks, after, mo
 use Rattle.pfr_story.specs.Turn.{fault_of, bank_stretch}
 use Rattle.pfr_story.specs.World.{World, story_of}
 use Rattle.pfr_story.proofs.BringRules.{IsOwn}
-use Rattle.pfr_story.proofs.Facts.{IsNoLoss, brought_makes}
+use Rattle.pfr_story.proofs.Facts.{IsNoFailure, brought_makes}
 use Rattle.pfr_story.proofs.SafetyLaws.{cut_makes}
 use Rattle.pfr_story.proofs.Traces.{Begins, Precedes-refl, Precedes-after, begins_at}
 
@@ -228,12 +228,12 @@ module _ (accepts : Acceptance) (b : Bank) (new : World) where
     stopped_same : (which : Device) (fail : FlashFail) (mid at : World) → Stopped (brought_up accepts c (story_of mid)) which fail mid at → Same mid at
     stopped_same which fail mid at s =
         by_story at (after s.trace (story_of mid)) s.is
-        ∙ others_past b IsNoLoss c apart s.trace (story_of mid) (cut_makes (IsOwn c) IsNoLoss which (brought_up accepts c (story_of mid)) s.trace (story_of mid) (brought_makes accepts c (story_of mid)) s.cut).1
+        ∙ others_past b IsNoFailure c apart s.trace (story_of mid) (cut_makes (IsOwn c) IsNoFailure which (brought_up accepts c (story_of mid)) s.trace (story_of mid) (brought_makes accepts c (story_of mid)) s.cut).1
 
     pub others_same : (mid : World) → Steps (bank_stretch accepts c ∷ []) mid new → Same mid new
     others_same mid (inl (end, crossed, ends)) =
         by_story new (story_of end) ends.is ∙ by_story end (after (brought_up accepts c (story_of mid)) (story_of mid)) crossed.is
-        ∙ others_past b IsNoLoss c apart (brought_up accepts c (story_of mid)) (story_of mid) (brought_makes accepts c (story_of mid))
+        ∙ others_past b IsNoFailure c apart (brought_up accepts c (story_of mid)) (story_of mid) (brought_makes accepts c (story_of mid))
     others_same mid (inr (inl (end, f, ends))) =
         by_story new (story_of end) ends.is ∙ by_story end (after ((bank_stretch accepts c).on_fault f.which) (story_of f.at)) f.noted.is ∙ told_past b (what.Locked c (fault_of f.which)) (story_of f.at) ∙ stopped_same f.which Fault mid f.at f.stopped
     others_same mid (inr (inr l)) = by_story new (after (lost l.which) (story_of l.at)) l.noted.is ∙ told_past b (what.Lost (Some l.which)) (story_of l.at) ∙ stopped_same l.which Loses mid l.at l.stopped

@@ -1,5 +1,5 @@
 -- Each move of a step takes no fuse of the store back, and leaves the slot which provisions it.
-use Rattle.std.proofs.Common.{◌≡◌, ◌∙◌, refl, sym, ℕ, Bool, true, false, List, [], ◌∷◌, length, inl, inr}
+use Rattle.std.proofs.Common.{arith, ◌≡◌, ◌∙◌, sym, Bool, true, false, length, inl, inr}
 use Rattle.std.proofs.lemmas.Bool.{false≢true}
 use Rattle.pfr_flash.specs.Bytes.{AreBytes}
 use Rattle.pfr_flash.specs.FlashState.{size_of}
@@ -22,7 +22,8 @@ use Rattle.pfr_story.proofs.BringRules.{Any}
 use Rattle.pfr_story.proofs.BusRules.{AllowsSpi, spi_safe, smbus_safe}
 use Rattle.pfr_story.proofs.Bytes.{have_bytes, images_then}
 use Rattle.pfr_story.proofs.Courses.{Turn-cases}
-use Rattle.pfr_story.proofs.JobGrowth.{Growing, grown, own_growing, jobs_grow, jobs_grow_told, cancel_grows, migration_grows, provision_grows}
+use Rattle.pfr_fuses.proofs.StaysLemmas.{row_in_sector}
+use Rattle.pfr_story.proofs.JobGrowth.{Growing, grown, own_growing, jobs_grow, jobs_grow_told, cleared_grown, migration_grows, provision_grows}
 use Rattle.pfr_story.proofs.JobSafetyCancelled.{own_signs}
 use Rattle.pfr_story.proofs.StepTraces.{AllowsBanks, noted_good, power_good, provision_traced, spi_traced, smbus_traced, tick_traced, failed_traced, update_traced}
 use Rattle.pfr_story.proofs.Traces.{Traced, precedes_moved}
@@ -45,7 +46,9 @@ growing_update : (b : Bank) → AllowsUpdate Growing b
 growing_update b = record {
   refused = λ cause story. tt;
   cancelled = λ type id story. tt;
-  cancels = λ type id story own few size. cancel_grows type id story (own_signs b type own) few;
+  cancels = λ type op story own clear size.
+      let row = row_in_sector type (own_signs b type own) in
+      cleared_grown (store story) op (record { low = omega (arith, row.0, clear.within.low); high = omega (arith, row.1, clear.within.high) }) clear.clears size;
 }
 
 growing_spi : (b : Bank) → AllowsSpi Growing b

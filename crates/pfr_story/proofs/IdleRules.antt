@@ -1,50 +1,33 @@
 -- No job of a bank that runs is open: what each move does to that.
-use Rattle.std.proofs.Common.{◌≡◌, ◌∙◌, refl, sym, ap, subst, arith, ℕ, ◌+◌, ◌/◌, ◌≤◌, ◌<◌, Bool, true, false, if◌then◌else◌, List, [], ◌∷◌, length, ◌⊎◌, inl, inr, Result, Ok, Err}
-use Rattle.std.proofs.lemmas.Bool.{false≢true}
-use Rattle.pfr_flash.specs.FuseRow.{fuse_byte}
-use Rattle.pfr_flash.specs.Operation.{Operation, Program, applied, IsTorn}
-use Rattle.pfr_flash.specs.Range.{place_of, len_of, IsWithin}
+use Rattle.std.proofs.Common.{◌≡◌, ◌∙◌, refl, sym, ap, arith, ℕ, ◌+◌, ◌≤◌, Bool, true, false, if◌then◌else◌, List, [], ◌∷◌, length, ◌⊎◌, inl, inr, Result, Ok, Err}
+use Rattle.pfr_flash.specs.Operation.{Operation, applied, IsTorn}
+use Rattle.pfr_flash.specs.Range.{place_of, len_of}
 use Rattle.pfr_flash.specs.declared.names.Bank.{Bank}
 use Rattle.pfr_flash.specs.declared.names.Bank.TheVariants as bank
-use Rattle.pfr_flash.specs.declared.names.ContentType.{ContentType}
 use Rattle.pfr_flash.specs.declared.names.Counts.{Counts}
 use Rattle.pfr_flash.specs.declared.names.Device.TheVariants as device
-use Rattle.pfr_flash.proofs.ClearingLemmas.{clearing-within}
 use Rattle.pfr_flash.proofs.PlayLemmas.{length-applied}
 use Rattle.pfr_flash.proofs.RangeLemmas.{IsTorn-within}
-use Rattle.pfr_fuses.specs.Changes.{cancellation, migration}
-use Rattle.pfr_fuses.specs.FuseMap.{row_at}
+use Rattle.pfr_fuses.specs.Changes.{migration}
 use Rattle.pfr_fuses.specs.FusesOf.{fuses_of}
 use Rattle.pfr_fuses.specs.FusesState.{FusesState}
 use Rattle.pfr_fuses.specs.declared.fuse_fail.FuseFail.{FuseFail}
 use Rattle.pfr_fuses.specs.declared.profile.Profile.{Profile}
 use Rattle.pfr_fuses.specs.declared.profile.Profile.TheVariants.{One, Two}
-use Rattle.pfr_fuses.proofs.StaysLemmas.{row_in_sector}
-use Rattle.pfr_auth.specs.declared.fail.ActiveFail.{ActiveFail}
 use Rattle.pfr_jobs.specs.Log.{log_at, open_job}
 use Rattle.pfr_jobs.specs.declared.job.OpenJob.TheVariants as job
 use Rattle.pfr_jobs.proofs.BeginLaw.{log_low, log_high}
 use Rattle.pfr_jobs.proofs.CutLaws.{outside_keeps}
-use Rattle.pfr_report.specs.declared.note.Note.{Note}
-use Rattle.pfr_report.specs.declared.note.Refusal.{Refusal}
 use Rattle.pfr_report.specs.declared.note.What.{What}
 use Rattle.pfr_report.specs.declared.note.What.TheVariants as what
 use Rattle.pfr_story.specs.Guards.{same_bank}
-use Rattle.pfr_story.specs.JobPlans.{job_notes}
 use Rattle.pfr_story.specs.Plans.{store, migration_by, migration_in, migrated}
 use Rattle.pfr_story.specs.Safety.{Rule, IsSafe, AllSafe, Keeps}
 use Rattle.pfr_story.specs.Standing.{Standing, Off, Held, Running, Locked, standing_after, standing_of}
-use Rattle.pfr_story.specs.Story.{Story, Says, Does, Asks, noted, operated, counts_of, device_of, other_bank, called}
-use Rattle.pfr_story.proofs.BringAllowed.{AllowsBank, AllowsUpdate}
+use Rattle.pfr_story.specs.Story.{Story, Says, Does, Asks, noted, operated, counts_of, device_of, called}
 use Rattle.pfr_story.proofs.Carried.{Carrying}
-use Rattle.pfr_story.proofs.JobGrowth.{floor_in_sector}
-use Rattle.pfr_story.proofs.JobLeaves.{other_one}
-use Rattle.pfr_story.proofs.JobRules.{AllowsJobs}
-use Rattle.pfr_story.proofs.JobSafetyCancelled.{IsTypeOf, own_signs}
-use Rattle.pfr_story.proofs.JobSafetyOther.{logs_apart}
-use Rattle.pfr_story.proofs.JobWalks.{TellsJobs}
 use Rattle.pfr_story.proofs.LossLaws.{standing_push}
-use Rattle.pfr_story.proofs.SafetyLaws.{image_operated, notes_operated}
+use Rattle.pfr_story.proofs.SafetyLaws.{image_operated}
 
 -- ---- the rule
 -- the bank is released only where no job of it is open
@@ -125,14 +108,7 @@ called_out : (which : Bank) (ops : List Operation) (story : Story) → AllOut wh
 called_out which [] story out = (tt, tt)
 called_out which (op ∷ ops) story out = (out_safe which op story out.0, called_out which ops (operated device.Nv op story) out.1)
 
--- the cancellation of a key does
-pub cancel_idle : (which b : Bank) (type : ContentType) (id : ℕ) (story : Story) → IsTypeOf b type → id < 256 → AllSafe (KeepsIdle which) (called device.Nv (cancellation type id)) story
-cancel_idle which b type id story own few =
-    let op : Operation = Program (row_at Two type + id / 8) (fuse_byte id ∷ []) in
-    let within : IsWithin (row_at Two type) 32 op = (clearing-within (row_at Two type) 32 id (omega (arith, few))).0 in
-    (out_safe which op story (inr (omega (arith, within.low, (row_in_sector type (own_signs b type own)).0, log_high which))), (tt, tt))
-
--- and the migration of the fuses
+-- the migration of the fuses does
 migration_idle : (which : Bank) (p : Profile) (fuses : FusesState) (story : Story) → AllSafe (KeepsIdle which) (called device.Nv (migration_by p fuses)) story
 migration_idle which One fuses story = called_out which (migration fuses) story (inr (omega (arith, log_high which)), (inr (omega (arith, log_high which)), (inl (omega (arith, log_low which)), tt)))
 migration_idle which Two fuses story = (tt, tt)
@@ -144,43 +120,9 @@ migrating_idle which (Err cause) story = (tt, tt)
 pub migrated_idle : (which : Bank) (story : Story) → AllSafe (KeepsIdle which) (migrated story) story
 migrated_idle which story = (tt, migrating_idle which (fuses_of (store story)) story)
 
--- ---- the other bank is in work
-module _ (which b : Bank) (other : same_bank which b ≡ false) where
-  pub others_idle : AllowsBank (KeepsIdle which) b
-  others_idle = record {
-    released = λ svn story same. absurd (false≢true (sym other ∙ same));
-    locked = λ cause story. tt;
-    untrusted = λ cause story. tt;
-    jobs = record {
-      asks = λ at story own. tt;
-      works = λ op story. own_idle which b op story;
-      logs = λ op story own. subst (λ (w : Bank). KeepsIdle w (Does device.Nv op) story) (other_one which b other) (out_keeps (other_bank b) op story (logs_apart b op own));
-      raises = λ op story raise. out_keeps which op story (inr (omega (arith, raise.within.low, (floor_in_sector b).0, log_high which)));
-    };
-    tells = record {
-      resumed = λ kind story. tt;
-      given_up = λ story. tt;
-      restored = λ level story. tt;
-      updated = λ dynamic svn story. tt;
-      recovery_updated = λ svn story. tt;
-    };
-  }
-
-  pub others_update : AllowsUpdate (KeepsIdle which) b
-  others_update = record {
-    refused = λ cause story. tt;
-    cancelled = λ type id story. tt;
-    cancels = λ type id story own few size. cancel_idle which b type id story own few;
-  }
-
 -- ---- this bank is in work, and doesn't run
 abbrev pub IsStopped : Bank → Story → Type 0
 IsStopped which story = ¬ (standing_of which story.notes ≡ Running)
-
--- a note that leaves how it stands
-record IsAside (which : Bank) (that : What) : Type 0 where
-  idle : (nv : List ℕ) → IsIdleWhere which that nv
-  still : (s : Standing) → standing_after which that s ≡ s
 
 module _ (which : Bank) where
   pub stopped_held : (story : Story) → IsStopped which (noted (what.Held which) story)
@@ -190,43 +132,8 @@ module _ (which : Bank) where
       by_bank bank.Bmc e = absurd cc
       by_bank bank.Pch e = absurd cc
 
-  stopped_told : (that : What) (story : Story) → ((s : Standing) → standing_after which that s ≡ s) → IsStopped which story → IsStopped which (noted (λ _. that) story)
+  pub stopped_told : (that : What) (story : Story) → ((s : Standing) → standing_after which that s ≡ s) → IsStopped which story → IsStopped which (noted (λ _. that) story)
   stopped_told that story still p runs = p (sym (still (standing_of which story.notes)) ∙ sym (standing_told which (λ _. that) story) ∙ runs)
-
-  aside_told : (that : What) → IsAside which that → (story : Story) → Carrying (IsStopped which) (KeepsIdle which) (Says (λ _. that)) story
-  aside_told that aside story p = (aside.idle (store story), stopped_told that story aside.still p)
 
   pub nv_stopped : (op : Operation) (story : Story) → Carrying (IsStopped which) (KeepsIdle which) (Does device.Nv op) story
   nv_stopped op story p = (λ size runs none. absurd (p runs), p)
-
-  own_stopped : (op : Operation) (story : Story) → Carrying (IsStopped which) (KeepsIdle which) (Does (device_of which) op) story
-  own_stopped op story p = (
-    own_idle which which op story,
-    λ runs. p (ap (λ (notes : List Note). standing_of which notes) (sym (notes_operated (device_of which) op story)) ∙ runs),
-  )
-
-  pub jobs_stopped : AllowsJobs (Carrying (IsStopped which) (KeepsIdle which)) which
-  jobs_stopped = record {
-    asks = λ at story own p. (tt, p);
-    works = λ op story. own_stopped op story;
-    logs = λ op story own. nv_stopped op story;
-    raises = λ op story raise. nv_stopped op story;
-  }
-
-  pub tells_stopped : TellsJobs (Carrying (IsStopped which) (KeepsIdle which)) which (job_notes which)
-  tells_stopped = record {
-    resumed = λ kind story. aside_told (what.Resumed which kind) (record { idle = λ nv. tt; still = λ s. refl }) story;
-    given_up = λ story. aside_told (what.Abandoned which) (record { idle = λ nv. tt; still = λ s. refl }) story;
-    restored = λ level story. aside_told (what.Restored which level) (record { idle = λ nv. tt; still = λ s. refl }) story;
-    updated = λ dynamic svn story. aside_told (what.Updated which dynamic svn) (record { idle = λ nv. tt; still = λ s. refl }) story;
-    recovery_updated = λ svn story. aside_told (what.RecoveryUpdated which svn) (record { idle = λ nv. tt; still = λ s. refl }) story;
-  }
-
-  pub untrusted_stopped : (cause : ActiveFail) (story : Story) → IsStopped which story → IsStopped which (noted (λ _. what.Untrusted which cause) story)
-  untrusted_stopped cause story p = stopped_told (what.Untrusted which cause) story (λ s. refl) p
-
-  pub refused_stopped : (cause : Refusal) (story : Story) → IsStopped which story → IsStopped which (noted (λ _. what.Refused which cause) story)
-  refused_stopped cause story p = stopped_told (what.Refused which cause) story (λ s. refl) p
-
-  pub cancelled_stopped : (type : ContentType) (id : ℕ) (story : Story) → Carrying (IsStopped which) (KeepsIdle which) (Says (λ _. what.Cancelled type id)) story
-  cancelled_stopped type id story = aside_told (what.Cancelled type id) (record { idle = λ nv. tt; still = λ s. refl }) story

@@ -1,189 +1,94 @@
 -- Where a bank is brought up, restored or updated, it is released only where no job of it is open.
-use Rattle.std.proofs.Common.{◌≡◌, ◌∙◌, arith, ℕ, ◌≤◌, List, [], ◌∷◌, Bool, true, false, length, subst, refl, Ok}
-use Rattle.std.proofs.lemmas.Bool.Decides.{nat_tests}
+use Rattle.std.proofs.Common.{◌≡◌, ◌∙◌, refl, sym, ap, subst, arith, Bool, true, false, List, length, inr}
+use Rattle.pfr_flash.specs.Operation.{Operation, applied}
 use Rattle.pfr_flash.specs.declared.names.Bank.{Bank}
+use Rattle.pfr_flash.specs.declared.names.Device.{Device}
 use Rattle.pfr_flash.specs.declared.names.Device.TheVariants as device
 use Rattle.pfr_engine.specs.Acceptance.{Acceptance}
-use Rattle.pfr_fuses.specs.Changes.{cancellation}
-use Rattle.pfr_fuses.specs.FusesState.{FusesState}
-use Rattle.pfr_capsule.specs.CapsuleState.{CapsuleState}
-use Rattle.pfr_auth.specs.declared.fail.ActiveFail.{ActiveFail}
-use Rattle.pfr_cert.specs.declared.cert.Cert.{Cert}
-use Rattle.pfr_jobs.specs.LogPlans.{IsKind}
-use Rattle.pfr_jobs.specs.LogState.{is_spent}
-use Rattle.pfr_jobs.specs.declared.job.JobKind.{JobKind}
-use Rattle.pfr_jobs.specs.declared.job.JobKind.TheVariants.{ActiveFromRecovery, ActiveFromStaging, RecoveryFromStaging}
+use Rattle.pfr_fuses.proofs.StaysLemmas.{row_in_sector}
+use Rattle.pfr_jobs.specs.Log.{open_job}
+use Rattle.pfr_jobs.specs.declared.job.OpenJob.TheVariants as job
+use Rattle.pfr_jobs.proofs.BeginLaw.{log_high}
 use Rattle.pfr_script.specs.declared.event.Intent.{Intent}
-use Rattle.pfr_script.specs.declared.event.Intent.TheVariants.{Active, Full, Recovery, Cert as CertIntent}
-use Rattle.pfr_report.specs.declared.note.Refusal.{Refusal}
-use Rattle.pfr_report.specs.declared.note.Refusal.TheVariants as refusing
+use Rattle.pfr_report.specs.declared.note.Note.{Note}
 use Rattle.pfr_report.specs.declared.note.What.{What}
 use Rattle.pfr_report.specs.declared.note.What.TheVariants as what
 use Rattle.pfr_story.specs.Guards.{same_bank}
-use Rattle.pfr_story.specs.JobPlans.{job_notes, begun_job, with_job, recovery_work, recovery_job, judged_source, resumed}
-use Rattle.pfr_story.specs.Plans.{store, ready_of, judged_staging, brought_up, expired}
-use Rattle.pfr_story.specs.Safety.{Rule, AllSafe}
-use Rattle.pfr_story.specs.Story.{Story, Move, Says, after, noted, called}
-use Rattle.pfr_story.specs.UpdatePlans.{judged_cert, cancelled_key, updating}
-use Rattle.pfr_story.proofs.BringAllowed.{allowed_safe, expired_allowed, updating_allowed}
-use Rattle.pfr_story.proofs.BringRules.{use_judged, Refuses, Walks, WalksBack, WalksAnew, WalksCopy, WalksCert, WalksUpdate, walk_safe, level_at, expired_safe, updating_safe}
-use Rattle.pfr_story.proofs.Carried.{Carrying, carried_safe, carried_on}
-use Rattle.pfr_story.proofs.FoundLaws.{found_small, found_begins}
-use Rattle.pfr_story.proofs.IdleRules.{KeepsIdle, others_idle, others_update, IsStopped, stopped_held, nv_stopped, jobs_stopped, tells_stopped, untrusted_stopped, refused_stopped, cancelled_stopped}
-use Rattle.pfr_story.proofs.JobSafety.{HoldsJobs, IsJobless}
-use Rattle.pfr_story.proofs.JobSafetyLaws.{with_job_ends}
-use Rattle.pfr_story.proofs.JobWalks.{begin_allowed, job_allowed, recovery_allowed, resumed_allowed, store_sized}
-use Rattle.pfr_story.proofs.RecoveryWalks.{CanBeWorked, IsClosed, jobless_noted, level_some, resumed_keeps, copy_keeps, cancel_keeps}
-use Rattle.pfr_story.proofs.RestoreLaws.{not_recovery, not_staging}
-use Rattle.pfr_story.proofs.SafetyLaws.{AllSafe-append, called_any}
+use Rattle.pfr_story.specs.Plans.{store, brought_up, expired}
+use Rattle.pfr_story.specs.Recovery.{KeepsRecoverable}
+use Rattle.pfr_story.specs.Safety.{AllSafe}
+use Rattle.pfr_story.specs.Standing.{Standing, standing_after, standing_of}
+use Rattle.pfr_story.specs.Story.{Story, Move, Says, Does, moved_by, noted, operated, device_of, other_bank}
+use Rattle.pfr_story.specs.UpdatePlans.{updating}
+use Rattle.pfr_story.proofs.BringRules.{level_at}
+use Rattle.pfr_story.proofs.IdleRules.{KeepsIdle, IsIdleWhere, IsStopped, stopped_held, stopped_told, own_idle, out_keeps}
+use Rattle.pfr_story.proofs.JobGrowth.{floor_in_sector}
+use Rattle.pfr_story.proofs.JobLeaves.{other_one}
+use Rattle.pfr_story.proofs.JobRules.{IsInLog}
+use Rattle.pfr_story.proofs.JobSafetyCancelled.{own_signs}
+use Rattle.pfr_story.proofs.JobSafetyOther.{logs_apart}
+use Rattle.pfr_story.proofs.WorkKnown.{CanBeWorked, IsClosed}
+use Rattle.pfr_story.proofs.SafetyLaws.{notes_operated}
 use Rattle.pfr_story.proofs.SpanLaws.{same_one}
+use Rattle.pfr_story.proofs.WorkShapes.{Table, Going, Ended, Task, Brings, Expires, Updates, stroked, logged, raised, cleared, untrusted, refused, resumed, given_up, restored, updated, recovery_updated, cancelled, released, unready, no_image, no_recovery, spent}
+use Rattle.pfr_story.proofs.WorkWalks.{brought_worked, expired_worked, updating_worked}
 
--- ---- the bank itself is in work
-module _ (accepts : Acceptance) (b : Bank) where
-  abbrev Stopping : Rule
-  Stopping = Carrying (IsStopped b) (KeepsIdle b)
+module _ (accepts : Acceptance) (which b : Bank) where
+  abbrev IsOne : Type 0
+  IsOne = same_bank which b ≡ true
 
-  abbrev Workable : Story → Type 0
-  Workable story = CanBeWorked b story × IsStopped b story
+  -- where it is the bank in work, it doesn't run
+  abbrev IsStill : Story → Type 0
+  IsStill story = IsOne → IsStopped which story
 
-  abbrev Closed : Story → Type 0
-  Closed story = IsClosed b story × IsStopped b story
+  still_did : (d : Device) (op : Operation) (story : Story) → IsStill story → IsStill (operated d op story)
+  still_did d op story i one runs = i one (ap (λ (notes : List Note). standing_of which notes) (sym (notes_operated d op story)) ∙ runs)
 
-  abbrev Fit : FusesState → Story → Type 0
-  Fit fuses story = IsJobless b fuses story × IsStopped b story
-
-  abbrev Told : FusesState → ActiveFail → Story → Type 0
-  Told fuses cause story = IsJobless b fuses story × IsStopped b story
-
-  abbrev Anew : FusesState → Story → Type 0
-  Anew fuses story = IsJobless b fuses story
-
-  -- moves that are good while it doesn't run
-  stopped_moves : (moves : List Move) (story : Story) → AllSafe Stopping moves story → IsStopped b story → IsClosed b (after moves story) → AllSafe (KeepsIdle b) moves story × Closed (after moves story)
-  stopped_moves moves story safe p closed = (carried_safe (IsStopped b) (KeepsIdle b) moves story safe p, (closed, carried_on (IsStopped b) (KeepsIdle b) moves story safe p))
-
-  resumed_idle : (fuses : FusesState) (story : Story) → Workable story → ready_of b story ≡ Ok fuses
-      → AllSafe (KeepsIdle b) (resumed (job_notes b) accepts b fuses story) story × Closed (after (resumed (job_notes b) accepts b fuses story) story)
-  resumed_idle fuses story q e =
-      let h : HoldsJobs b fuses story = q.0 fuses e in
-      stopped_moves (resumed (job_notes b) accepts b fuses story) story
-      (resumed_allowed Stopping b (jobs_stopped b) (job_notes b) (tells_stopped b) accepts fuses (found_small accepts b fuses) story h.store_size) q.1 (resumed_keeps accepts b b fuses story q.0 e).1
-
-  job_idle : (kind : JobKind) → ¬ (kind ≡ RecoveryFromStaging) → IsKind kind → (fuses : FusesState) (capsule : CapsuleState) (that : What) (story : Story)
-      → ((there : Story) → Stopping (Says (λ _. that)) there) → Fit fuses story → judged_source accepts b fuses kind story ≡ Ok capsule
-      → AllSafe (KeepsIdle b) (with_job b kind fuses capsule that story) story × Anew fuses (after (with_job b kind fuses capsule that story) story)
-  job_idle kind active valid fuses capsule that story tell p j = (
-    carried_safe (IsStopped b) (KeepsIdle b) (with_job b kind fuses capsule that story) story
-        (job_allowed Stopping b (jobs_stopped b) kind fuses capsule that tell story (λ unspent. found_begins accepts b fuses kind capsule story j p.0.holds.store_size unspent)) p.1,
-    with_job_ends accepts b fuses kind active valid capsule that story p.0 j,
-  )
-
-  idle_walks : Walks (KeepsIdle b) accepts b Workable Closed Fit Told Anew
-  idle_walks = record {
-    asks = λ which story own. tt;
-    resumes = λ fuses story q e. resumed_idle fuses story q e;
-    unset = λ cause story q e. tt;
-    ready = λ fuses story s e. (s.0 fuses e, s.1);
-    unready = λ cause story s e. tt;
-    released = λ fuses m story p j same. p.0.none;
-    untrusted = λ fuses cause story p j. (tt, (jobless_noted b fuses (λ _. what.Untrusted b cause) story p.0, untrusted_stopped b cause story p.1));
-    no_image = λ fuses cause other story p j. tt;
-    restores = λ fuses cause capsule story p j. job_idle (ActiveFromRecovery 1) (not_recovery 1) (omega arith, omega arith) fuses capsule (what.Restored b 1) story ((tells_stopped b).restored 1) p j;
-    again = λ fuses m story r j same. r.none;
-  }
-
-  idle_back : (level : ℕ) → 1 ≤ level → WalksBack (KeepsIdle b) accepts b level Closed Fit Anew
-  idle_back level some = record {
-    spent = λ story few s. tt;
-    no_recovery = λ fuses cause story few p j. tt;
-    restores = λ fuses capsule story few p j.
-        job_idle (ActiveFromRecovery level) (not_recovery level) (some, grind (arith, nat_tests)) fuses capsule (what.Restored b level) story ((tells_stopped b).restored level) p j;
-  }
-
-  -- ---- updates
-  refused_idle : (fuses : FusesState) (cause : Refusal) (story : Story) → Fit fuses story → Refuses (KeepsIdle b) b Fit fuses cause story
-  refused_idle fuses cause story p = (tt, (jobless_noted b fuses (λ _. what.Refused b cause) story p.0, refused_stopped b cause story p.1))
-
-  idle_anew : (dynamic : Bool) → WalksAnew (KeepsIdle b) accepts b dynamic Fit Anew
-  idle_anew dynamic = record {
-    staged = λ fuses capsule story p j.
-        job_idle (ActiveFromStaging dynamic) (not_staging dynamic) tt fuses capsule (what.Updated b dynamic capsule.manifest.svn) story ((tells_stopped b).updated dynamic capsule.manifest.svn) p j;
-    refused = λ fuses cause story p j. refused_idle fuses (refusing.Capsule cause) story p;
-  }
-
-  copy_idle : (fuses : FusesState) (capsule : CapsuleState) (story : Story) → Fit fuses story → judged_staging accepts b fuses story ≡ Ok capsule → is_spent (store story) b ≡ false
-      → AllSafe (KeepsIdle b) (recovery_job (job_notes b).given_up (job_notes b).recovery_updated accepts b fuses capsule story) story
-      × Closed (after (recovery_job (job_notes b).given_up (job_notes b).recovery_updated accepts b fuses capsule story) story)
-  copy_idle fuses capsule story p j unspent =
-      let size = p.0.holds.store_size in
-      let begun : List Move = begun_job b RecoveryFromStaging capsule.digest story in
-      let there : Story = after begun story in
-      stopped_moves (recovery_job (job_notes b).given_up (job_notes b).recovery_updated accepts b fuses capsule story) story
-      (AllSafe-append Stopping begun (recovery_work (job_notes b).given_up (job_notes b).recovery_updated accepts b fuses capsule there) story
-      (begin_allowed Stopping b (jobs_stopped b) RecoveryFromStaging capsule.digest story (found_begins accepts b fuses RecoveryFromStaging capsule story j size unspent))
-      (recovery_allowed Stopping b (jobs_stopped b) (job_notes b) (tells_stopped b) accepts fuses (found_small accepts b fuses) capsule there (store_sized begun story ∙ size)))
-      p.1 (copy_keeps accepts b b fuses capsule story p.0 j unspent).1
-
-  idle_copy : WalksCopy (KeepsIdle b) accepts b Closed Fit
-  idle_copy = record {
-    copies = λ fuses capsule story p j same unspent. copy_idle fuses capsule story p j unspent;
-    refused = λ fuses cause story p j. refused_idle fuses (refusing.Capsule cause) story p;
-    differs = λ fuses capsule story p j other. refused_idle fuses refusing.ManifestDiffers story p;
-    spent = λ fuses capsule story p j same spent. refused_idle fuses refusing.JobsSpent story p;
-  }
-
-  cancel_stopped : (fuses : FusesState) (cert : Cert) (story : Story) → Fit fuses story → judged_cert accepts b fuses story ≡ Ok cert → use_judged accepts b fuses cert story ≡ Ok tt
-      → AllSafe (KeepsIdle b) (cancelled_key cert story) story × Closed (after (cancelled_key cert story) story)
-  cancel_stopped fuses cert story p j u =
-      let call : List Move = called device.Nv (cancellation cert.ty cert.id) in
-      stopped_moves (cancelled_key cert story) story
-      (AllSafe-append Stopping call (Says (λ _. what.Cancelled cert.ty cert.id) ∷ []) story
-      (called_any Stopping device.Nv (nv_stopped b) (λ there p. (tt, p)) (cancellation cert.ty cert.id) story) (cancelled_stopped b cert.ty cert.id (after call story), tt))
-      p.1 (cancel_keeps accepts b b fuses cert story p.0 j u).1
-
-  idle_cert : WalksCert (KeepsIdle b) accepts b Closed Fit
-  idle_cert = record {
-    cancels = λ fuses cert story p j free. cancel_stopped fuses cert story p j free;
-    refused = λ fuses cause story p j. refused_idle fuses (refusing.Cert cause) story p;
-    kept = λ fuses cert cause story p j used. refused_idle fuses (refusing.Cert cause) story p;
-  }
-
-  idle_update : (intent : Intent) → WalksUpdate (KeepsIdle b) accepts b intent Closed Fit Anew
-  idle_update Active = idle_anew false
-  idle_update Full = idle_anew true
-  idle_update Recovery = idle_copy
-  idle_update CertIntent = idle_cert
-
-  own_brought : (story : Story) → CanBeWorked b (noted (what.Held b) story) → AllSafe (KeepsIdle b) (brought_up accepts b story) story
-  own_brought story q = walk_safe (KeepsIdle b) accepts b Workable Closed Fit Told Anew idle_walks story tt (q, stopped_held b story)
-
-  own_expired : (story : Story) → IsClosed b (noted (what.Held b) (noted (λ _. what.Expired b (level_at b story)) story)) → AllSafe (KeepsIdle b) (expired accepts b story) story
-  own_expired story s =
-      expired_safe (KeepsIdle b) accepts b Workable Closed Fit Told Anew idle_walks story (idle_back (level_at b story) (level_some b story)) tt tt
-      (s, stopped_held b (noted (λ _. what.Expired b (level_at b story)) story))
-
-  own_updating : (intent : Intent) (story : Story) → IsClosed b (noted (what.Held b) story) → AllSafe (KeepsIdle b) (updating accepts b intent story) story
-  own_updating intent story s = updating_safe (KeepsIdle b) accepts b Workable Closed Fit Told Anew idle_walks intent story (idle_update intent) tt (s, stopped_held b story)
-
--- ---- whichever bank is in work
-module _ (accepts : Acceptance) (which b : Bank) (story : Story) (size : length (store story) ≡ 32768) where
-  pub brought_idle : (same_bank which b ≡ true → CanBeWorked b (noted (what.Held b) story)) → AllSafe (KeepsIdle which) (brought_up accepts b story) story
-  brought_idle q = by_same (same_bank which b) refl
+  -- a log's operation opens no job of a bank that runs
+  log_idle : (op : Operation) (story : Story) → IsInLog b op → IsStill story → KeepsIdle which (Does device.Nv op) story
+  log_idle op story own i size runs none = by_same (same_bank which b) refl
     where
-      by_same : (same : Bool) → same_bank which b ≡ same → AllSafe (KeepsIdle which) (brought_up accepts b story) story
-      by_same true e = subst (λ (w : Bank). AllSafe (KeepsIdle w) (brought_up accepts b story) story) (same_one which b e) (own_brought accepts b story (q e))
-      by_same false e = allowed_safe (KeepsIdle which) accepts b (others_idle which b e) story size tt
+      by_same : (same : Bool) → same_bank which b ≡ same → open_job (applied (store story) op) which ≡ job.None
+      by_same true e = absurd (i e runs)
+      by_same false e = subst (λ (w : Bank). KeepsIdle w (Does device.Nv op) story) (other_one which b e) (out_keeps (other_bank b) op story (logs_apart b op own)) size runs none
 
-  pub expired_idle : (same_bank which b ≡ true → IsClosed b (noted (what.Held b) (noted (λ _. what.Expired b (level_at b story)) story))) → AllSafe (KeepsIdle which) (expired accepts b story) story
-  expired_idle s = by_same (same_bank which b) refl
-    where
-      by_same : (same : Bool) → same_bank which b ≡ same → AllSafe (KeepsIdle which) (expired accepts b story) story
-      by_same true e = subst (λ (w : Bank). AllSafe (KeepsIdle w) (expired accepts b story) story) (same_one which b e) (own_expired accepts b story (s e))
-      by_same false e = expired_allowed (KeepsIdle which) accepts b (others_idle which b e) story size tt tt
+  aside : (that : What) (story : Story) → IsIdleWhere which that (store story) → ((s : Standing) → standing_after which that s ≡ s) → IsStill story → KeepsIdle which (Says (λ _. that)) story × IsStill (noted (λ _. that) story)
+  aside that story idle still i = (idle, λ one. stopped_told which that story still (i one))
 
-  pub updating_idle : (intent : Intent) → (same_bank which b ≡ true → IsClosed b (noted (what.Held b) story)) → AllSafe (KeepsIdle which) (updating accepts b intent story) story
-  updating_idle intent s = by_same (same_bank which b) refl
-    where
-      by_same : (same : Bool) → same_bank which b ≡ same → AllSafe (KeepsIdle which) (updating accepts b intent story) story
-      by_same true e = subst (λ (w : Bank). AllSafe (KeepsIdle w) (updating accepts b intent story) story) (same_one which b e) (own_updating accepts b intent story (s e))
-      by_same false e = updating_allowed (KeepsIdle which) accepts b (others_idle which b e) intent story size (others_update which b e) tt
+  goes : (task : Task) (move : Move) (story : Story) → Going b task IsOne story move → (IsOne → (c : Bank) → KeepsRecoverable accepts c move story) → IsStill story → KeepsIdle which move story × IsStill (moved_by move story)
+  goes task _ story (stroked op) keeps i = (own_idle which b op story, still_did (device_of b) op story i)
+  goes task _ story (logged op own) keeps i = (log_idle op story own i, still_did device.Nv op story i)
+  goes task _ story (raised op raise) keeps i = (out_keeps which op story (inr (omega (arith, raise.within.low, (floor_in_sector b).0, log_high which))), still_did device.Nv op story i)
+  goes task _ story (cleared cancels type op own clear) keeps i =
+      (out_keeps which op story (inr (omega (arith, clear.within.low, (row_in_sector type (own_signs b type own)).0, log_high which))), still_did device.Nv op story i)
+  goes task _ story (untrusted checks cause) keeps i = aside (what.Untrusted b cause) story tt (λ s. refl) i
+  goes task _ story (refused cause may) keeps i = aside (what.Refused b cause) story tt (λ s. refl) i
+  goes task _ story (resumed resumes kind) keeps i = aside (what.Resumed b kind) story tt (λ s. refl) i
+  goes task _ story (given_up copies) keeps i = aside (what.Abandoned b) story tt (λ s. refl) i
+  goes task _ story (restored level) keeps i = aside (what.Restored b level) story tt (λ s. refl) i
+  goes task _ story (updated dynamic replaces svn) keeps i = aside (what.Updated b dynamic svn) story tt (λ s. refl) i
+  goes task _ story (recovery_updated copies svn floor) keeps i = aside (what.RecoveryUpdated b svn) story tt (λ s. refl) i
+  goes task _ story (cancelled cancels type id clear) keeps i = aside (what.Cancelled type id) story tt (λ s. refl) i
+
+  ends : (task : Task) (move : Move) (story : Story) → Ended accepts b task IsOne story move → IsStill story → KeepsIdle which move story
+  ends task _ story (released fuses m ready j known) i = λ one. subst (λ (w : Bank). open_job (store story) w ≡ job.None) (same_one which b one) (known one).none
+  ends task _ story (unready cause e) i = tt
+  ends task _ story (no_image fuses cause other ready j known) i = tt
+  ends task _ story (no_recovery expires fuses cause ready j known) i = tt
+  ends task _ story (spent expires) i = tt
+
+  idle_table : (task : Task) → Table (KeepsIdle which) IsStill accepts b task IsOne
+  idle_table task = record { asks = λ d story own. tt; goes = goes task; ends = ends task }
+
+  held_still : (story : Story) → IsStill (noted (what.Held b) story)
+  held_still story one = subst (λ (c : Bank). IsStopped which (noted (what.Held c) story)) (sym (same_one which b one)) (stopped_held which story)
+
+  module _ (story : Story) (size : length (store story) ≡ 32768) where
+    pub brought_idle : (IsOne → CanBeWorked b (noted (what.Held b) story)) → AllSafe (KeepsIdle which) (brought_up accepts b story) story
+    brought_idle known = brought_worked (KeepsIdle which) IsStill accepts b IsOne (idle_table Brings) story size known tt (held_still story)
+
+    pub expired_idle : (IsOne → IsClosed b (noted (what.Held b) (noted (λ _. what.Expired b (level_at b story)) story))) → AllSafe (KeepsIdle which) (expired accepts b story) story
+    expired_idle known = expired_worked (KeepsIdle which) IsStill accepts b IsOne (idle_table Expires) story size known tt tt (held_still (noted (λ _. what.Expired b (level_at b story)) story))
+
+    pub updating_idle : (intent : Intent) → (IsOne → IsClosed b (noted (what.Held b) story)) → AllSafe (KeepsIdle which) (updating accepts b intent story) story
+    updating_idle intent known = updating_worked (KeepsIdle which) IsStill accepts b IsOne intent (idle_table (Updates intent)) story size known tt (held_still story)

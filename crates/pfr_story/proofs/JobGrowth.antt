@@ -1,11 +1,10 @@
 -- Moves that take no fuse of the store back, and that leave the slot which provisions it.
-use Rattle.std.proofs.Common.{◌≡◌, ◌∙◌, refl, sym, ap, subst, arith, ℕ, ◌+◌, ◌*◌, ◌/◌, ◌≤◌, ◌<◌, List, [], ◌∷◌, ◌++◌, length, length-append, take, get_or, ◌⊎◌, inl, inr, Result, Ok, Err}
+use Rattle.std.proofs.Common.{◌≡◌, ◌∙◌, refl, sym, ap, subst, arith, ℕ, ◌+◌, ◌*◌, ◌≤◌, ◌<◌, List, [], ◌∷◌, ◌++◌, length, length-append, get_or, ◌⊎◌, inl, inr, Result, Ok, Err}
 use Rattle.std.proofs.lemmas.Bool.{cases_lt}
 use Rattle.std.proofs.lemmas.List.{take_all, take-append-le}
 use Rattle.pfr_flash.specs.Bytes.{AreBytes}
 use Rattle.pfr_flash.specs.FlashState.{size_of}
-use Rattle.pfr_flash.specs.FuseRow.{fuse_byte}
-use Rattle.pfr_flash.specs.Operation.{Operation, Program, IsTorn, applied, play, play_first}
+use Rattle.pfr_flash.specs.Operation.{Operation, Program, applied, play, play_first}
 use Rattle.pfr_flash.specs.Range.{IsWithin, SameOutside, OnlyClears, place_of, len_of}
 use Rattle.pfr_flash.specs.declared.names.Bank.{Bank}
 use Rattle.pfr_flash.specs.declared.names.Bank.TheVariants as bank
@@ -14,8 +13,8 @@ use Rattle.pfr_flash.specs.declared.names.ContentType.TheVariants.{PchManifest, 
 use Rattle.pfr_flash.specs.declared.names.Device.TheVariants as device
 use Rattle.pfr_flash.proofs.BytesLemmas.{get_or-bytes_at}
 use Rattle.pfr_flash.proofs.PlayLemmas.{length-play, length-applied, play_push}
-use Rattle.pfr_flash.proofs.RangeLemmas.{SameOutside-applied, SameOutside-wider, IsTorn-within, OnlyClears-refl, OnlyClears-program, OnlyClears-torn}
-use Rattle.pfr_fuses.specs.Changes.{cancellation, migration}
+use Rattle.pfr_flash.proofs.RangeLemmas.{SameOutside-applied, SameOutside-wider, IsTorn-within, OnlyClears-program, OnlyClears-torn}
+use Rattle.pfr_fuses.specs.Changes.{migration}
 use Rattle.pfr_fuses.specs.FuseMap.{IsSigning, profile_of, floor_at, floor_width, row_at, row_width}
 use Rattle.pfr_fuses.specs.FusesOf.{fuses_of}
 use Rattle.pfr_fuses.specs.FusesState.{FusesState}
@@ -38,10 +37,10 @@ use Rattle.pfr_report.specs.declared.note.What.TheVariants as what
 use Rattle.pfr_story.specs.JobPlans.{JobNotes}
 use Rattle.pfr_story.specs.Plans.{store, migration_by, migration_in, migrated, provisioned_in, provisioned}
 use Rattle.pfr_story.specs.Safety.{Rule, IsSafe, AllSafe, Keeps}
-use Rattle.pfr_story.specs.Story.{Past, Story, Says, Does, Asks, with_op, operated, image_of, image_at, device_of, called}
+use Rattle.pfr_story.specs.Story.{Past, Story, Says, Does, Asks, with_op, operated, image_of, device_of, called}
 use Rattle.pfr_story.specs.World.{World, story_of}
 use Rattle.pfr_story.proofs.FuseLaws.{part_holds}
-use Rattle.pfr_story.proofs.JobRules.{IsInLog, IsRaise, AllowsJobs}
+use Rattle.pfr_story.proofs.JobRules.{IsInLog, AllowsJobs}
 use Rattle.pfr_story.proofs.JobWalks.{TellsJobs}
 use Rattle.pfr_story.proofs.SafetyLaws.{AllSafe-append, image_operated, image_did, called_safe}
 use Rattle.pfr_story.proofs.Traces.{Traced, Traced-keeps}
@@ -197,23 +196,6 @@ jobs_grow_told b notes = record {
   updated = λ dynamic svn story. tt;
   recovery_updated = λ svn story. tt;
 }
-
--- ---- a key is cancelled
-pub cancel_grows : (type : ContentType) (id : ℕ) (story : Story) → IsSigning type → id < 256 → AllSafe Growing (called device.Nv (cancellation type id)) story
-cancel_grows type id story s few =
-    let at : ℕ = row_at Two type + id / 8 in
-    let op : Operation = Program at (fuse_byte id ∷ []) in
-    let row = row_in_sector type s in
-    let within : IsWithin 0x7000 4096 op = record { low = omega (arith, row.0); high = omega (arith, row.1, few) } in (
-      (
-        λ size. cleared_grown (store story) op within (OnlyClears-program (store story) at (fuse_byte id ∷ []) (omega (arith, size, row.1, few))) size,
-        λ done t size.
-            let same = IsTorn-within (store story) op done t in
-            cleared_grown (store story) done (record { low = omega (arith, within.low, same.0); high = omega (arith, within.high, same.0, same.1) })
-            (OnlyClears-torn (store story) at (fuse_byte id ∷ []) done t) size,
-      ),
-      (tt, tt),
-    )
 
 -- ---- the fuses are migrated
 held_grown : (first : List ℕ) (fuses : FusesState) (old new : List ℕ) → Holds first fuses old → Holds first fuses new → IsGrown old new

@@ -1,18 +1,16 @@
 -- What a job on a bank does to the store leaves what the other bank's trust reads of it, so that bank's open span goes on.
-use Rattle.std.proofs.Common.{◌≡◌, ◌∙◌, refl, sym, ap, subst, arith, ℕ, ◌+◌, ◌/◌, ◌≤◌, ◌<◌, false, List, [], ◌∷◌, length, inl, inr}
+use Rattle.std.proofs.Common.{◌≡◌, ◌∙◌, refl, sym, ap, subst, arith, ℕ, ◌+◌, ◌≤◌, ◌<◌, false, List, [], length, inl, inr}
 use Rattle.pfr_flash.specs.Names.{manifest_type}
-use Rattle.pfr_flash.specs.FuseRow.{fuse_byte}
-use Rattle.pfr_flash.specs.Operation.{Operation, Program, applied}
+use Rattle.pfr_flash.specs.Operation.{Operation, applied}
 use Rattle.pfr_flash.specs.Range.{Leaves, IsWithin}
 use Rattle.pfr_flash.specs.declared.names.Bank.{Bank}
 use Rattle.pfr_flash.specs.declared.names.Bank.TheVariants as bank
 use Rattle.pfr_flash.specs.declared.names.ContentType.{ContentType}
 use Rattle.pfr_flash.specs.declared.names.Counts.{Counts}
 use Rattle.pfr_flash.specs.declared.names.Device.TheVariants as device
-use Rattle.pfr_flash.proofs.ClearingLemmas.{clearing-within}
 use Rattle.pfr_flash.proofs.PlayLemmas.{length-applied}
 use Rattle.pfr_engine.specs.Acceptance.{Acceptance}
-use Rattle.pfr_fuses.specs.Changes.{SameProvision, cancellation}
+use Rattle.pfr_fuses.specs.Changes.{SameProvision}
 use Rattle.pfr_fuses.specs.FuseMap.{IsSigning, floor_at, floor_width, row_at, row_width}
 use Rattle.pfr_fuses.specs.FusesOf.{fuses_with}
 use Rattle.pfr_fuses.specs.FusesState.{FusesState}
@@ -29,21 +27,20 @@ use Rattle.pfr_jobs.proofs.BeginLaw.{log_low}
 use Rattle.pfr_report.specs.declared.note.What.{What}
 use Rattle.pfr_report.specs.declared.note.What.TheVariants as what
 use Rattle.pfr_story.specs.Guards.{same_bank}
-use Rattle.pfr_story.specs.JobPlans.{JobNotes}
 use Rattle.pfr_story.specs.Keeping.{IsSettled}
 use Rattle.pfr_story.specs.Plans.{store}
-use Rattle.pfr_story.specs.Safety.{AllSafe}
 use Rattle.pfr_story.specs.Spans.{opens_after, opens_from}
-use Rattle.pfr_story.specs.Story.{Story, Says, Does, operated, counts_of, called, other_bank}
+use Rattle.pfr_story.specs.Recovery.{KeepsRecoverable}
+use Rattle.pfr_story.specs.Story.{Story, Move, Says, Does, moved_by, operated, counts_of, other_bank}
 use Rattle.pfr_story.proofs.Carried.{Carrying}
 use Rattle.pfr_story.proofs.JobGrowth.{within_outside, floor_apart, row_apart, row_low, floor_in_sector}
-use Rattle.pfr_story.proofs.JobRules.{IsInLog, IsRaise, torn_within, AllowsJobs}
+use Rattle.pfr_story.proofs.JobRules.{IsInLog, IsRaise}
 use Rattle.pfr_story.proofs.JobSafetyCancelled.{IsTypeOf, own_signs}
-use Rattle.pfr_story.proofs.JobWalks.{TellsJobs, AllNotes}
 use Rattle.pfr_story.proofs.SafetyLaws.{image_operated}
 use Rattle.pfr_story.proofs.SpanLaws.{Spares, SparesOpen, IsSettledWhere, open_none, open_any}
 use Rattle.pfr_story.proofs.SpanRules.{NotOne, InWork, AtWork, op_safe, op_work, still_work}
 use Rattle.pfr_story.proofs.Traces.{IsStamped}
+use Rattle.pfr_story.proofs.WorkShapes.{Table, Going, Ended, Task, stroked, logged, raised, cleared, untrusted, refused, resumed, given_up, restored, updated, recovery_updated, cancelled, released, unready, no_image, no_recovery, spent}
 
 -- ---- what the trust in an image reads of the store
 signs : (b : Bank) → IsSigning (manifest_type b)
@@ -168,7 +165,7 @@ pub record IsAside (which : Bank) (that : What) : Type 0 where
 module _ (accepts : Acceptance) (which : Bank) where
   module _ (b : Bank) where
     -- an operation of the store that leaves the slots and the profile, and what this bank's trust reads where b is another one
-    pub store_kept : (op : Operation) (story : Story) → (length (store story) ≡ 32768 → SameProvision (store story) (applied (store story) op))
+    store_kept : (op : Operation) (story : Story) → (length (store story) ≡ 32768 → SameProvision (store story) (applied (store story) op))
         → (same_bank which b ≡ false → (fuses : FusesState) → LeavesStore fuses which op) → Carrying (AtWork accepts which b) (InWork accepts which) (Does device.Nv op) story
     store_kept op story same leaves at =
         let is : store (operated device.Nv op story) ≡ applied (store story) op = image_operated device.Nv op story in
@@ -184,44 +181,41 @@ module _ (accepts : Acceptance) (which : Bank) where
           ),
           record {
             idle = elim at.idle [ inl none ↦ inl none | inr other ↦ inr (other.0, settles other.1) ];
-            settled = λ own. settles (at.settled own);
+            two = λ own. two_same (store story) (store (operated device.Nv op story)) there (at.two own);
             size = ap (λ (image : List ℕ). length image) is ∙ length-applied (store story) op ∙ at.size;
           },
         )
 
-    -- All that a job on bank b does is good for the spans of this bank, be it b or the other one.
-    pub jobs_leave : AllowsJobs (Carrying (AtWork accepts which b) (InWork accepts which)) b
-    jobs_leave = record {
-      asks = λ at story own p. ((tt, tt), p);
-      works = λ op story p. (op_safe accepts which b op story p, op_work accepts which b op story p);
-      logs = λ op story own. store_kept op story (λ size. log_same b (store story) op own size) (λ other fuses. log_leaves b which fuses op own);
-      raises = λ op story raise. store_kept op story (λ size. raise_same b (store story) op raise size)
-          (λ other fuses. subst (λ (w : Bank). LeavesStore fuses w op) (other_one which b other) (raise_leaves b fuses (store story) op raise));
-    }
-
-    -- and so is the cancellation of one of its keys
-    pub cancels_leave : (type : ContentType) (id : ℕ) → IsTypeOf b type → id < 256 → (story : Story) → AllSafe (Carrying (AtWork accepts which b) (InWork accepts which)) (called device.Nv (cancellation type id)) story
-    cancels_leave type id own few story =
-        let op : Operation = Program (row_at Two type + id / 8) (fuse_byte id ∷ []) in
-        let within : IsWithin (row_at Two type) 32 op = (clearing-within (row_at Two type) 32 id (omega (arith, few))).0 in
-        let low = (row_in_sector type (own_signs b type own)).0 in
-        let kept : (done : Operation) → IsWithin (row_at Two type) 32 done → Carrying (AtWork accepts which b) (InWork accepts which) (Does device.Nv done) story =
-        λ done w. store_kept done story (λ size. behind_same (row_at Two type) 32 (store story) done (omega (arith, low)) w size)
-        (λ other fuses. subst (λ (c : Bank). LeavesStore fuses c done) (other_one which b other) (cancel_leaves b type own done w fuses)) in
-        ((kept op within, λ done t. kept done (torn_within (row_at Two type) 32 (store story) op done t within)), (λ p. ((tt, tt), p), tt))
-
-    pub aside_told : (that : What) → IsAside which that → (story : Story) → Carrying (AtWork accepts which b) (InWork accepts which) (Says (λ _. that)) story
+    aside_told : (that : What) → IsAside which that → (story : Story) → Carrying (AtWork accepts which b) (InWork accepts which) (Says (λ _. that)) story
     aside_told that aside story p = (
       ((aside.stamped (counts_of story), aside.settled (store story)), tt),
       still_work accepts which b (λ _. that) story aside.still p,
     )
 
-    -- and so is what is told of it, where the job's own notes say nothing of the spans
-    pub jobs_tell : (notes : JobNotes) → AllNotes (IsAside which) notes → TellsJobs (Carrying (AtWork accepts which b) (InWork accepts which)) b notes
-    jobs_tell notes aside = record {
-      resumed = λ kind story. aside_told (notes.resumed kind) (aside.resumed kind) story;
-      given_up = λ story. aside_told notes.given_up aside.given_up story;
-      restored = λ level story. aside_told (what.Restored b level) (record { stamped = λ counts. tt; settled = λ nv. tt; still = λ opens. refl }) story;
-      updated = λ dynamic svn story. aside_told (what.Updated b dynamic svn) (record { stamped = λ counts. tt; settled = λ nv. tt; still = λ opens. refl }) story;
-      recovery_updated = λ svn story. aside_told (notes.recovery_updated svn) (aside.recovery_updated svn) story;
-    }
+    -- All that is done of work on bank b is good for the spans of this bank, be it b or the other one.
+    goes : (task : Task) (move : Move) (story : Story) → Going b task ⊥ story move → (⊥ → (c : Bank) → KeepsRecoverable accepts c move story) → AtWork accepts which b story → InWork accepts which move story × AtWork accepts which b (moved_by move story)
+    goes task _ story (stroked op) keeps w = (op_safe accepts which b op story w, op_work accepts which b op story w)
+    goes task _ story (logged op own) keeps w = store_kept op story (λ size. log_same b (store story) op own size) (λ other fuses. log_leaves b which fuses op own) w
+    goes task _ story (raised op raise) keeps w =
+        store_kept op story (λ size. raise_same b (store story) op raise size) (λ other fuses. subst (λ (c : Bank). LeavesStore fuses c op) (other_one which b other) (raise_leaves b fuses (store story) op raise)) w
+    goes task _ story (cleared cancels type op own clear) keeps w =
+        store_kept op story (λ size. behind_same (row_at Two type) 32 (store story) op (omega (arith, (row_in_sector type (own_signs b type own)).0)) clear.within size)
+        (λ other fuses. subst (λ (c : Bank). LeavesStore fuses c op) (other_one which b other) (cancel_leaves b type own op clear.within fuses)) w
+    goes task _ story (untrusted checks cause) keeps w = aside_told (what.Untrusted b cause) (record { stamped = λ counts. tt; settled = λ nv. tt; still = λ opens. refl }) story w
+    goes task _ story (refused cause may) keeps w = aside_told (what.Refused b cause) (record { stamped = λ counts. tt; settled = λ nv. tt; still = λ opens. refl }) story w
+    goes task _ story (resumed resumes kind) keeps w = aside_told (what.Resumed b kind) (record { stamped = λ counts. tt; settled = λ nv. tt; still = λ opens. refl }) story w
+    goes task _ story (given_up copies) keeps w = aside_told (what.Abandoned b) (record { stamped = λ counts. tt; settled = λ nv. tt; still = λ opens. refl }) story w
+    goes task _ story (restored level) keeps w = aside_told (what.Restored b level) (record { stamped = λ counts. tt; settled = λ nv. tt; still = λ opens. refl }) story w
+    goes task _ story (updated dynamic replaces svn) keeps w = aside_told (what.Updated b dynamic svn) (record { stamped = λ counts. tt; settled = λ nv. tt; still = λ opens. refl }) story w
+    goes task _ story (recovery_updated copies svn floor) keeps w = aside_told (what.RecoveryUpdated b svn) (record { stamped = λ counts. tt; settled = λ nv. tt; still = λ opens. refl }) story w
+    goes task _ story (cancelled cancels type id clear) keeps w = aside_told (what.Cancelled type id) (record { stamped = λ counts. tt; settled = λ nv. tt; still = λ opens. refl }) story w
+
+    ends : (task : Task) (move : Move) (story : Story) → Ended accepts b task ⊥ story move → AtWork accepts which b story → InWork accepts which move story
+    ends task _ story (released fuses m ready j known) w = ((refl, λ same. record { fuses = fuses; provisioned = ready.provisioned; two = w.two same fuses ready.provisioned }), tt)
+    ends task _ story (unready cause e) w = ((refl, tt), tt)
+    ends task _ story (no_image fuses cause other ready j known) w = ((refl, tt), tt)
+    ends task _ story (no_recovery expires fuses cause ready j known) w = ((refl, tt), tt)
+    ends task _ story (spent expires) w = ((refl, tt), tt)
+
+    pub span_table : (task : Task) → Table (InWork accepts which) (AtWork accepts which b) accepts b task ⊥
+    span_table task = record { asks = λ at story own. (tt, tt); goes = goes task; ends = ends task }

@@ -1,33 +1,27 @@
 -- Each plan of a job, where the contents don't matter: what its calls touch and what is told of it is allowed.
-use Rattle.std.proofs.Common.{◌≡◌, ◌∙◌, refl, sym, ap, ℕ, ◌/◌, ◌≤◌, Bool, true, false, List, [], ◌∷◌, ◌++◌, length, inl, inr, Result, Ok, Err}
+use Rattle.std.proofs.Common.{◌≡◌, ◌∙◌, refl, sym, ap, ℕ, ◌/◌, Bool, true, false, List, [], ◌∷◌, ◌++◌, length, inr}
 use Rattle.pfr_flash.specs.declared.layout.Layout.{Layout}
 use Rattle.pfr_flash.specs.declared.names.Bank.{Bank}
 use Rattle.pfr_flash.specs.declared.names.Device.TheVariants as device
 use Rattle.pfr_flash.proofs.PlayLemmas.{length-play}
-use Rattle.pfr_engine.specs.Acceptance.{Acceptance}
 use Rattle.pfr_fuses.specs.FusesState.{FusesState}
 use Rattle.pfr_fuses.specs.RootSlot.{layout_of}
 use Rattle.pfr_capsule.specs.CapsuleState.{CapsuleState}
-use Rattle.pfr_capsule.specs.declared.fail.CapsuleFail.{CapsuleFail}
-use Rattle.pfr_jobs.specs.Log.{open_job}
 use Rattle.pfr_jobs.specs.LogPlans.{begin_plan, finish_plan}
 use Rattle.pfr_jobs.specs.LogState.{is_spent}
 use Rattle.pfr_jobs.specs.declared.job.JobKind.{JobKind}
-use Rattle.pfr_jobs.specs.declared.job.JobKind.TheVariants.{ActiveFromRecovery, ActiveFromStaging, RecoveryFromStaging}
-use Rattle.pfr_jobs.specs.declared.job.OpenJob.{OpenJob}
-use Rattle.pfr_jobs.specs.declared.job.OpenJob.TheVariants as job
 use Rattle.pfr_rebuilt.specs.ActiveCopying.{active_page, active_pages, is_active_page}
 use Rattle.pfr_rebuilt.specs.Copying.{holds_text, recovery_page, recovery_pages}
 use Rattle.pfr_rebuilt.specs.Passing.{group_pages, active_heeding, active_ignoring, recovery_heeding, recovery_ignoring}
 use Rattle.pfr_strokes.proofs.ReplacedLaws.{pages_are}
 use Rattle.pfr_report.specs.declared.note.What.{What}
 use Rattle.pfr_report.specs.declared.note.What.TheVariants.{Restored, Updated}
-use Rattle.pfr_story.specs.JobPlans.{JobNotes, begun_job, finished_job, abandoned, worked, written_over, done_with, by_log, with_job, copied_over, copied_again, raised_to, concluded, by_second_pass, second_pass, same_digest, by_digest, by_first_pass, recovery_work, judged_source, work_of, resumed_if, by_source, by_open, resumed}
-use Rattle.pfr_story.specs.Plans.{mine, store, asks, judged_recovery}
+use Rattle.pfr_story.specs.JobPlans.{JobNotes, begun_job, finished_job, worked, written_over, done_with, by_log, with_job, copied_over, copied_again}
+use Rattle.pfr_story.specs.Plans.{mine, store}
 use Rattle.pfr_story.specs.Safety.{Rule, AllSafe}
-use Rattle.pfr_story.specs.Story.{Story, Move, Says, Does, Asks, after, noted, operated, then, says, device_of}
+use Rattle.pfr_story.specs.Story.{Story, Move, Says, Does, Asks, after, noted, operated, then, says}
 use Rattle.pfr_story.proofs.SafetyLaws.{AllSafe-append}
-use Rattle.pfr_story.proofs.JobRules.{AllInLog, finish_own, heeding_own, ignoring_own, AllowsJobs, calls_allowed, deeds_allowed, raise_allowed}
+use Rattle.pfr_story.proofs.JobRules.{AllInLog, finish_own, heeding_own, ignoring_own, AllowsJobs, calls_allowed, deeds_allowed}
 
 -- the store keeps its size
 start_kept : (moves : List Move) (story : Story) → (after moves story).nv.start ≡ story.nv.start
@@ -50,12 +44,6 @@ pub record TellsJobs (G : Rule) (b : Bank) (notes : JobNotes) : Type 0 where
   pub restored : (level : ℕ) (story : Story) → G (Says (λ _. Restored b level)) story
   pub updated : (dynamic : Bool) (svn : ℕ) (story : Story) → G (Says (λ _. Updated b dynamic svn)) story
   pub recovery_updated : (svn : ℕ) (story : Story) → G (Says (λ _. notes.recovery_updated svn)) story
-
--- each of a job's own notes is so
-pub record AllNotes (P : What → Type 0) (notes : JobNotes) : Type 0 where
-  pub resumed : (kind : JobKind) → P (notes.resumed kind)
-  pub given_up : P notes.given_up
-  pub recovery_updated : (svn : ℕ) → P (notes.recovery_updated svn)
 
 module _ (G : Rule) (b : Bank) (h : AllowsJobs G b) where
   -- ---- each plan of a job, whatever it leads to
@@ -119,65 +107,3 @@ module _ (G : Rule) (b : Bank) (h : AllowsJobs G b) where
       by_spent false e =
           let moves : List Move = begun_job b kind capsule.digest story in
           AllSafe-append G moves (done_with b kind fuses capsule that (after moves story)) story (begin_allowed kind capsule.digest story (own e)) (done_allowed kind fuses capsule that tell (after moves story))
-
-  -- ---- with all that is told of it
-  module _ (notes : JobNotes) (tells : TellsJobs G b notes) where
-    pub abandon_allowed : (story : Story) → AllSafe G (abandoned notes.given_up b story) story
-    abandon_allowed story = end_allowed notes.given_up tells.given_up story
-
-    module _ (accepts : Acceptance) (fuses : FusesState) (small : (story : Story) (standing : CapsuleState) → judged_recovery accepts b fuses story ≡ Ok standing → standing.manifest.svn ≤ 128) where
-      conclude_allowed : (standing : CapsuleState) (story : Story) → standing.manifest.svn ≤ 128 → length (store story) ≡ 32768 → AllSafe G (concluded notes.recovery_updated b fuses standing story) story
-      conclude_allowed standing story few size =
-          let moves : List Move = raised_to standing.manifest.svn b fuses story in
-          AllSafe-append G moves (then (finished_job b) (says (λ _. notes.recovery_updated standing.manifest.svn)) (after moves story)) story (raise_allowed G b h fuses standing.manifest.svn story few size)
-          (end_allowed (notes.recovery_updated standing.manifest.svn) (tells.recovery_updated standing.manifest.svn) (after moves story))
-
-      second_allowed : (capsule : CapsuleState) (story : Story) → length (store story) ≡ 32768 → AllSafe G (second_pass notes.given_up notes.recovery_updated accepts b fuses capsule story) story
-      second_allowed capsule story size =
-          let moves : List Move = copied_again b fuses capsule story in
-          let there : Story = after moves story in
-          AllSafe-append G moves (asks b there ++ by_second_pass notes.given_up notes.recovery_updated b fuses (judged_recovery accepts b fuses there) there) story (again_allowed fuses capsule story)
-          (h.asks (device_of b) there (inl refl), by_judged there (store_sized moves story ∙ size) (judged_recovery accepts b fuses there) refl)
-        where
-          by_judged : (there : Story) → length (store there) ≡ 32768 → (judged : Result CapsuleState CapsuleFail) → judged_recovery accepts b fuses there ≡ judged → AllSafe G (by_second_pass notes.given_up notes.recovery_updated b fuses judged there) there
-          by_judged there sized (Ok standing) e = conclude_allowed standing there (small there standing e) sized
-          by_judged there sized (Err cause) e = abandon_allowed there
-
-      pub recovery_allowed : (capsule : CapsuleState) (story : Story) → length (store story) ≡ 32768 → AllSafe G (recovery_work notes.given_up notes.recovery_updated accepts b fuses capsule story) story
-      recovery_allowed capsule story size =
-          let moves : List Move = copied_over b fuses capsule story in
-          let there : Story = after moves story in
-          AllSafe-append G moves (asks b there ++ by_first_pass notes.given_up notes.recovery_updated accepts b fuses capsule (judged_recovery accepts b fuses there) there) story (copy_allowed fuses capsule story)
-          (h.asks (device_of b) there (inl refl), by_judged there (store_sized moves story ∙ size) (judged_recovery accepts b fuses there) refl)
-        where
-          by_same : (there : Story) → length (store there) ≡ 32768 → (standing : CapsuleState) → standing.manifest.svn ≤ 128 → (t : Bool) → AllSafe G (by_digest t notes.given_up notes.recovery_updated accepts b fuses capsule standing there) there
-          by_same there sized standing few true = conclude_allowed standing there few sized
-          by_same there sized standing few false = second_allowed capsule there sized
-
-          by_judged : (there : Story) → length (store there) ≡ 32768 → (judged : Result CapsuleState CapsuleFail) → judged_recovery accepts b fuses there ≡ judged
-              → AllSafe G (by_first_pass notes.given_up notes.recovery_updated accepts b fuses capsule judged there) there
-          by_judged there sized (Ok standing) e = by_same there sized standing (small there standing e) (same_digest standing.digest capsule.digest)
-          by_judged there sized (Err cause) e = second_allowed capsule there sized
-
-      -- a job that is open at a power-on
-      work_of_allowed : (capsule : CapsuleState) (kind : JobKind) (story : Story) → length (store story) ≡ 32768 → AllSafe G (work_of notes accepts b fuses capsule kind story) story
-      work_of_allowed capsule (ActiveFromRecovery level) story size = done_allowed (ActiveFromRecovery level) fuses capsule (Restored b level) (tells.restored level) story
-      work_of_allowed capsule (ActiveFromStaging dynamic) story size =
-          done_allowed (ActiveFromStaging dynamic) fuses capsule (Updated b dynamic capsule.manifest.svn) (tells.updated dynamic capsule.manifest.svn) story
-      work_of_allowed capsule RecoveryFromStaging story size = recovery_allowed capsule story size
-
-      resume_allowed : (t : Bool) (capsule : CapsuleState) (kind : JobKind) (story : Story) → length (store story) ≡ 32768 → AllSafe G (resumed_if t notes accepts b fuses capsule kind story) story
-      resume_allowed true capsule kind story size = (tells.resumed kind story, work_of_allowed capsule kind (noted (λ _. notes.resumed kind) story) size)
-      resume_allowed false capsule kind story size = abandon_allowed story
-
-      source_allowed : (kind : JobKind) (digest : List ℕ) (judged : Result CapsuleState CapsuleFail) (story : Story) → length (store story) ≡ 32768 → AllSafe G (by_source notes accepts b fuses kind digest judged story) story
-      source_allowed kind digest (Ok capsule) story size = resume_allowed (same_digest capsule.digest digest) capsule kind story size
-      source_allowed kind digest (Err cause) story size = abandon_allowed story
-
-      open_allowed : (opened : OpenJob) (story : Story) → length (store story) ≡ 32768 → AllSafe G (by_open notes accepts b fuses opened story) story
-      open_allowed job.None story size = tt
-      open_allowed job.Bad story size = abandon_allowed story
-      open_allowed (job.Job kind digest) story size = (h.asks (device_of b) story (inl refl), source_allowed kind digest (judged_source accepts b fuses kind story) story size)
-
-      pub resumed_allowed : (story : Story) → length (store story) ≡ 32768 → AllSafe G (resumed notes accepts b fuses story) story
-      resumed_allowed story size = (h.asks device.Nv story (inr refl), open_allowed (open_job (store story) b) story size)

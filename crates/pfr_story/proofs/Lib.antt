@@ -48,7 +48,6 @@ pub mod FuseLaws
 pub mod JobGrowth
 pub mod JobLeaves
 pub mod JobTrust
-pub mod JobSpans
 pub mod StoreLaws
 pub mod EventLaws
 pub mod JudgedLaws
@@ -100,11 +99,14 @@ pub mod JobPower
 pub mod JobRecoveryBegun
 pub mod JobSafetyFuses
 pub mod JobMakes
-pub mod MomentMoves
 pub mod BringMakes
 pub mod JobContentsLaws
 pub mod JobReleases
 pub mod ChangedFuses
+pub mod WorkKnown
+pub mod WorkShapes
+pub mod WorkWalks
+pub mod StepWalks
 pub mod ChangeWalks
 pub mod CancelLaws
 pub mod RecoveryTail
@@ -116,3 +118,7 @@ pub mod ChangeLaws
 pub mod Fronts
 pub mod HeedLaws
 pub mod SafePlanLaws
+pub mod WholeLaws
+pub mod PowerRunLaws
+pub mod ScriptFaultLaws
+pub mod ScriptRunLaws

@@ -5,7 +5,6 @@ use Rattle.pfr_flash.specs.declared.names.Bank.{Bank}
 use Rattle.pfr_flash.specs.declared.names.Bank.TheVariants as bank
 use Rattle.pfr_flash.specs.declared.names.Counts.{Counts}
 use Rattle.pfr_flash.specs.declared.names.Device.{Device}
-use Rattle.pfr_flash.specs.declared.names.Device.TheVariants as device
 use Rattle.pfr_engine.specs.Acceptance.{Acceptance}
 use Rattle.pfr_fuses.specs.declared.root_slot.RootSlot.{RootSlot}
 use Rattle.pfr_script.specs.declared.event.Event.{Event}
@@ -29,18 +28,33 @@ use Rattle.pfr_story.specs.Turn.{bank_stretch, fuse_stretch, provision_stretch, 
 use Rattle.pfr_story.specs.Promises.{HasLost, LossesAreNoted, IsLast, LostEnds, IsSwitchedOff, NotesOff}
 use Rattle.pfr_story.proofs.WorldLaws.{NoneLost-trans, NoneLost-at, LostAt-later, LostAt-on, each_at}
 use Rattle.pfr_story.proofs.Sequence.{after-append}
-use Rattle.pfr_story.proofs.SafetyLaws.{AllMake-append, AllMake-more, cut_makes}
+use Rattle.pfr_story.proofs.SafetyLaws.{AllMake-append, AllMake-as, cut_makes}
 use Rattle.pfr_story.proofs.Courses.{went_on, Turn-cases}
 use Rattle.pfr_story.proofs.Traces.{noted_append, noted_right}
 use Rattle.pfr_story.proofs.Made.{said, said_append, Made, made_then, added_said, Whichever, said_all}
 use Rattle.pfr_story.proofs.BringRules.{IsOwn}
 use Rattle.pfr_story.proofs.StepTraces.{pass_noted}
-use Rattle.pfr_story.proofs.Facts.{IsLoss, IsNoLoss, IsMine, NoDevice, brought_makes, expired_makes, updating_makes, filtered_makes, smbus_makes}
+use Rattle.pfr_story.proofs.Facts.{IsFailure, IsNoFailure, IsMine, NoDevice, brought_makes, expired_makes, updating_makes, filtered_makes, smbus_makes}
+use Rattle.pfr_story.proofs.FaultLaws.{begun_at}
 use Rattle.pfr_story.proofs.Turns.{step_of, Turn-known, IsStore, migrated_makes, provisioned_makes}
 
 -- ---- moves that note no loss
+abbrev IsLoss : What → Type 0
+IsLoss (what.Lost device at) = Unit {0}
+IsLoss that = ⊥
+
+abbrev IsNoLoss : (Counts → What) → Type 0
+IsNoLoss w = (at : Counts) → ¬ IsLoss (w at)
+
 abbrev pub AllQuiet : List Move → Type 0
 AllQuiet moves = AllMake Whichever IsNoLoss moves
+
+loss_fails : (that : What) → IsLoss that → IsFailure that
+loss_fails (what.Lost device at) loss = tt
+loss_fails _ loss = absurd loss
+
+quiet_made : (D : Device → Type 0) (moves : List Move) → AllMake D IsNoFailure moves → AllQuiet moves
+quiet_made D moves made = AllMake-as D Whichever IsNoFailure IsNoLoss (λ which own. tt) (λ w none at loss. none at (loss_fails (w at) loss)) moves made
 
 no_loss : (that : What) → IsLoss that → (moves : List Move) (story : Story) → AllQuiet moves → ¬ IsNoted (said moves story) that
 no_loss that loss moves story q n = said_all (λ (w : What). ¬ IsLoss w) moves story q that n loss
@@ -119,37 +133,37 @@ Steps-losses (s ∷ ss) old new q (inr (inr l)) =
 -- ---- by event
 bank_quiet : (accepts : Acceptance) (b : Bank) → IsQuietStretch (bank_stretch accepts b)
 bank_quiet accepts b = record {
-  plan = λ story. AllMake-more (IsOwn b) Whichever IsNoLoss (λ which own. tt) (brought_up accepts b story) (brought_makes accepts b story);
+  plan = λ story. quiet_made (IsOwn b) (brought_up accepts b story) (brought_makes accepts b story);
   noted = λ which. ((λ at loss. loss), tt);
 }
 
 fuses_quiet : IsQuietStretch fuse_stretch
 fuses_quiet = record {
-  plan = λ story. AllMake-more IsStore Whichever IsNoLoss (λ which own. tt) (migrated story) (migrated_makes story);
+  plan = λ story. quiet_made IsStore (migrated story) (migrated_makes story);
   noted = λ which. ((λ at loss. loss), ((λ at loss. loss), ((λ at loss. loss), ((λ at loss. loss), tt))));
 }
 
 provision_quiet : (root : RootSlot) → IsQuietStretch (provision_stretch root)
 provision_quiet root = record {
-  plan = λ story. AllMake-more IsStore Whichever IsNoLoss (λ which own. tt) (provisioned root story) (provisioned_makes root story);
+  plan = λ story. quiet_made IsStore (provisioned root story) (provisioned_makes root story);
   noted = λ which. ((λ at loss. loss), ((λ at loss. loss), tt));
 }
 
 spi_quiet : (accepts : Acceptance) (b : Bank) (frame : List ℕ) → IsQuietStretch (spi_stretch accepts b frame)
 spi_quiet accepts b frame = record {
-  plan = λ story. AllMake-more (IsMine b) Whichever IsNoLoss (λ which own. tt) (filtered accepts b frame story) (filtered_makes accepts b frame story);
+  plan = λ story. quiet_made (IsMine b) (filtered accepts b frame story) (filtered_makes accepts b frame story);
   noted = λ which. ((λ at loss. loss), ((λ at loss. loss), tt));
 }
 
 expiry_quiet : (accepts : Acceptance) (b : Bank) → IsQuietStretch (expiry_stretch accepts b)
 expiry_quiet accepts b = record {
-  plan = λ story. AllMake-more (IsOwn b) Whichever IsNoLoss (λ which own. tt) (expired accepts b story) (expired_makes accepts b story);
+  plan = λ story. quiet_made (IsOwn b) (expired accepts b story) (expired_makes accepts b story);
   noted = λ which. ((λ at loss. loss), tt);
 }
 
 update_quiet : (accepts : Acceptance) (b : Bank) (intent : Intent) → IsQuietStretch (update_stretch accepts b intent)
 update_quiet accepts b intent = record {
-  plan = λ story. AllMake-more (IsOwn b) Whichever IsNoLoss (λ which own. tt) (updating accepts b intent story) (updating_makes accepts b intent story);
+  plan = λ story. quiet_made (IsOwn b) (updating accepts b intent story) (updating_makes accepts b intent story);
   noted = λ which. ((λ at loss. loss), tt);
 }
 
@@ -172,7 +186,7 @@ taken_ends accepts (event.Provision root) story old new t = along (provision_cou
 taken_ends accepts (event.Spi b frame) story old new t = along (spi_course accepts b frame) old new tt (spi_quiet accepts b frame, tt) t
 taken_ends accepts (event.Smbus b frame) story old new t =
     let moves : List Move = smbus_judged accepts b frame story in
-    along (smbus_course accepts b frame story) old new (AllMake-more NoDevice Whichever IsNoLoss (λ which none. tt) moves (smbus_makes accepts b frame story)) tt t
+    along (smbus_course accepts b frame story) old new (quiet_made NoDevice moves (smbus_makes accepts b frame story)) tt t
 taken_ends accepts (event.Tick n) story old new t =
     let pch : Stretch = expiry_stretch accepts bank.Pch in
     along (tick_course accepts n story) old new tt
@@ -257,11 +271,6 @@ Turn-lost accepts e old new t other at n = by_end (Turn-ends accepts e old new t
     by_end (inl q) = absurd (quiet_added (begun e old) new q other at n)
     by_end (inr l) = last_of (begun e old) new l other at n
 
-begun_state : (e : Event) (which : Device) (old : World) → state_at which (begun e old) ≡ state_at which old
-begun_state e device.Bmc old = refl
-begun_state e device.Pch old = refl
-begun_state e device.Nv old = refl
-
 counted_fell : (which : Device) (old new : World) (device : Option Device) → device ≡ Some which → IsCounted device old new → (state_at which old).losses < (state_at which new).losses
 counted_fell which old new (Some other) e l =
     let same : other ≡ which = cc in
@@ -283,12 +292,12 @@ Turn-losses accepts e old new t which = by_end (Turn-ends accepts e old new t)
     by_end : EndsSo (begun e old) new → (HasLost which (added old new) ↔ ((state_at which old).losses < (state_at which new).losses))
     by_end (inl q) = (
       (λ h. absurd (quiet_added (begun e old) new q (Some which) h.at h.noted)),
-      (λ fell. absurd (omega (arith, NoneLost-at which (begun e old) new q.none, ap (λ (d : FlashState). d.losses) (begun_state e which old), fell))),
+      (λ fell. absurd (omega (arith, NoneLost-at which (begun e old) new q.none, ap (λ (d : FlashState). d.losses) (begun_at which e old), fell))),
     )
     by_end (inr l) = (
-      (λ h. let fell = counted_fell which (begun e old) new l.device (sym (lost_last (begun e old) new l (Some which) h.at h.noted).0) l.counted in omega (arith, ap (λ (d : FlashState). d.losses) (begun_state e which old), fell)),
+      (λ h. let fell = counted_fell which (begun e old) new l.device (sym (lost_last (begun e old) new l (Some which) h.at h.noted).0) l.counted in omega (arith, ap (λ (d : FlashState). d.losses) (begun_at which e old), fell)),
       (λ fell.
-          let is = fell_counted which (begun e old) new l.device l.counted (omega (arith, ap (λ (d : FlashState). d.losses) (begun_state e which old), fell)) in
+          let is = fell_counted which (begun e old) new l.device l.counted (omega (arith, ap (λ (d : FlashState). d.losses) (begun_at which e old), fell)) in
           record {
             at = counts_of (there (begun e old) new l);
             noted = subst (λ (d : Option Device). IsNoted (added old new) (what.Lost d (counts_of (there (begun e old) new l)))) is (is_noted (begun e old) new l);

@@ -9,14 +9,12 @@ use Rattle.pfr_flash.specs.declared.names.Device.{Device}
 use Rattle.pfr_flash.specs.declared.names.Device.TheVariants as device
 use Rattle.pfr_flash.proofs.PlayLemmas.{length-applied}
 use Rattle.pfr_engine.specs.Acceptance.{Acceptance}
-use Rattle.pfr_fuses.specs.Changes.{cancellation}
 use Rattle.pfr_fuses.specs.FusesOf.{fuses_of}
 use Rattle.pfr_fuses.specs.Provisioning.{judge_provision, provision_plan}
 use Rattle.pfr_fuses.specs.declared.fuse_fail.FuseFail.{FuseFail}
 use Rattle.pfr_fuses.specs.declared.root_slot.RootSlot.{RootSlot}
 use Rattle.pfr_manifest.specs.declared.manifest.Manifest.{Manifest}
 use Rattle.pfr_jobs.specs.Log.{log_at, open_job}
-use Rattle.pfr_jobs.specs.declared.job.JobKind.TheVariants.{ActiveFromRecovery}
 use Rattle.pfr_jobs.proofs.BeginLaw.{log_high}
 use Rattle.pfr_jobs.proofs.CutLaws.{outside_keeps}
 use Rattle.pfr_script.specs.declared.event.Event.{Event}
@@ -28,21 +26,23 @@ use Rattle.pfr_report.specs.declared.note.LockWhy.{LockWhy}
 use Rattle.pfr_report.specs.declared.note.What.{What}
 use Rattle.pfr_report.specs.declared.note.What.TheVariants as what
 use Rattle.pfr_story.specs.Guards.{guard_at, watch_after}
-use Rattle.pfr_story.specs.Story.{Story, Says, Does, Asks, noted, operated, counts_of, past_at, called, device_of, other_bank}
+use Rattle.pfr_story.specs.Story.{Story, Move, moved_by, Says, Does, Asks, noted, operated, counts_of, past_at, called, device_of, other_bank}
 use Rattle.pfr_story.specs.World.{World, story_of}
 use Rattle.pfr_story.specs.Course.{Course, Follows}
+use Rattle.pfr_story.specs.Recovery.{KeepsRecoverable}
 use Rattle.pfr_story.specs.Safety.{Rule, AllGood, AllSafe, Keeps}
 use Rattle.pfr_story.specs.JobPlans.{job_notes}
 use Rattle.pfr_story.specs.Plans.{store, migration_in, provisioned_in, smbus_judged}
 use Rattle.pfr_story.specs.Turn.{fault_of, bank_stretch, fuse_stretch, provision_stretch, spi_stretch, expiry_stretch, update_stretch, stage_at, ignored, taken, power_course, off_course, provision_course, spi_course, smbus_course, update_course, boot_course}
 use Rattle.pfr_story.specs.Promises.{IsWatchLock}
 use Rattle.pfr_story.proofs.SafetyLaws.{AllSafe-append, image_operated, safe_whole}
-use Rattle.pfr_story.proofs.BringAllowed.{IsSized, AllowsBank, AllowsUpdate, copy_told, resume_told, allowed_update, expired_allowed}
-use Rattle.pfr_story.proofs.BringRules.{level_at, Walks, walk_safe, updating_safe}
+use Rattle.pfr_story.proofs.BringAllowed.{IsSized, AllowsBank, expired_allowed}
+use Rattle.pfr_story.proofs.BringRules.{Any, level_at}
+use Rattle.pfr_story.proofs.WorkShapes.{Table, Going, Ended, Task, Brings, Updates, Checks, checks_stays, stroked, logged, raised, cleared, untrusted, refused, resumed, given_up, restored, updated, recovery_updated, cancelled, released, unready, no_image, no_recovery, spent}
+use Rattle.pfr_story.proofs.WorkWalks.{brought_worked, updating_worked}
 use Rattle.pfr_story.proofs.BusRules.{spi_safe, smbus_safe}
 use Rattle.pfr_story.proofs.JobGrowth.{floor_in_sector}
-use Rattle.pfr_story.proofs.JobQuiet.{told_jobs, saying_told}
-use Rattle.pfr_story.proofs.JobRules.{IsInLog, IsRaise, AllowsJobs}
+use Rattle.pfr_story.proofs.JobRules.{IsInLog, IsRaise}
 use Rattle.pfr_story.proofs.JobTrust.{IsTrustedNow, KeepsTrust, jobs_trust}
 use Rattle.pfr_story.proofs.JobWalks.{TellsJobs}
 use Rattle.pfr_story.proofs.StepTraces.{pass_noted}
@@ -216,45 +216,41 @@ module _ (which : Bank) where
   fault_quiet b device.Pch story e watch = watch
   fault_quiet b device.Nv story e watch = watch
 
-  -- all that a job tells, and an update
-  quiet_told : (b : Bank) → TellsJobs Quiet b (job_notes b)
-  quiet_told b = saying_told (Unwatched which) b (job_notes b) (record { resumed = λ kind. tt; given_up = tt; restored = λ level. tt; updated = λ dynamic svn. tt; recovery_updated = λ svn. tt })
-
-  quiet_updates : (b : Bank) → AllowsUpdate Quiet b
-  quiet_updates b = record {
-    refused = λ cause story. tt;
-    cancelled = λ type id story. tt;
-    cancels = λ type id story own below sized. call_says (λ note here. Unwatched which note) device.Nv (cancellation type id) story;
-  }
-
   module _ (accepts : Acceptance) (b : Bank) where
-    quiet_jobs : AllowsJobs Quiet b
-    quiet_jobs = told_jobs b (λ note story. Unwatched which note)
+    goes : (task : Task) (move : Move) (story : Story) → Going b task ⊥ story move → (⊥ → (c : Bank) → KeepsRecoverable accepts c move story) → Any story → Quiet move story × Any (moved_by move story)
+    goes task _ story (stroked op) keeps any = (tt, tt)
+    goes task _ story (logged op own) keeps any = (tt, tt)
+    goes task _ story (raised op raise) keeps any = (tt, tt)
+    goes task _ story (cleared cancels type op own clear) keeps any = (tt, tt)
+    goes task _ story (untrusted checks cause) keeps any = (tt, tt)
+    goes task _ story (refused cause may) keeps any = (tt, tt)
+    goes task _ story (resumed resumes kind) keeps any = (tt, tt)
+    goes task _ story (given_up copies) keeps any = (tt, tt)
+    goes task _ story (restored level) keeps any = (tt, tt)
+    goes task _ story (updated dynamic replaces svn) keeps any = (tt, tt)
+    goes task _ story (recovery_updated copies svn floor) keeps any = (tt, tt)
+    goes task _ story (cancelled cancels type id clear) keeps any = (tt, tt)
 
-    quiet_walks : Walks Quiet accepts b IsSized IsSized (λ fuses story. IsSized story) (λ fuses cause story. IsSized story) (λ fuses story. IsSized story)
-    quiet_walks = record {
-      asks = λ d story own. tt;
-      resumes = λ fuses story q e. resume_told Quiet accepts b quiet_jobs (quiet_told b) fuses story q;
-      unset = λ cause story q e same. unready_unwatched b cause story e;
-      ready = λ fuses story q e. q;
-      unready = λ cause story q e same. unready_unwatched b cause story e;
-      released = λ fuses m story p j. tt;
-      untrusted = λ fuses cause story p j. (tt, p);
-      no_image = λ fuses cause other story n j same watch. watch;
-      restores = λ fuses cause capsule story n j. copy_told Quiet accepts b quiet_jobs (quiet_told b) (ActiveFromRecovery 1) fuses capsule (what.Restored b 1) story (λ there. tt) j n;
-      again = λ fuses m story r j. tt;
-    }
+    -- by no expiry
+    ends : (task : Task) → Checks task → (move : Move) (story : Story) → Ended accepts b task ⊥ story move → Any story → Quiet move story
+    ends task checks _ story (released fuses m ready j known) any = tt
+    ends task checks _ story (unready cause e) any = λ same. unready_unwatched b cause story e
+    ends task checks _ story (no_image fuses cause other ready j known) any = λ same watch. watch
+    ends task checks _ story (no_recovery expires fuses cause ready j known) any = absurd (checks_stays task checks expires)
+    ends task checks _ story (spent expires) any = absurd (checks_stays task checks expires)
+
+    quiet_table : (task : Task) → Checks task → Table Quiet Any accepts b task ⊥
+    quiet_table task checks = record { asks = λ d story own. tt; goes = goes task; ends = ends task checks }
 
     bank_quiet : IsKept Quiet (bank_stretch accepts b)
     bank_quiet = record {
-      plan = λ story sized. walk_safe Quiet accepts b IsSized IsSized (λ fuses there. IsSized there) (λ fuses cause there. IsSized there) (λ fuses there. IsSized there) quiet_walks story tt sized;
+      plan = λ story sized. brought_worked Quiet Any accepts b ⊥ (quiet_table Brings tt) story sized (λ none. absurd none) tt tt;
       fault = λ d story. (fault_quiet b d story, tt);
     }
 
     update_quiet : (intent : Intent) → IsKept Quiet (update_stretch accepts b intent)
     update_quiet intent = record {
-      plan = λ story sized. updating_safe Quiet accepts b IsSized IsSized (λ fuses there. IsSized there) (λ fuses cause there. IsSized there) (λ fuses there. IsSized there) quiet_walks intent story
-          (allowed_update Quiet accepts b quiet_jobs (quiet_told b) (quiet_updates b) intent) tt sized;
+      plan = λ story sized. updating_worked Quiet Any accepts b ⊥ intent (quiet_table (Updates intent) tt) story sized (λ none. absurd none) tt tt;
       fault = λ d story. (fault_quiet b d story, tt);
     }
 

@@ -18,10 +18,10 @@ use Rattle.pfr_story.proofs.Made.{Made, said, added_said}
 use Rattle.pfr_story.proofs.Facts.{Setting, Fact, IsTrue}
 use Rattle.pfr_story.proofs.Turns.{step_of, Turn-traced}
 
-NotBefore-refl : (a : Counts) → NotBefore a a
+pub NotBefore-refl : (a : Counts) → NotBefore a a
 NotBefore-refl a = record { bmc = omega arith; pch = omega arith; nv = omega arith }
 
-NotBefore-trans : (a b c : Counts) → NotBefore a b → NotBefore b c → NotBefore a c
+pub NotBefore-trans : (a b c : Counts) → NotBefore a b → NotBefore b c → NotBefore a c
 NotBefore-trans a b c p q = record { bmc = omega (arith, p.bmc, q.bmc); pch = omega (arith, p.pch, q.pch); nv = omega (arith, p.nv, q.nv) }
 
 -- a true note is stamped

@@ -1,5 +1,5 @@
 -- Laws of whole runs.
-use Rattle.std.proofs.Common.{◌≡◌, ◌∙◌, ℕ, ◌+◌, ◌≤◌, ◌<◌, drop, take, length, refl, sym, ap, subst, arith, ◌&&◌, true, cond, List, [], ◌∷◌, ◌++◌, append_assoc, Some, None, inl, inr}
+use Rattle.std.proofs.Common.{◌≡◌, ◌∙◌, ℕ, ◌+◌, ◌≤◌, ◌<◌, drop, take, length, refl, sym, ap, subst, arith, ◌&&◌, true, false, cond, List, [], ◌∷◌, ◌++◌, append_assoc, Some, None, inl, inr}
 use Rattle.std.specs.Prelude.{slice_index_or}
 use Rattle.std.proofs.lemmas.List.{append-nil, take_more, drop_more}
 use Rattle.std.proofs.lemmas.List.Elements.{All-drop}
@@ -12,7 +12,7 @@ use Rattle.pfr_flash.specs.declared.names.Counts.{Counts}
 use Rattle.pfr_flash.specs.declared.names.Device.{Device}
 use Rattle.pfr_flash.specs.declared.names.Device.TheVariants as device
 use Rattle.pfr_engine.specs.Acceptance.{Acceptance}
-use Rattle.pfr_script.specs.Arms.{arms_in, is_arm_of, is_counted, IsKnownArm}
+use Rattle.pfr_script.specs.Arms.{arms_in, is_arm_of, is_counted, same_device, IsKnownArm}
 use Rattle.pfr_script.specs.declared.arm.Arm.{Arm}
 use Rattle.pfr_script.specs.declared.arm.ArmWhat.{ArmWhat}
 use Rattle.pfr_script.specs.declared.arm.ArmWhat.TheVariants as armed_what
@@ -40,7 +40,7 @@ use Rattle.pfr_story.proofs.Bytes.{HaveBytes, images_then}
 use Rattle.pfr_story.proofs.Facts.{Setting, Fact}
 use Rattle.pfr_story.proofs.Turns.{Turn-moved, step_of, Turn-known}
 use Rattle.pfr_story.proofs.NoteLaws.{at_moment, lock_due}
-use Rattle.pfr_story.proofs.FaultLaws.{Turn-told}
+use Rattle.pfr_story.proofs.FaultLaws.{begun_at, Turn-told}
 use Rattle.pfr_story.proofs.SpanLaws.{IsTrustedAt, Kept, ReleasedSpans-kept}
 use Rattle.pfr_story.proofs.SpanSteps.{Kept-item, Turn-spans}
 
@@ -94,11 +94,6 @@ IsLater-trans a b c p q = record {
 precedes_item : (a b : Story) (n : ℕ) → Precedes a b → Precedes a (record b { item = n })
 precedes_item a b n p = record { bmc = p.bmc; pch = p.pch; nv = p.nv }
 
-begun_at : (which : Device) (e : Event) (w : World) → state_at which (begun e w) ≡ state_at which w
-begun_at device.Bmc e w = refl
-begun_at device.Pch e w = refl
-begun_at device.Nv e w = refl
-
 precedes_begun : (e : Event) (w : World) → Precedes (story_of w) (story_of (begun e w))
 precedes_begun e w = let p = Precedes-refl (story_of w) in record { bmc = p.bmc; pch = p.pch; nv = p.nv }
 
@@ -144,7 +139,7 @@ Reached-later accepts tears (i ∷ items) old new (mid, d, r) =
 abbrev pub Adds : World → World → Type 0
 Adds old new = (more : List Note) × (new.notes.list ≡ old.notes.list ++ more)
 
-added_is : (old new : World) (adds : Adds old new) → added old new ≡ adds.0
+pub added_is : (old new : World) (adds : Adds old new) → added old new ≡ adds.0
 added_is old new adds = ap (λ (notes : List Note). drop (length old.notes.list) notes) adds.1 ∙ drop-append_seam old.notes.list adds.0
 
 pub adds_added : (old new : World) → Adds old new → new.notes.list ≡ old.notes.list ++ added old new
@@ -155,16 +150,16 @@ turn_adds accepts e old new t =
     let made = Turn-made accepts e old new t in
     (_, ap (λ (s : Story). s.notes) made.is ∙ notes_after made.trace (story_of (begun e old)))
 
-did_adds : (accepts : Acceptance) (tears : List (List ℕ)) (i : Item) (old new : World) → Did accepts tears i old new → Adds old new
+pub did_adds : (accepts : Acceptance) (tears : List (List ℕ)) (i : Item) (old new : World) → Did accepts tears i old new → Adds old new
 did_adds accepts tears (item.Event e) old new t = turn_adds accepts e old new t
 did_adds accepts tears (item.Arm arm) old new e =
     let tear = slice_index_or tears arm.tear [] in
     ([], ap (λ (w : World). w.notes.list) e ∙ ap (λ (s : Story). s.notes) (armed_story arm tear old) ∙ sym (append-nil old.notes.list))
 
-abbrev adds_then : (a b c : World) → Adds a b → Adds b c → Adds a c
+abbrev pub adds_then : (a b c : World) → Adds a b → Adds b c → Adds a c
 adds_then a b c p q = (p.0 ++ q.0, q.1 ∙ ap (λ (notes : List Note). notes ++ q.0) p.1 ∙ append_assoc a.notes.list p.0 q.0)
 
-reached_adds : (accepts : Acceptance) (tears : List (List ℕ)) (items : List Item) (old new : World) → Reached (Did accepts tears) items old new → Adds old new
+pub reached_adds : (accepts : Acceptance) (tears : List (List ℕ)) (items : List Item) (old new : World) → Reached (Did accepts tears) items old new → Adds old new
 reached_adds accepts tears [] old new r = ([], ap (λ (w : World). w.notes.list) r ∙ sym (append-nil old.notes.list))
 reached_adds accepts tears (i ∷ items) old new (mid, d, r) = adds_then old mid new (did_adds accepts tears i old mid d) (reached_adds accepts tears items mid new r)
 
@@ -359,31 +354,31 @@ Reached-more did items k d i old mid new h e t r =
     (Reached-push did (take k items) i old mid new r t)
 
 -- ---- what is left can be done
-with_arm_arms : (w : ArmWhat) (nth : ℕ) (tear : List ℕ) (d : FlashState) (n : ℕ) → cond (is_counted w) 1 0 + n ≤ d.arms → n ≤ (with_arm w nth tear d).arms
-with_arm_arms armed_what.Cut nth tear d n h = omega (arith, h)
-with_arm_arms armed_what.Fault nth tear d n h = omega (arith, h)
-with_arm_arms armed_what.ReadFault nth tear d n h = omega (arith, h)
-
 arms_cons : (which : Device) (i : Item) (items : List Item) (n : ℕ) → arms_in which (i ∷ items) ≤ n → cond (is_arm_of which i) 1 0 + arms_in which items ≤ n
 arms_cons which i items n h = subst (λ (m : ℕ). m ≤ n) (sum_by-cons (λ (x : Item). cond (is_arm_of which x) 1 0) i items) h
 
-counted_here : (w : ArmWhat) (n m : ℕ) → cond (is_counted w && true) 1 0 + n ≤ m → cond (is_counted w) 1 0 + n ≤ m
-counted_here armed_what.Cut n m h = h
-counted_here armed_what.Fault n m h = h
-counted_here armed_what.ReadFault n m h = h
+-- an arm takes one of its device's arms, unless it is that of a read
+takes_one : (w : ArmWhat) (nth : ℕ) (tear : List ℕ) (d : FlashState) → cond (is_counted w && true) 1 0 ≤ d.arms → (with_arm w nth tear d).arms + cond (is_counted w && true) 1 0 ≡ d.arms
+takes_one armed_what.Cut nth tear d h = omega (arith, h)
+takes_one armed_what.Fault nth tear d h = omega (arith, h)
+takes_one armed_what.ReadFault nth tear d h = omega (arith, h)
 
-arms_left : (at : Device) (w : ArmWhat) (nth : ℕ) (tear : List ℕ) (old : World) (which : Device) (n : ℕ)
-    → cond (is_arm_of which (item.Arm (record { device = at; what = w; nth = nth; tear = 0 }))) 1 0 + n ≤ (state_at which old).arms
-    → n ≤ (state_at which (next_item (with_arm_at at w nth tear old))).arms
-arms_left device.Bmc w nth tear old device.Bmc n h = with_arm_arms w nth tear old.bmc n (counted_here w n old.bmc.arms h)
-arms_left device.Bmc w nth tear old device.Pch n h = omega (arith, h)
-arms_left device.Bmc w nth tear old device.Nv n h = omega (arith, h)
-arms_left device.Pch w nth tear old device.Bmc n h = omega (arith, h)
-arms_left device.Pch w nth tear old device.Pch n h = with_arm_arms w nth tear old.pch n (counted_here w n old.pch.arms h)
-arms_left device.Pch w nth tear old device.Nv n h = omega (arith, h)
-arms_left device.Nv w nth tear old device.Bmc n h = omega (arith, h)
-arms_left device.Nv w nth tear old device.Pch n h = omega (arith, h)
-arms_left device.Nv w nth tear old device.Nv n h = with_arm_arms w nth tear old.nv n (counted_here w n old.nv.arms h)
+takes_none : (w : ArmWhat) (n : ℕ) → n + cond (is_counted w && false) 1 0 ≡ n
+takes_none armed_what.Cut n = omega arith
+takes_none armed_what.Fault n = omega arith
+takes_none armed_what.ReadFault n = omega arith
+
+pub arm_takes : (which at : Device) (w : ArmWhat) (nth : ℕ) (tear : List ℕ) (old : World) → cond (is_counted w && same_device which at) 1 0 ≤ (state_at which old).arms
+    → (state_at which (next_item (with_arm_at at w nth tear old))).arms + cond (is_counted w && same_device which at) 1 0 ≡ (state_at which old).arms
+arm_takes device.Bmc device.Bmc w nth tear old h = takes_one w nth tear old.bmc h
+arm_takes device.Pch device.Pch w nth tear old h = takes_one w nth tear old.pch h
+arm_takes device.Nv device.Nv w nth tear old h = takes_one w nth tear old.nv h
+arm_takes device.Bmc device.Pch w nth tear old h = takes_none w old.bmc.arms
+arm_takes device.Bmc device.Nv w nth tear old h = takes_none w old.bmc.arms
+arm_takes device.Pch device.Bmc w nth tear old h = takes_none w old.pch.arms
+arm_takes device.Pch device.Nv w nth tear old h = takes_none w old.pch.arms
+arm_takes device.Nv device.Bmc w nth tear old h = takes_none w old.nv.arms
+arm_takes device.Nv device.Pch w nth tear old h = takes_none w old.nv.arms
 
 arms_turned : (e : Event) (old new : World) → AllMoved (begun e old) new → (which : Device) → (state_at which new).arms ≡ (state_at which old).arms
 arms_turned e old new m device.Bmc = m.bmc.arms
@@ -412,7 +407,9 @@ module _ (accepts : Acceptance) where
   }
   CanRun-did tears n (item.Arm arm) items old new p e =
       subst (λ (w : World). CanRun n items w) (sym e) (record {
-        arms = λ which. arms_left arm.device arm.what arm.nth (slice_index_or tears arm.tear []) old which (arms_in which items) (arms_cons which (item.Arm arm) items _ (p.arms which));
+        arms = λ which.
+            let h = arms_cons which (item.Arm arm) items _ (p.arms which) in
+            omega (arith, h, arm_takes which arm.device arm.what arm.nth (slice_index_or tears arm.tear []) old (omega (arith, h)));
         known = All-drop (IsKnownArm n) 1 (item.Arm arm ∷ items) p.known;
         few = let h = ap (λ (t : Story). t.item) (armed_story arm (slice_index_or tears arm.tear []) old) in omega (arith, p.few, h);
       })

@@ -1,30 +1,27 @@
 -- Each plan leaves each bank one that can be recovered.
-use Rattle.std.proofs.Common.{◌≡◌, ◌⊎◌, inl, inr, refl, ℕ, List, [], ◌∷◌, length, Ok}
+use Rattle.std.proofs.Common.{◌≡◌, inl, inr, refl, [], ◌∷◌, length, Ok}
 use Rattle.pfr_flash.specs.declared.names.Bank.{Bank}
 use Rattle.pfr_flash.specs.declared.names.Device.TheVariants as device
-use Rattle.pfr_engine.specs.Acceptance.{Acceptance}
 use Rattle.pfr_fuses.specs.Changes.{cancellation}
 use Rattle.pfr_fuses.specs.FusesState.{FusesState}
 use Rattle.pfr_fuses.specs.FusesOf.{fuses_of}
 use Rattle.pfr_fuses.proofs.BlankLemmas.{judged-ok}
 use Rattle.pfr_fuses.proofs.StandsLemmas.{fuses_of-ok}
-use Rattle.pfr_cert.specs.declared.cert.Cert.{Cert}
 use Rattle.pfr_jobs.specs.Log.{open_job}
 use Rattle.pfr_jobs.specs.declared.job.OpenJob.TheVariants as job
 use Rattle.pfr_recoverable.specs.Recoverable.{IsRecoverable}
 use Rattle.pfr_report.specs.declared.note.What.TheVariants as what
-use Rattle.pfr_story.specs.Story.{Story, Move, Says, called}
+use Rattle.pfr_story.specs.Story.{Story, Says, called}
 use Rattle.pfr_story.specs.Views.{mine, store}
 use Rattle.pfr_story.specs.JobContents.{CanWork}
 use Rattle.pfr_story.specs.Recovery.{KeepsRecoverable}
-use Rattle.pfr_story.specs.Safety.{AllSafe}
 use Rattle.pfr_story.specs.SafePlans.{CancelsSafely, CopiesSafely, MigratesSafely, ProvisionsSafely, RebuildsSafely, ResumesSafely}
 use Rattle.pfr_story.proofs.FoundLaws.{cert_own}
 use Rattle.pfr_story.proofs.JobReleases.{holds_jobs}
 use Rattle.pfr_story.proofs.JobSafety.{IsJobless}
 use Rattle.pfr_story.proofs.JobSafetyFuses.{migration_recoverable}
 use Rattle.pfr_story.proofs.JobSafetyLaws.{cancelled_safe, recovery_job_safe, resumed_safe, with_job_safe}
-use Rattle.pfr_story.proofs.RecoveryWalks.{keys_apart}
+use Rattle.pfr_story.proofs.WorkKnown.{keys_apart}
 use Rattle.pfr_story.proofs.SafetyLaws.{AllSafe-append}
 
 jobless : (which : Bank) (fuses : FusesState) (story : Story) → CanWork which fuses story → open_job (store story) which ≡ job.None → IsJobless which fuses story

@@ -168,9 +168,9 @@ module _ (D : Device → Type 0) (S : (Counts → What) → Type 0) where
       let k = front_makes which (after cut.front story) cut.front cut.next cut.rest cut.last cut.failed (subst (λ (ms : List Move). AllMake D S ms) cut.plan p) in
       (k.0, subst (λ (ms : List Move). AllMake D S ms) (sym cut.is) k.1)
 
--- calls of some devices are calls of more
-pub AllMake-more : (D E : Device → Type 0) (S : (Counts → What) → Type 0) → ((which : Device) → D which → E which) → (moves : List Move) → AllMake D S moves → AllMake E S moves
-AllMake-more D E S f [] p = tt
-AllMake-more D E S f (Says what ∷ moves) p = (p.0, AllMake-more D E S f moves p.1)
-AllMake-more D E S f (Does which op ∷ moves) p = (f which p.0, AllMake-more D E S f moves p.1)
-AllMake-more D E S f (Asks which ∷ moves) p = (f which p.0, AllMake-more D E S f moves p.1)
+-- what is true of devices and notes of a kind is true of more
+pub AllMake-as : (D E : Device → Type 0) (S T : (Counts → What) → Type 0) → ((which : Device) → D which → E which) → ((w : Counts → What) → S w → T w) → (moves : List Move) → AllMake D S moves → AllMake E T moves
+AllMake-as D E S T f g [] p = tt
+AllMake-as D E S T f g (Says w ∷ moves) p = (g w p.0, AllMake-as D E S T f g moves p.1)
+AllMake-as D E S T f g (Does which op ∷ moves) p = (f which p.0, AllMake-as D E S T f g moves p.1)
+AllMake-as D E S T f g (Asks which ∷ moves) p = (f which p.0, AllMake-as D E S T f g moves p.1)

@@ -1,5 +1,5 @@
 -- How the spans of a bank are kept while a bank is in work.
-use Rattle.std.proofs.Common.{◌≡◌, ◌∙◌, refl, ℕ, Bool, true, false, List, [], ◌∷◌, length, ◌⊎◌, inl, inr, Ok}
+use Rattle.std.proofs.Common.{◌≡◌, ◌∙◌, refl, ℕ, true, false, List, [], ◌∷◌, length, ◌⊎◌, inl, inr, Ok}
 use Rattle.pfr_flash.specs.Operation.{Operation}
 use Rattle.pfr_flash.specs.declared.names.Bank.{Bank}
 use Rattle.pfr_flash.specs.declared.names.Bank.TheVariants as bank
@@ -44,10 +44,10 @@ module _ (accepts : Acceptance) (which : Bank) where
   abbrev pub IsIdle : Bank → Bank → Story → Type 0
   IsIdle w b story = (opens_from w [] story.notes ≡ []) ⊎ ((same_bank w b ≡ false) × IsSettled (store story))
 
-  -- Bank b is in work; where it is this bank, the store is settled. The store has its size.
+  -- Bank b is in work; where it is this bank, a store that can be read is of profile 2. The store has its size.
   pub record AtWork (b : Bank) (story : Story) : Type 0 where
     pub idle : IsIdle which b story
-    pub settled : same_bank which b ≡ true → IsSettled (store story)
+    pub two : same_bank which b ≡ true → NotOne (store story)
     pub size : length (store story) ≡ 32768
 
   pub opens_told : (w : Bank) (that : Counts → What) (story : Story) → opens_from w [] (noted that story).notes ≡ opens_after w (that (counts_of story)) (opens_from w [] story.notes)
@@ -77,8 +77,8 @@ module _ (accepts : Acceptance) (which : Bank) where
   op_safe b op story w = (spared_at which b op story w.idle, own_two b op story)
 
   pub op_work : (b : Bank) (op : Operation) (story : Story) → AtWork b story → AtWork b (operated (device_of b) op story)
-  op_work bank.Bmc op story w = record { idle = w.idle; settled = w.settled; size = w.size }
-  op_work bank.Pch op story w = record { idle = w.idle; settled = w.settled; size = w.size }
+  op_work bank.Bmc op story w = record { idle = w.idle; two = w.two; size = w.size }
+  op_work bank.Pch op story w = record { idle = w.idle; two = w.two; size = w.size }
 
   pub ops_safe : (b : Bank) (ops : List Operation) (story : Story) → AtWork b story → AllSafe InWork (called (device_of b) ops) story
   ops_safe b [] story w = ((tt, tt), tt)
@@ -93,6 +93,6 @@ module _ (accepts : Acceptance) (which : Bank) where
   still_work b w story still p =
       record {
         idle = elim p.idle [ inl e ↦ inl (opens_told which w story ∙ still (opens_from which [] story.notes) ∙ e) | inr other ↦ inr other ];
-        settled = p.settled;
+        two = p.two;
         size = p.size;
       }

@@ -6,13 +6,12 @@ use Rattle.pfr_flash.specs.Operation.{Operation, play, IsTorn}
 use Rattle.pfr_flash.specs.declared.layout.Layout.{Layout}
 use Rattle.pfr_flash.specs.declared.names.Bank.{Bank}
 use Rattle.pfr_flash.specs.declared.names.Bank.TheVariants as bank
-use Rattle.pfr_flash.specs.declared.names.ContentType.{ContentType}
 use Rattle.pfr_flash.specs.declared.names.Counts.{Counts}
 use Rattle.pfr_flash.specs.declared.names.Device.{Device}
 use Rattle.pfr_flash.specs.declared.names.Device.TheVariants as device
 use Rattle.pfr_flash.proofs.PlayLemmas.{length-play}
 use Rattle.pfr_engine.specs.Acceptance.{Acceptance}
-use Rattle.pfr_fuses.specs.Changes.{cancellation, migration}
+use Rattle.pfr_fuses.specs.Changes.{migration}
 use Rattle.pfr_fuses.specs.FusesState.{FusesState}
 use Rattle.pfr_fuses.specs.FusesOf.{fuses_of}
 use Rattle.pfr_fuses.specs.Provisioning.{judge_provision, provision_plan}
@@ -24,14 +23,7 @@ use Rattle.pfr_fuses.specs.declared.profile.Profile.TheVariants.{One, Two}
 use Rattle.pfr_fuses.specs.declared.root_slot.RootSlot.{RootSlot}
 use Rattle.pfr_manifest.specs.declared.manifest.Manifest.{Manifest}
 use Rattle.pfr_manifest.proofs.ApartLaw.{LeavesTrusted}
-use Rattle.pfr_auth.specs.Areas.{place_of}
 use Rattle.pfr_auth.specs.Trusted.{IsTrusted}
-use Rattle.pfr_auth.specs.declared.fail.ActiveFail.{ActiveFail}
-use Rattle.pfr_cert.specs.declared.cert.Cert.{Cert}
-use Rattle.pfr_jobs.specs.LogState.{is_spent}
-use Rattle.pfr_jobs.specs.declared.job.JobKind.{JobKind}
-use Rattle.pfr_jobs.specs.declared.job.JobKind.TheVariants.{ActiveFromRecovery, ActiveFromStaging, RecoveryFromStaging}
-use Rattle.pfr_capsule.specs.CapsuleState.{CapsuleState}
 use Rattle.pfr_filter.specs.Asking.{bus_ops}
 use Rattle.pfr_filter.specs.declared.verdict.BusOp.{BusOp}
 use Rattle.pfr_filter.specs.declared.verdict.Verdict.TheVariants.{Pass}
@@ -39,24 +31,20 @@ use Rattle.pfr_filter.proofs.SafeLaws.{torn_leaves}
 use Rattle.pfr_script.specs.declared.event.Event.{Event}
 use Rattle.pfr_script.specs.declared.event.Event.TheVariants as event
 use Rattle.pfr_script.specs.declared.event.Intent.{Intent}
-use Rattle.pfr_script.specs.declared.event.Intent.TheVariants.{Active, Full, Recovery, Cert as CertIntent}
 use Rattle.pfr_watch.specs.Stages.{next_stage}
 use Rattle.pfr_watch.specs.declared.stage.Stage.{Stage}
-use Rattle.pfr_report.specs.declared.note.Refusal.{Refusal}
-use Rattle.pfr_report.specs.declared.note.Refusal.TheVariants as refusing
 use Rattle.pfr_report.specs.declared.note.Note.{Note}
 use Rattle.pfr_report.specs.declared.note.What.{What}
 use Rattle.pfr_report.specs.declared.note.What.TheVariants as what
 use Rattle.pfr_story.specs.Guards.{Guards, same_bank}
-use Rattle.pfr_story.specs.Story.{Past, Story, Move, Says, Does, Asks, after, moved_by, noted, with_op, operated, counts_of, past_at, image_of, device_of, called, says, Plan}
+use Rattle.pfr_story.specs.Story.{Past, Story, Move, Says, Does, Asks, after, moved_by, noted, with_op, operated, counts_of, past_at, image_of, device_of, called, Plan}
 use Rattle.pfr_story.specs.World.{World, story_of}
 use Rattle.pfr_story.specs.Standing.{Standing, Off, Held, Running, Locked, is_running, standing_of}
 use Rattle.pfr_story.specs.Safety.{Rule, AllGood, AllSafe, Keeps, Both}
 use Rattle.pfr_story.specs.Spans.{opens_after, opens_from}
 use Rattle.pfr_story.specs.Promises.{count_at}
-use Rattle.pfr_story.specs.JobPlans.{job_notes, with_job, recovery_job, resumed, judged_source, source_of}
-use Rattle.pfr_story.specs.Plans.{mine, store, ready_of, judged_staging, brought_up, expired, migration_by, migration_in, migrated, provisioned_in, provisioned, Ruling, ruling, filtered, smbus_judged}
-use Rattle.pfr_story.specs.UpdatePlans.{judged_cert, cancelled_key, updating}
+use Rattle.pfr_story.specs.Plans.{store, brought_up, expired, migration_by, migration_in, migrated, provisioned_in, provisioned, Ruling, ruling, filtered, smbus_judged}
+use Rattle.pfr_story.specs.UpdatePlans.{updating}
 use Rattle.pfr_story.specs.Course.{Stretch, Follows}
 use Rattle.pfr_story.specs.Turn.{fault_of, bank_stretch, fuse_stretch, provision_stretch, spi_stretch, expiry_stretch, update_stretch, ignored, off_course, power_course, tick_course, boot_course, update_course, pass_note, stage_at, is_due, is_idle, taken, guards_at, begun, Turn}
 use Rattle.pfr_story.proofs.WorldLaws.{AllMoved-refl}
@@ -66,17 +54,14 @@ use Rattle.pfr_story.proofs.StepTraces.{Between, AllowsLosses, IsGoodStretch, no
 use Rattle.pfr_story.proofs.Courses.{Turn-cases, taken_runs, taken_boots}
 use Rattle.pfr_story.proofs.BusRules.{ruled, filtered_safe, calls_safe, smbus_safe}
 use Rattle.pfr_story.proofs.Rulings.{ruled_leaves}
-use Rattle.pfr_story.proofs.BringRules.{Any, ready_found, Refuses, Walks, WalksBack, WalksAnew, WalksCopy, WalksCert, WalksUpdate, walk_safe, level_at, expired_safe, updating_safe}
+use Rattle.pfr_story.proofs.BringRules.{Any, level_at}
 use Rattle.pfr_story.proofs.FuseLaws.{profile_migrated, profile_kept, provisioned_refused}
 use Rattle.pfr_story.specs.Keeping.{IsSettled}
-use Rattle.pfr_story.proofs.Carried.{Carrying, carried_safe, carried_on}
-use Rattle.pfr_story.proofs.FoundLaws.{found_small, cert_own}
-use Rattle.pfr_story.proofs.FoundLog.{begins_own}
-use Rattle.pfr_story.proofs.FoundParts.{judged_small}
-use Rattle.pfr_story.proofs.JobLeaves.{IsAside, cancels_leave, aside_told}
-use Rattle.pfr_story.proofs.JobSpans.{BeginsOwn, job_spans, recovery_job_spans, resumed_spans}
-use Rattle.pfr_story.proofs.JobWalks.{AllNotes, store_sized}
-use Rattle.pfr_story.proofs.SpanRules.{NotOne, KeepsTwo, InWork, IsIdle, AtWork, opens_told, held_idle, ops_safe, still_work}
+use Rattle.pfr_story.proofs.JobLeaves.{span_table}
+use Rattle.pfr_story.proofs.WorkShapes.{Brings, Expires, Updates}
+use Rattle.pfr_story.proofs.WorkWalks.{brought_worked, expired_worked, updating_worked}
+use Rattle.pfr_story.proofs.JobWalks.{store_sized}
+use Rattle.pfr_story.proofs.SpanRules.{NotOne, KeepsTwo, InWork, AtWork, opens_told, held_idle, ops_safe}
 use Rattle.pfr_story.proofs.SpanLaws.{past_upto, LeavesBank, IsTrustedAt, AllOpen, open_none, open_map, same_one, longer_upto, IsOpen, Kept, SparesOpen, KeepsSpans, Kept-moves, none_or_settled, settled_running, IsTrustedStill, still_trusted}
 
 settled_two : (nv : List ℕ) → IsSettled nv → NotOne nv
@@ -184,134 +169,6 @@ module _ (accepts : Acceptance) (which : Bank) where
 
   -- ---- a bank is brought up
   module _ (b : Bank) where
-    -- ---- what is noted of it says nothing of spans
-    restored_aside : (level : ℕ) → IsAside which (what.Restored b level)
-    restored_aside level = record { stamped = λ counts. tt; settled = λ nv. tt; still = λ opens. refl }
-
-    updated_aside : (dynamic : Bool) (svn : ℕ) → IsAside which (what.Updated b dynamic svn)
-    updated_aside dynamic svn = record { stamped = λ counts. tt; settled = λ nv. tt; still = λ opens. refl }
-
-    cancelled_aside : (type : ContentType) (id : ℕ) → IsAside which (what.Cancelled type id)
-    cancelled_aside type id = record { stamped = λ counts. tt; settled = λ nv. tt; still = λ opens. refl }
-
-    notes_aside : AllNotes (IsAside which) (job_notes b)
-    notes_aside = record {
-      resumed = λ kind. record { stamped = λ counts. tt; settled = λ nv. tt; still = λ opens. refl };
-      given_up = record { stamped = λ counts. tt; settled = λ nv. tt; still = λ opens. refl };
-      recovery_updated = λ svn. record { stamped = λ counts. tt; settled = λ nv. tt; still = λ opens. refl };
-    }
-
-    -- a job from a capsule that was found, in whatever store
-    begins_any : (fuses : FusesState) (kind : JobKind) (capsule : CapsuleState) (story : Story) → judged_source accepts b fuses kind story ≡ Ok capsule → BeginsOwn b kind capsule.digest
-    begins_any fuses kind capsule story j nv size unspent =
-        let layout : Layout = layout_of fuses.provision b in
-        let small = judged_small (mine b story) (place_of layout (source_of kind)) layout.area_len b layout fuses accepts capsule j in
-        begins_own nv b kind capsule.digest size small.digest unspent
-
-    job_kept : (kind : JobKind) (fuses : FusesState) (capsule : CapsuleState) (that : What) → IsAside which that → (story : Story) → judged_source accepts b fuses kind story ≡ Ok capsule → AtWork accepts which b story
-        → AllSafe (InWork accepts which) (with_job b kind fuses capsule that story) story × AtWork accepts which b (after (with_job b kind fuses capsule that story) story)
-    job_kept kind fuses capsule that aside story j w =
-        let leads = job_spans accepts which b kind fuses capsule that aside (begins_any fuses kind capsule story j) in
-        (leads.safe story (w, tt), leads.ends story (w, tt))
-
-    -- behind Held
-    abbrev IsHeld : Story → Type 0
-    IsHeld story = IsIdle accepts which which b story × (same_bank which b ≡ true → NotOne (store story)) × (length (store story) ≡ 32768)
-
-    abbrev Ready : FusesState → Story → Type 0
-    Ready fuses story = AtWork accepts which b story
-
-    abbrev Told : FusesState → ActiveFail → Story → Type 0
-    Told fuses cause story = AtWork accepts which b story
-
-    held_again : (story : Story) → AtWork accepts which b story → IsHeld story
-    held_again story w = (w.idle, λ same. settled_two (store story) (w.settled same), w.size)
-
-    -- where the fuses can be read
-    working : (fuses : FusesState) (story : Story) → IsHeld story → ready_of b story ≡ Ok fuses → AtWork accepts which b story
-    working fuses story q e =
-        let f = (ready_found b fuses story e).provisioned in record { idle = q.0; settled = λ same. record { fuses = fuses; provisioned = f; two = q.1 same fuses f }; size = q.2 }
-
-    resume_kept : (fuses : FusesState) (story : Story) → AtWork accepts which b story
-        → AllSafe (InWork accepts which) (resumed (job_notes b) accepts b fuses story) story × IsHeld (after (resumed (job_notes b) accepts b fuses story) story)
-    resume_kept fuses story w =
-        let leads = resumed_spans accepts which b (job_notes b) notes_aside fuses (found_small accepts b fuses) in
-        (leads.safe story (w, tt), held_again (after (resumed (job_notes b) accepts b fuses story) story) (leads.ends story (w, tt)))
-
-    span_walks : Walks (InWork accepts which) accepts b IsHeld IsHeld Ready Told Ready
-    span_walks = record {
-      asks = λ at story own. (tt, tt);
-      resumes = λ fuses story q e. resume_kept fuses story (working fuses story q e);
-      unset = λ cause story q e. ((refl, tt), tt);
-      ready = working;
-      unready = λ cause story q e. ((refl, tt), tt);
-      released = λ fuses m story w j. ((refl, w.settled), tt);
-      untrusted = λ fuses cause story w j. (((tt, tt), tt), still_work accepts which b (λ _. what.Untrusted b cause) story (λ opens. refl) w);
-      no_image = λ fuses cause other story w j. ((refl, tt), tt);
-      restores = λ fuses cause capsule story w j. job_kept (ActiveFromRecovery 1) fuses capsule (what.Restored b 1) (restored_aside 1) story j w;
-      again = λ fuses m story w j. ((refl, w.settled), tt);
-    }
-
-    span_back : (level : ℕ) → WalksBack (InWork accepts which) accepts b level IsHeld Ready Ready
-    span_back level = record {
-      spent = λ story few q. ((refl, tt), tt);
-      no_recovery = λ fuses cause story few w j. ((refl, tt), tt);
-      restores = λ fuses capsule story few w j. job_kept (ActiveFromRecovery level) fuses capsule (what.Restored b level) (restored_aside level) story j w;
-    }
-
-    -- ---- updates
-    refused_kept : (fuses : FusesState) (cause : Refusal) (story : Story) → AtWork accepts which b story → Refuses (InWork accepts which) b Ready fuses cause story
-    refused_kept fuses cause story w = (((tt, tt), tt), still_work accepts which b (λ _. what.Refused b cause) story (λ opens. refl) w)
-
-    span_anew : (dynamic : Bool) → WalksAnew (InWork accepts which) accepts b dynamic Ready Ready
-    span_anew dynamic = record {
-      staged = λ fuses capsule story w j.
-          job_kept (ActiveFromStaging dynamic) fuses capsule (what.Updated b dynamic capsule.manifest.svn) (updated_aside dynamic capsule.manifest.svn) story j w;
-      refused = λ fuses cause story w j. refused_kept fuses (refusing.Capsule cause) story w;
-    }
-
-    copy_kept : (fuses : FusesState) (capsule : CapsuleState) (story : Story) → AtWork accepts which b story → judged_staging accepts b fuses story ≡ Ok capsule → is_spent (store story) b ≡ false
-        → AllSafe (InWork accepts which) (recovery_job (job_notes b).given_up (job_notes b).recovery_updated accepts b fuses capsule story) story
-        × IsHeld (after (recovery_job (job_notes b).given_up (job_notes b).recovery_updated accepts b fuses capsule story) story)
-    copy_kept fuses capsule story w j unspent =
-        let leads = recovery_job_spans accepts which b (job_notes b) notes_aside fuses (found_small accepts b fuses) capsule (begins_any fuses RecoveryFromStaging capsule story j) in (
-          leads.safe story (w, unspent),
-          held_again (after (recovery_job (job_notes b).given_up (job_notes b).recovery_updated accepts b fuses capsule story) story) (leads.ends story (w, unspent)),
-        )
-
-    span_copy : WalksCopy (InWork accepts which) accepts b IsHeld Ready
-    span_copy = record {
-      copies = λ fuses capsule story w j same unspent. copy_kept fuses capsule story w j unspent;
-      refused = λ fuses cause story w j. refused_kept fuses (refusing.Capsule cause) story w;
-      differs = λ fuses capsule story w j other. refused_kept fuses refusing.ManifestDiffers story w;
-      spent = λ fuses capsule story w j same spent. refused_kept fuses refusing.JobsSpent story w;
-    }
-
-    cancel_kept : (fuses : FusesState) (cert : Cert) (story : Story) → AtWork accepts which b story → judged_cert accepts b fuses story ≡ Ok cert
-        → AllSafe (InWork accepts which) (cancelled_key cert story) story × IsHeld (after (cancelled_key cert story) story)
-    cancel_kept fuses cert story w j =
-        let own = cert_own accepts b fuses cert story j in
-        let call : List Move = called device.Nv (cancellation cert.ty cert.id) in
-        let carried = AllSafe-append (Carrying (AtWork accepts which b) (InWork accepts which)) call (Says (λ _. what.Cancelled cert.ty cert.id) ∷ []) story
-        (cancels_leave accepts which b cert.ty cert.id own.0 own.1 story)
-        (aside_told accepts which b (what.Cancelled cert.ty cert.id) (cancelled_aside cert.ty cert.id) (after call story), tt) in (
-          carried_safe (AtWork accepts which b) (InWork accepts which) (cancelled_key cert story) story carried w,
-          held_again (after (cancelled_key cert story) story) (carried_on (AtWork accepts which b) (InWork accepts which) (cancelled_key cert story) story carried w),
-        )
-
-    span_cert : WalksCert (InWork accepts which) accepts b IsHeld Ready
-    span_cert = record {
-      cancels = λ fuses cert story w j free. cancel_kept fuses cert story w j;
-      refused = λ fuses cause story w j. refused_kept fuses (refusing.Cert cause) story w;
-      kept = λ fuses cert cause story w j used. refused_kept fuses (refusing.Cert cause) story w;
-    }
-
-    span_update : (intent : Intent) → WalksUpdate (InWork accepts which) accepts b intent IsHeld Ready Ready
-    span_update Active = span_anew false
-    span_update Full = span_anew true
-    span_update Recovery = span_copy
-    span_update CertIntent = span_cert
-
     -- No span of this bank is open, or the store is settled, before bank b is held; where b is this bank, a store that can be read is
     -- of profile 2.
     record CanBegin (story : Story) : Type 0 where
@@ -319,11 +176,11 @@ module _ (accepts : Acceptance) (which : Bank) where
       pub two : same_bank which b ≡ true → NotOne (store story)
       pub size : length (store story) ≡ 32768
 
-    begin_held : (story : Story) → CanBegin story → IsHeld (noted (what.Held b) story)
-    begin_held story c = (held_idle accepts which which b story c.none, c.two, c.size)
+    begin_held : (story : Story) → CanBegin story → AtWork accepts which b (noted (what.Held b) story)
+    begin_held story c = record { idle = held_idle accepts which which b story c.none; two = c.two; size = c.size }
 
     brought_safe : (story : Story) → CanBegin story → AllSafe (InWork accepts which) (brought_up accepts b story) story
-    brought_safe story c = walk_safe (InWork accepts which) accepts b IsHeld IsHeld Ready Told Ready span_walks story ((refl, tt), tt) (begin_held story c)
+    brought_safe story c = brought_worked (InWork accepts which) (AtWork accepts which b) accepts b ⊥ (span_table accepts which b Brings) story c.size (λ none. absurd none) ((refl, tt), tt) (begin_held story c)
 
     begin_told : (that : What) (story : Story) → ((opens : List Counts) → opens_after which that opens ≡ opens) → CanBegin story → CanBegin (noted (λ _. that) story)
     begin_told that story still c = record {
@@ -335,12 +192,12 @@ module _ (accepts : Acceptance) (which : Bank) where
     expired_kept : (story : Story) → CanBegin story → AllSafe (InWork accepts which) (expired accepts b story) story
     expired_kept story c =
         let told : Story = noted (λ _. what.Expired b (level_at b story)) story in
-        expired_safe (InWork accepts which) accepts b IsHeld IsHeld Ready Told Ready span_walks story (span_back (level_at b story)) ((tt, tt), tt) ((refl, tt), tt)
+        expired_worked (InWork accepts which) (AtWork accepts which b) accepts b ⊥ (span_table accepts which b Expires) story c.size (λ none. absurd none) ((tt, tt), tt) ((refl, tt), tt)
         (begin_held told (begin_told (what.Expired b (level_at b story)) story (λ opens. refl) c))
 
     updating_kept : (intent : Intent) (story : Story) → CanBegin story → AllSafe (InWork accepts which) (updating accepts b intent story) story
     updating_kept intent story c =
-        updating_safe (InWork accepts which) accepts b IsHeld IsHeld Ready Told Ready span_walks intent story (span_update intent) ((refl, tt), tt) (begin_held story c)
+        updating_worked (InWork accepts which) (AtWork accepts which b) accepts b ⊥ intent (span_table accepts which b (Updates intent)) story c.size (λ none. absurd none) ((refl, tt), tt) (begin_held story c)
 
   -- ---- a frame on the SPI bus of a bank
   -- what passes on the bank's own bus is judged by what each open span that began with trust is trusted by
@@ -369,7 +226,7 @@ module _ (accepts : Acceptance) (which : Bank) where
       subst (λ (x : Bank). AllSafe (KeepsSpans accepts which) (called (device_of x) (bus_ops op)) story) (sym is) (own_safe accepts which (bus_ops op) story leaves)
   frame_safe b frame r op story k size found passed false e = elim (none_or_settled accepts which story k) [
     | inl none ↦ idle_safe (device_of b) (bus_ops op) story none
-    | inr q ↦ safe_first (KeepsSpans accepts which) KeepsTwo (called (device_of b) (bus_ops op)) story (ops_safe accepts which b (bus_ops op) story (record { idle = inr (e, q); settled = λ same. q; size = size }))
+    | inr q ↦ safe_first (KeepsSpans accepts which) KeepsTwo (called (device_of b) (bus_ops op)) story (ops_safe accepts which b (bus_ops op) story (record { idle = inr (e, q); two = λ same. settled_two (store story) q; size = size }))
   ]
 
   passing_safe : (b : Bank) (frame : List ℕ) (story : Story) → Kept accepts which story → length (store story) ≡ 32768 → AllSafe (KeepsSpans accepts which) (filtered accepts b frame story) story

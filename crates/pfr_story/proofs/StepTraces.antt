@@ -14,6 +14,7 @@ use Rattle.pfr_fuses.specs.declared.root_slot.RootSlot.{RootSlot}
 use Rattle.pfr_script.specs.declared.event.Intent.{Intent}
 use Rattle.pfr_watch.specs.declared.stage.Stage.{Stage}
 use Rattle.pfr_watch.specs.declared.stage.Stage.TheVariants as stage
+use Rattle.pfr_report.specs.declared.note.LockWhy.{LockWhy}
 use Rattle.pfr_report.specs.declared.note.What.{What}
 use Rattle.pfr_report.specs.declared.note.What.TheVariants as what
 use Rattle.pfr_story.specs.Guards.{Guard, Guards, guard_at, guard_after}
@@ -134,9 +135,13 @@ pass_noted P b at stage.Obb booted passed = passed (λ e. cc)
 abbrev pub LeavesOther : Bank → (Counts → What) → Type 0
 LeavesOther b w = (at : Counts) (guard : Guard) → guard_after (other_bank b) (w at) guard ≡ guard
 
+lock_apart : (b : Bank) (cause : LockWhy) → LeavesOther b (what.Locked b cause)
+lock_apart bank.Bmc cause at guard = refl
+lock_apart bank.Pch cause at guard = refl
+
 may_bring : (b : Bank) → MayBringBack (LeavesOther b) b
-may_bring bank.Bmc = record { held = λ at guard. refl; released = λ svn at guard. refl; locked = λ cause at guard. refl; restored = λ level at guard. refl }
-may_bring bank.Pch = record { held = λ at guard. refl; released = λ svn at guard. refl; locked = λ cause at guard. refl; restored = λ level at guard. refl }
+may_bring bank.Bmc = record { held = λ at guard. refl; released = λ svn at guard. refl; locked = λ cause unfailed. lock_apart bank.Bmc cause; restored = λ level at guard. refl }
+may_bring bank.Pch = record { held = λ at guard. refl; released = λ svn at guard. refl; locked = λ cause unfailed. lock_apart bank.Pch cause; restored = λ level at guard. refl }
 
 expired_apart : (b : Bank) (level : ℕ) → LeavesOther b (λ _. what.Expired b level)
 expired_apart bank.Bmc level at guard = refl
@@ -225,7 +230,7 @@ module _ (G : Rule) (loses : AllowsLost G) (old new : World) (K : Story → Type
     on = λ which story trace p cut e.
         let lock : List Move = Says (what.Locked b (fault_of which)) ∷ [] in
         let made = (cut_makes (IsOwn b) (LeavesOther b) which (expired accepts b story) trace story (expired_leaves accepts b story) cut).1 in
-        subst Q (after-append trace lock story) (keeps (trace ++ lock) story (AllMake-append (IsOwn b) (LeavesOther b) trace lock made ((may_bring b).locked (fault_of which), tt)) p.1);
+        subst Q (after-append trace lock story) (keeps (trace ++ lock) story (AllMake-append (IsOwn b) (LeavesOther b) trace lock made (lock_apart b (fault_of which), tt)) p.1);
   }
 
   update_good : (P : Story → Type 0) (accepts : Acceptance) (b : Bank) (intent : Intent) → AllowsLock G b → ((story : Story) → K story → P story → AllSafe G (updating accepts b intent story) story)

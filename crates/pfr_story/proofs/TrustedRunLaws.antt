@@ -59,7 +59,7 @@ module _ (accepts : Acceptance) (tears : List (List ℕ)) where
   module _ (Q : Item → World → World → Type 0) (first : World) (bmc : IsBankSize (size_of first.bmc)) (pch : IsBankSize (size_of first.pch)) (size : size_of first.nv ≡ 32768)
       (holds : (i : Item) (old new : World) → IsUnderway accepts first old → HaveBytes new → Did accepts tears i old new → Q i old new) where
     -- an item leaves a world that the run can go on from
-    did_underway : (i : Item) (old new : World) → HaveBytes new → Did accepts tears i old new → IsUnderway accepts first old → IsUnderway accepts first new
+    pub did_underway : (i : Item) (old new : World) → HaveBytes new → Did accepts tears i old new → IsUnderway accepts first old → IsUnderway accepts first new
     did_underway i old new held did u = record {
       later = IsLater-trans first old new u.later (IsLater-did accepts tears i old new did);
       trusted = λ which.

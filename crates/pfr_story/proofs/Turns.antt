@@ -38,7 +38,7 @@ use Rattle.pfr_story.proofs.BusRules.{AllowsSpi, spi_safe, AllowsSmbus, smbus_sa
 use Rattle.pfr_story.proofs.Traces.{Traced, Traced-known, Traced-since, KnownBefore, Precedes, Precedes-after, precedes_moved, call_says, noted_right}
 use Rattle.pfr_story.proofs.StepTraces.{Between, AllowsLosses, IsGoodStretch, noted_along, power_along, single_along, tick_along, pass_noted}
 use Rattle.pfr_story.proofs.BringRules.{Any, IsOwn, level_at}
-use Rattle.pfr_story.proofs.Facts.{Setting, IsBehind, Fact, IsTrue, brought_true, expired_true, updating_true, IsNoLoss, IsMine, brought_makes, expired_makes, updating_makes, filtered_makes, lock_true}
+use Rattle.pfr_story.proofs.Facts.{Setting, IsBehind, Fact, IsTrue, brought_true, expired_true, updating_true, IsNoFailure, IsMine, brought_makes, expired_makes, updating_makes, filtered_makes, lock_true}
 
 -- A step in which no count of losses or faults rose is calm.
 pub Turn-calm : (accepts : Acceptance) (e : Event) (old new : World) → Turn accepts e old new → NoneLost old new → NoneRose old new → Calm (course accepts e (story_of old)) (begun e old) new
@@ -57,15 +57,15 @@ Turn-moved accepts e old new (mid, first, rest) = AllMoved-trans (begun e old) m
 abbrev pub IsStore : Device → Type 0
 IsStore which = which ≡ device.Nv
 
-pub migrated_makes : (story : Story) → AllMake IsStore IsNoLoss (migrated story)
-migrated_makes story = (refl, AllMake-called IsStore IsNoLoss device.Nv (migration_in (fuses_of (store story))) refl)
+pub migrated_makes : (story : Story) → AllMake IsStore IsNoFailure (migrated story)
+migrated_makes story = (refl, AllMake-called IsStore IsNoFailure device.Nv (migration_in (fuses_of (store story))) refl)
 
-tried_makes : (root : RootSlot) (judged : Result ℕ FuseFail) (story : Story) → AllMake IsStore IsNoLoss (provisioned_in root judged story)
+tried_makes : (root : RootSlot) (judged : Result ℕ FuseFail) (story : Story) → AllMake IsStore IsNoFailure (provisioned_in root judged story)
 tried_makes root (Ok number) story =
-    AllMake-append IsStore IsNoLoss (called device.Nv (provision_plan number root)) (Says (λ _. what.Provisioned) ∷ []) (AllMake-called IsStore IsNoLoss device.Nv (provision_plan number root) refl) ((λ at loss. loss), tt)
+    AllMake-append IsStore IsNoFailure (called device.Nv (provision_plan number root)) (Says (λ _. what.Provisioned) ∷ []) (AllMake-called IsStore IsNoFailure device.Nv (provision_plan number root) refl) ((λ at loss. loss), tt)
 tried_makes root (Err cause) story = ((λ at loss. loss), tt)
 
-pub provisioned_makes : (root : RootSlot) (story : Story) → AllMake IsStore IsNoLoss (provisioned root story)
+pub provisioned_makes : (root : RootSlot) (story : Story) → AllMake IsStore IsNoFailure (provisioned root story)
 provisioned_makes root story = (refl, tried_makes root (judge_provision (store story) root (length story.bmc.start) (length story.pch.start)) story)
 
 module _ (s : Setting) (size : size_of s.first.nv ≡ 32768) where
@@ -90,7 +90,7 @@ module _ (s : Setting) (size : size_of s.first.nv ≡ 32768) where
       ends = λ story p. Precedes-after (story_of s.first) story (provisioned root story) p.1;
     };
     noted = λ which story trace p cut rose.
-        let nv = rose_at device.Nv which (cut_makes IsStore IsNoLoss which _ trace story (provisioned_makes root story) cut).0 rose in
+        let nv = rose_at device.Nv which (cut_makes IsStore IsNoFailure which _ trace story (provisioned_makes root story) cut).0 rose in
         ((refl, nv), ((refl, nv), tt));
     on = λ which story trace p cut e. behind_moves trace ((provision_stretch root).on_fault which) story p.1;
   }
@@ -105,7 +105,7 @@ module _ (s : Setting) (size : size_of s.first.nv ≡ 32768) where
       ends = λ story p. Precedes-after (story_of s.first) story (filtered s.accepts b frame story) p.1;
     };
     noted = λ which story trace p cut rose.
-        let own = (cut_makes (IsMine b) IsNoLoss which _ trace story (filtered_makes s.accepts b frame story) cut).0 in
+        let own = (cut_makes (IsMine b) IsNoFailure which _ trace story (filtered_makes s.accepts b frame story) cut).0 in
         (refl, ((refl, rose_at (device_of b) which own rose), tt));
     on = λ which story trace p cut e. behind_moves trace ((spi_stretch s.accepts b frame).on_fault which) story p.1;
   }
@@ -159,7 +159,7 @@ module _ (s : Setting) (size : size_of s.first.nv ≡ 32768) where
         ends = λ story p. since_moves (brought_up s.accepts b story) [] story p.1;
       };
       noted = λ which story trace p cut rose.
-          ((refl, lock_true s b which (after trace story) (cut_makes (IsOwn b) IsNoLoss which _ trace story (brought_makes s.accepts b story) cut).0 rose), tt);
+          ((refl, lock_true s b which (after trace story) (cut_makes (IsOwn b) IsNoFailure which _ trace story (brought_makes s.accepts b story) cut).0 rose), tt);
       on = λ which story trace p cut e. since_moves trace (Says (what.Locked b (fault_of which)) ∷ []) story p.1;
     }
 
@@ -170,7 +170,7 @@ module _ (s : Setting) (size : size_of s.first.nv ≡ 32768) where
         ends = λ story p. since_moves (migrated story) [] story p.1;
       };
       noted = λ which story trace p cut rose.
-          let nv = rose_at device.Nv which (cut_makes IsStore IsNoLoss which _ trace story (migrated_makes story) cut).0 rose in
+          let nv = rose_at device.Nv which (cut_makes IsStore IsNoFailure which _ trace story (migrated_makes story) cut).0 rose in
           (refl, ((refl, nv), (refl, ((refl, nv), tt))));
       on = λ which story trace p cut e. since_moves trace unreadable story p.1;
     }
@@ -181,7 +181,7 @@ module _ (s : Setting) (size : size_of s.first.nv ≡ 32768) where
         safe = λ story p. expired_true s size b story p.1.0 (may.expires b (level_at b story) _ (expiry_noted base b (level_at b story) story p.1.1));
         ends = λ story p. since_moves (expired s.accepts b story) [] story p.1;
       };
-      noted = λ which story trace p cut rose. ((refl, lock_true s b which (after trace story) (cut_makes (IsOwn b) IsNoLoss which _ trace story (expired_makes s.accepts b story) cut).0 rose), tt);
+      noted = λ which story trace p cut rose. ((refl, lock_true s b which (after trace story) (cut_makes (IsOwn b) IsNoFailure which _ trace story (expired_makes s.accepts b story) cut).0 rose), tt);
       on = λ which story trace p cut e. since_moves trace (Says (what.Locked b (fault_of which)) ∷ []) story p.1;
     }
 
@@ -191,7 +191,7 @@ module _ (s : Setting) (size : size_of s.first.nv ≡ 32768) where
       safe = λ story p. updating_true s size b intent story p.1;
       ends = λ story p. behind_moves (updating s.accepts b intent story) [] story p.1;
     };
-    noted = λ which story trace p cut rose. ((refl, lock_true s b which (after trace story) (cut_makes (IsOwn b) IsNoLoss which _ trace story (updating_makes s.accepts b intent story) cut).0 rose), tt);
+    noted = λ which story trace p cut rose. ((refl, lock_true s b which (after trace story) (cut_makes (IsOwn b) IsNoFailure which _ trace story (updating_makes s.accepts b intent story) cut).0 rose), tt);
     on = λ which story trace p cut e. behind_moves trace (Says (what.Locked b (fault_of which)) ∷ []) story p.1;
   }
 

@@ -10,7 +10,6 @@ use Rattle.pfr_flash.specs.declared.names.Device.{Device}
 use Rattle.pfr_flash.specs.declared.names.Device.TheVariants as device
 use Rattle.pfr_flash.proofs.PlayLemmas.{length-play}
 use Rattle.pfr_engine.specs.Acceptance.{Acceptance}
-use Rattle.pfr_fuses.specs.Changes.{cancellation}
 use Rattle.pfr_fuses.specs.FusesState.{FusesState}
 use Rattle.pfr_fuses.specs.RootSlot.{layout_of}
 use Rattle.pfr_manifest.specs.declared.manifest.Manifest.{Manifest}
@@ -48,7 +47,7 @@ use Rattle.pfr_story.specs.Promises.{AtCounts, Runs, RunningHasNoJob}
 use Rattle.pfr_story.specs.Bringing.{IsCalm, IsNotedBehind}
 use Rattle.pfr_story.specs.Making.{IsMadeFrom}
 use Rattle.pfr_story.specs.Updating.{UpdatesAt, UpdatesBy, Updates}
-use Rattle.pfr_story.proofs.SafetyLaws.{AllSafe-append, image_noted, kept_by, called_any}
+use Rattle.pfr_story.proofs.SafetyLaws.{AllSafe-append, image_noted, kept_by}
 use Rattle.pfr_story.proofs.RestoreLaws.{not_staging, stand_for, found_staged}
 use Rattle.pfr_story.proofs.BringAllowed.{IsSized, AllowsBank, AllowsUpdate, updating_allowed}
 use Rattle.pfr_story.proofs.BringRules.{IsReady, ready_noted, ready_is, IsOwn, Making}
@@ -93,7 +92,7 @@ own_update : (b : Bank) → AllowsUpdate (Own b) b
 own_update b = record {
   refused = λ cause story. tt;
   cancelled = λ type id story. tt;
-  cancels = λ type id story own below sized. called_any (Own b) device.Nv (λ op here. inr refl) (λ here. inr refl) (cancellation type id) story;
+  cancels = λ type op story own clear. inr refl;
 }
 
 abbrev OthersSame : Bank → Story → Story → Type 0

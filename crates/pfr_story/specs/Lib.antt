@@ -22,6 +22,10 @@ pub mod Spans
 pub mod Keeping
 pub mod Run
 pub mod Recovery
+pub mod Whole
+pub mod FaultCount
+pub mod Scripted
+pub mod CalmRun
 pub mod JobPromises
 pub mod Contents
 pub mod JobContents

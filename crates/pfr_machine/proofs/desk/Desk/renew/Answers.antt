@@ -1,5 +1,12 @@
+use Rattle.std.proofs.Common.{ap}
+use Rattle.pfr_flash.specs.FlashState.{FlashState, now}
+use Rattle.pfr_machine.proofs.ReadyLemmas.{ready_behind}
 use Rattle.pfr_machine.proofs.UpdateLemmas.{image_spelled, manifest_ends, manifest_halted, staged_spelled}
 use Rattle.pfr_machine.proofs.desk.Desk.renew.Goals as goal
+
+pub renew_by_manifest-requires-clause-ready : goal.renew_by_manifest-requires-clause-ready
+renew_by_manifest-requires-clause-ready g c =
+    ready_behind 0 4 c.args.fuses c.args.self c.judge_image.new.self _ c.in-Ok.ensures.goes c.in-Ok.ensures.stays (ap (λ (d : FlashState). now d) c.judge_image.ensures.store) c.requires.ready
 
 pub returns-in-Ok : goal.returns-in-Ok
 returns-in-Ok g c =

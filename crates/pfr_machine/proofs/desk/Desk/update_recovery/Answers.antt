@@ -1,4 +1,5 @@
-use Rattle.std.proofs.Common.{arith, Result, Ok, Err}
+use Rattle.std.proofs.Common.{ap, arith, Result, Ok, Err}
+use Rattle.pfr_flash.specs.FlashState.{FlashState, now}
 use Rattle.pfr_flash.specs.declared.names.Bank.{Bank}
 use Rattle.pfr_capsule.specs.CapsuleState.{CapsuleState}
 use Rattle.pfr_capsule.specs.declared.fail.CapsuleFail.{CapsuleFail}
@@ -7,11 +8,13 @@ use Rattle.pfr_story.specs.Story.{Plan}
 use Rattle.pfr_story.specs.UpdatePlans.{by_new_recovery}
 use Rattle.pfr_machine.proofs.BringLemmas.{found_ends, found_halted}
 use Rattle.pfr_machine.proofs.EndsLemmas.{ends_most}
-use Rattle.pfr_machine.proofs.UpdateLemmas.{valid_behind}
+use Rattle.pfr_machine.proofs.ReadyLemmas.{ready_behind, ready_fewer}
 use Rattle.pfr_machine.proofs.desk.Desk.update_recovery.Goals as goal
 
-pub renew-requires-clause-valid : goal.renew-requires-clause-valid
-renew-requires-clause-valid g c = valid_behind c.args.fuses.provision c.args.self c.judge.new.self c.in-Ok-Ok.ensures.goes c.in-Ok-Ok.ensures.stays.bank c.requires.valid
+pub renew-requires-clause-ready : goal.renew-requires-clause-ready
+renew-requires-clause-ready g c =
+    ready_fewer 5 4 c.args.fuses c.judge.new.self (omega arith)
+    (ready_behind 0 5 c.args.fuses c.args.self c.judge.new.self _ c.in-Ok-Ok.ensures.goes c.in-Ok-Ok.ensures.stays (ap (λ (d : FlashState). now d) c.judge.ensures.store) c.requires.ready)
 
 pub returns-in-Ok-Ok : goal.returns-in-Ok-Ok
 returns-in-Ok-Ok g c =

@@ -1,33 +1,25 @@
-use Rattle.std.proofs.Common.{Option, subst, sym}
+use Rattle.std.proofs.Common.{subst, sym}
 use Rattle.pfr_story.specs.World.{World}
-use Rattle.pfr_story.specs.Turn.{Turn}
-use Rattle.pfr_machine.specs.Inside.{IsThere, world_in}
-use Rattle.pfr_machine.proofs.SoundLemmas.{begun_idle, begun_settled, begun_trusted, still_sound}
+use Rattle.pfr_machine.specs.Inside.{IsSound}
+use Rattle.pfr_machine.specs.Stages.{world_in}
+use Rattle.pfr_machine.proofs.SoundLemmas.{begun_rests, room_sound, sound_there, still_sound, ready_here, there_here, there_sound}
 use Rattle.pfr_machine.proofs.TurnLemmas.{turned}
 use Rattle.pfr_machine.proofs.platform.Platform.work.Goals as goal
 
-pub turn-inner-requires-clause-trusted : goal.turn-inner-requires-clause-trusted
-turn-inner-requires-clause-trusted g c =
-    let there = subst (λ (o : Option World). IsThere (g.E.Engine.accepts c.self.inside.engine) o) (sym c.in-Some.ensures.value) c.self.invariant in
-    begun_trusted _ _ (record { is = c.in-Ok.ensures.begun; list = c.in-Ok.ensures.list }) (g.E.Engine.accepts c.self.inside.engine) there
+pub begin-requires-clause-here : goal.begin-requires-clause-here
+begin-requires-clause-here g c = there_here (g.E.Engine.accepts c.self.inside.engine) c.self.inside.stage c.self.invariant
 
-pub turn-inner-requires-clause-settled : goal.turn-inner-requires-clause-settled
-turn-inner-requires-clause-settled g c =
-    let there = subst (λ (o : Option World). IsThere (g.E.Engine.accepts c.self.inside.engine) o) (sym c.in-Some.ensures.value) c.self.invariant in
-    begun_settled _ _ (record { is = c.in-Ok.ensures.begun; list = c.in-Ok.ensures.list }) (g.E.Engine.accepts c.self.inside.engine) there
+pub begin-requires-clause-few : goal.begin-requires-clause-few
+begin-requires-clause-few g c = (there_sound (g.E.Engine.accepts c.self.inside.engine) c.self.inside.stage c.self.invariant).whole.few
 
-pub turn-inner-requires-clause-idle : goal.turn-inner-requires-clause-idle
-turn-inner-requires-clause-idle g c =
-    let there = subst (λ (o : Option World). IsThere (g.E.Engine.accepts c.self.inside.engine) o) (sym c.in-Some.ensures.value) c.self.invariant in
-    begun_idle _ _ (record { is = c.in-Ok.ensures.begun; list = c.in-Ok.ensures.list }) (g.E.Engine.accepts c.self.inside.engine) there
+pub turn-requires-clause-rests : goal.turn-requires-clause-rests
+turn-requires-clause-rests g c = begun_rests _ _ (record { is = c.in_ok-begin.ensures.begun; list = c.begin.ensures.list }) (g.E.Engine.accepts c.self.inside.engine) (there_sound (g.E.Engine.accepts c.self.inside.engine) c.self.inside.stage c.self.invariant)
 
-pub returns-in-Ok-clause-turn : goal.returns-in-Ok-clause-turn
-returns-in-Ok-clause-turn g c =
-    let accepts = g.E.Engine.accepts c.self.inside.engine in
-    let t = turned _ _ (record { is = c.in-Ok.ensures.begun; list = c.in-Ok.ensures.list }) accepts c.args.event.now c.turn-inner.result c.turn-inner.ensures.follows in
-    rw (← c.self.view_is) (subst (λ (o : Option World). Turn accepts c.args.event.now (world_in o) c.turn-inner.result) c.in-Some.ensures.value t)
+pub invariant_of-self-2 : goal.invariant_of-self-2
+invariant_of-self-2 g c =
+    sound_there (g.E.Engine.accepts c.self.inside.engine) c.turn.new.self (ready_here c.turn.new.self c.turn.ensures.ready)
+    (still_sound (world_in c.self.inside.stage) (world_in c.begin.new.self) (record { is = c.in_ok-begin.ensures.begun; list = c.begin.ensures.list }) (g.E.Engine.accepts c.self.inside.engine) c.args.event.now (world_in c.turn.new.self) (there_sound (g.E.Engine.accepts c.self.inside.engine) c.self.inside.stage c.self.invariant) c.turn.ensures.turns.follows c.turn.ensures.turns.leaves c.known.ensures.bytes c.known.ensures.sizes)
 
-pub invariant_of-self : goal.invariant_of-self
-invariant_of-self g c =
-    let there = subst (λ (o : Option World). IsThere (g.E.Engine.accepts c.self.inside.engine) o) (sym c.in-Some.ensures.value) c.self.invariant in
-    still_sound _ _ (record { is = c.in-Ok.ensures.begun; list = c.in-Ok.ensures.list }) _ c.args.event.now _ there c.turn-inner.ensures.follows c.turn-inner.ensures.leaves c.known.ensures.bytes c.known.ensures.sizes
+pub returns-clause-turn : goal.returns-clause-turn
+returns-clause-turn g c =
+    rw (← c.self.view_is) (turned (world_in c.self.inside.stage) (world_in c.begin.new.self) (record { is = c.in_ok-begin.ensures.begun; list = c.begin.ensures.list }) (g.E.Engine.accepts c.self.inside.engine) c.args.event.now (world_in c.turn.new.self) c.turn.ensures.turns.follows)
