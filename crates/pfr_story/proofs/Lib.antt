@@ -122,3 +122,4 @@ pub mod WholeLaws
 pub mod PowerRunLaws
 pub mod ScriptFaultLaws
 pub mod ScriptRunLaws
+pub mod PromiseLaws

@@ -30,3 +30,4 @@ pub mod JobPromises
 pub mod Contents
 pub mod JobContents
 pub mod SafePlans
+pub mod EventPromises
