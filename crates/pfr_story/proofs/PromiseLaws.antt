@@ -4,10 +4,11 @@ use Rattle.pfr_flash.specs.FlashState.{size_of}
 use Rattle.pfr_flash.specs.Layout.{IsBankSize}
 use Rattle.pfr_flash.specs.declared.names.Bank.{Bank}
 use Rattle.pfr_engine.specs.Acceptance.{Acceptance}
+use Rattle.pfr_script.specs.Slots.{IsKnownSlot}
 use Rattle.pfr_script.specs.declared.event.Event.{Event}
 use Rattle.pfr_story.specs.EventPromises.{EventPromises}
 use Rattle.pfr_story.specs.Keeping.{HasTrustedSpans}
-use Rattle.pfr_story.specs.Promises.{AreOff, IsKnownSlot}
+use Rattle.pfr_story.specs.Promises.{AreOff}
 use Rattle.pfr_story.specs.Turn.{Turn}
 use Rattle.pfr_story.specs.World.{World, story_of}
 use Rattle.pfr_story.proofs.BringLaws.{Turn-brings, Turn-powers}
