@@ -121,4 +121,5 @@ pub mod SafePlanLaws
 pub mod WholeLaws
 pub mod PowerRunLaws
 pub mod ScriptFaultLaws
+pub mod ApartLaws
 pub mod ScriptRunLaws
