@@ -1,6 +1,6 @@
--- An event works on no device but its own, and each fault of a device is noted.
-use Rattle.std.proofs.Common.{◌≡◌, ◌≢◌, ◌∙◌, refl, sym, subst, arith, ℕ, Bool, true, false, List, [], ◌∷◌, inl, inr}
-use Rattle.std.proofs.lemmas.Bool.{false≢true, cases_lt}
+-- An event works on no device but its own.
+use Rattle.std.proofs.Common.{◌≡◌, ◌≢◌, ◌∙◌, refl, sym, subst, ℕ, Bool, true, false, List, [], ◌∷◌, inl, inr}
+use Rattle.std.proofs.lemmas.Bool.{false≢true}
 use Rattle.pfr_flash.specs.FlashState.{size_of}
 use Rattle.pfr_flash.specs.declared.names.Bank.{Bank}
 use Rattle.pfr_flash.specs.declared.names.Bank.TheVariants as bank
@@ -13,43 +13,26 @@ use Rattle.pfr_script.specs.declared.event.Event.{Event}
 use Rattle.pfr_script.specs.declared.event.Event.TheVariants as event
 use Rattle.pfr_watch.specs.Watching.{expires}
 use Rattle.pfr_report.specs.declared.note.What.{What}
-use Rattle.pfr_story.specs.Apart.{MayWorkOn, LeavesOthers, EachFaultIsNoted}
+use Rattle.pfr_story.specs.Apart.{MayWorkOn, LeavesOthers}
 use Rattle.pfr_story.specs.Course.{Stretch, Course, Follows}
-use Rattle.pfr_story.specs.FaultCount.{fault_locks, FaultsAreCounted}
 use Rattle.pfr_story.specs.Guards.{guard_at}
 use Rattle.pfr_story.specs.Promises.{IsWork, IsHolding}
 use Rattle.pfr_story.specs.Safety.{Rule, AllGood, AllSafe, AllMake, Keeps}
-use Rattle.pfr_story.specs.Scripted.{IsLockedFor}
 use Rattle.pfr_story.specs.Standing.{standing_of}
 use Rattle.pfr_story.specs.Story.{Story, Move, Says, Does, Asks, noted, operated, device_of, past_at}
 use Rattle.pfr_story.specs.Plans.{smbus_judged}
 use Rattle.pfr_story.specs.Turn.{bank_stretch, fuse_stretch, provision_stretch, spi_stretch, expiry_stretch, update_stretch, is_due, stretch_if, stage_at, ignored, off_course, boot_course, is_idle, taken, begun, Turn}
-use Rattle.pfr_story.specs.World.{World, story_of, state_at, added}
+use Rattle.pfr_story.specs.World.{World, story_of}
 use Rattle.pfr_story.proofs.BringAllowed.{IsSized}
 use Rattle.pfr_story.proofs.BringRules.{IsOwn}
 use Rattle.pfr_story.proofs.Courses.{taken_runs, taken_boots, Turn-cases}
 use Rattle.pfr_story.proofs.Endings.{IsKept, AllKept, course_traced}
 use Rattle.pfr_story.proofs.Facts.{IsNoFailure, IsMine, NoDevice, brought_makes, expired_makes, updating_makes, filtered_makes, smbus_makes}
-use Rattle.pfr_story.proofs.FaultLaws.{Turn-faults_counted}
 use Rattle.pfr_story.proofs.FilterLaws.{past_noted, past_other, same_ops}
 use Rattle.pfr_story.proofs.SafetyLaws.{AllMake-as, safe_whole}
 use Rattle.pfr_story.proofs.StepWalks.{due_runs}
 use Rattle.pfr_story.proofs.Traces.{Traced, Traced-keeps}
 use Rattle.pfr_story.proofs.Turns.{IsStore, migrated_makes, provisioned_makes}
-
--- ---- faults, device by device
-noted_each : (e : Event) (which : Device) (old new : World) → FaultsAreCounted e which old new → (state_at which new).faults ≢ (state_at which old).faults → IsLockedFor which (added old new)
-noted_each e which old new c rose = elim (cases_lt 0 (fault_locks which (added old new))) [
-  | inl some ↦ omega (arith, some)
-  | inr none ↦ elim c.locks [
-    | inl same ↦ absurd (rose (omega (arith, c.counted, same, none)))
-    | inr (both, is, one, two) ↦ omega (arith, two)
-  ]
-]
-
--- Where calls of a device answered faults, a bank is locked for it.
-pub Turn-told_each : (accepts : Acceptance) (e : Event) (old new : World) → Turn accepts e old new → EachFaultIsNoted old new
-Turn-told_each accepts e old new t which = noted_each e which old new (Turn-faults_counted accepts e old new t which)
 
 -- ---- whose device a stretch calls
 module _ (e : Event) (old : World) where

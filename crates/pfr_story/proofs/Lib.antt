@@ -122,4 +122,5 @@ pub mod WholeLaws
 pub mod PowerRunLaws
 pub mod ScriptFaultLaws
 pub mod ApartLaws
+pub mod EachFaultLaws
 pub mod ScriptRunLaws

@@ -1,13 +1,12 @@
 -- Which devices an event works on.
-use Rattle.std.specs.Prelude.{◌≡◌, ◌≢◌, ◌⊎◌}
+use Rattle.std.specs.Prelude.{◌≡◌, ◌⊎◌}
 use Rattle.pfr_flash.specs.declared.names.Bank.{Bank}
 use Rattle.pfr_flash.specs.declared.names.Bank.TheVariants as bank
 use Rattle.pfr_flash.specs.declared.names.Device.{Device}
 use Rattle.pfr_flash.specs.declared.names.Device.TheVariants as device
 use Rattle.pfr_script.specs.declared.event.Event.{Event}
-use Rattle.pfr_story.specs.World.{World, state_at, added}
+use Rattle.pfr_story.specs.World.{World, state_at}
 use Rattle.pfr_story.specs.Promises.{AreOff, IsProvision, IsWork, IsHolding}
-use Rattle.pfr_story.specs.Scripted.{IsLockedFor}
 
 -- A bank's device where the bank is in work, or a frame comes on its SPI bus; and the store where a bank is in work, and at a provision
 -- of banks that aren't off.
@@ -19,7 +18,3 @@ MayWorkOn e old device.Nv = (¬ AreOff old × IsProvision e) ⊎ ((which : Bank)
 -- No other device does anything. So switching off does no operation, one bank's update leaves the other bank, and a provision both.
 abbrev pub LeavesOthers : Event → World → World → Type 0
 LeavesOthers e old new = (which : Device) → ¬ MayWorkOn e old which → (state_at which new).ops ≡ (state_at which old).ops
-
--- No fault is passed over, device by device: where calls of one answered faults, a bank is locked for it.
-abbrev pub EachFaultIsNoted : World → World → Type 0
-EachFaultIsNoted old new = (which : Device) → (state_at which new).faults ≢ (state_at which old).faults → IsLockedFor which (added old new)

@@ -26,6 +26,7 @@ pub mod Whole
 pub mod FaultCount
 pub mod Scripted
 pub mod Apart
+pub mod EachFault
 pub mod CalmRun
 pub mod JobPromises
 pub mod Contents
