@@ -123,4 +123,5 @@ pub mod PowerRunLaws
 pub mod ScriptFaultLaws
 pub mod ApartLaws
 pub mod EachFaultLaws
+pub mod OneSlotLaws
 pub mod ScriptRunLaws

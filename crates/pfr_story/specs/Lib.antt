@@ -27,6 +27,7 @@ pub mod FaultCount
 pub mod Scripted
 pub mod Apart
 pub mod EachFault
+pub mod OneSlot
 pub mod CalmRun
 pub mod JobPromises
 pub mod Contents
