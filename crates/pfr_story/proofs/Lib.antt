@@ -121,5 +121,8 @@ pub mod SafePlanLaws
 pub mod WholeLaws
 pub mod PowerRunLaws
 pub mod ScriptFaultLaws
+pub mod ApartLaws
+pub mod EachFaultLaws
+pub mod OneSlotLaws
 pub mod ScriptRunLaws
 pub mod PromiseLaws

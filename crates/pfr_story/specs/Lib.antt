@@ -25,6 +25,9 @@ pub mod Recovery
 pub mod Whole
 pub mod FaultCount
 pub mod Scripted
+pub mod Apart
+pub mod EachFault
+pub mod OneSlot
 pub mod CalmRun
 pub mod JobPromises
 pub mod Contents
