@@ -118,6 +118,7 @@ pub mod ChangeLaws
 pub mod Fronts
 pub mod HeedLaws
 pub mod HeldLaws
+pub mod CheckLaws
 pub mod SafePlanLaws
 pub mod WholeLaws
 pub mod PowerRunLaws
