@@ -117,6 +117,8 @@ pub mod RenewedTrust
 pub mod ChangeLaws
 pub mod Fronts
 pub mod HeedLaws
+pub mod HeldLaws
+pub mod CheckLaws
 pub mod SafePlanLaws
 pub mod WholeLaws
 pub mod PowerRunLaws

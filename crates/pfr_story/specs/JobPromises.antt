@@ -16,7 +16,6 @@ use Rattle.pfr_capsule.specs.Good.{IsGood}
 use Rattle.pfr_auth.specs.Areas.{judge_area}
 use Rattle.pfr_auth.specs.Judge.{judge_active}
 use Rattle.pfr_auth.specs.declared.areas.Area.TheVariants as Area
-use Rattle.pfr_auth.specs.declared.fail.ActiveFail.{ActiveFail}
 use Rattle.pfr_cert.specs.Applying.{judge_apply}
 use Rattle.pfr_cert.specs.Judge.{judge_cert}
 use Rattle.pfr_cert.specs.declared.cert.Cert.{Cert}
@@ -39,7 +38,7 @@ use Rattle.pfr_report.specs.declared.note.Note.{Note}
 use Rattle.pfr_report.specs.declared.note.Refusal.{Refusal}
 use Rattle.pfr_report.specs.declared.note.Refusal.TheVariants as refusing
 use Rattle.pfr_report.specs.declared.note.What.{What}
-use Rattle.pfr_report.specs.declared.note.What.TheVariants.{Held, Resumed, Abandoned, Restored, Updated, RecoveryUpdated, Cancelled, Refused, Released, Untrusted}
+use Rattle.pfr_report.specs.declared.note.What.TheVariants.{Held, Resumed, Abandoned, Restored, Updated, RecoveryUpdated, Cancelled, Refused}
 use Rattle.pfr_story.specs.Story.{device_of}
 use Rattle.pfr_story.specs.World.{World, state_at, counts_in, added}
 use Rattle.pfr_story.specs.Causes.{HasBadStaging, HasGoodStaging, IsResumable, IsGivenUp}
@@ -159,9 +158,8 @@ pub record UpdatesRecovery (accepts : Acceptance) (which : Bank) (new : World) (
   pub updated : (svn : ℕ) → IsNoted notes (RecoveryUpdated which svn) → (s : AtCounts (λ image nv. HasStagedFor true which image nv accepts) which at new)
       × (svn ≡ s.staged.good.capsule.manifest.svn)
       × (r : HasGoodRecovery which (now (state_at (device_of which) new)) (now new.nv) accepts) × (r.good.capsule.digest ≡ s.staged.good.capsule.digest)
-  -- The rest of the bank is as before, unless the image is called untrusted behind that.
-  pub replaced : (svn : ℕ) → IsNoted notes (RecoveryUpdated which svn) → ((cause : ActiveFail) → ¬ IsNoted notes (Untrusted which cause))
-      → AtCounts (λ image nv. IsCopiedFrom which image nv accepts (now (state_at (device_of which) new))) which at new
+  -- The rest of the bank is as before.
+  pub replaced : (svn : ℕ) → IsNoted notes (RecoveryUpdated which svn) → AtCounts (λ image nv. IsCopiedFrom which image nv accepts (now (state_at (device_of which) new))) which at new
   pub updates : IsCalm which notes → (s : AtCounts (λ image nv. HasStagedFor true which image nv accepts × (is_spent nv which ≡ false)) which at new)
       → IsNoted notes (RecoveryUpdated which s.0.staged.good.capsule.manifest.svn)
   -- One that is refused writes nothing.
