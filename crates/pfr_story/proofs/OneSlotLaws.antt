@@ -19,9 +19,10 @@ use Rattle.pfr_fuses.specs.declared.root_slot.RootSlot.{RootSlot}
 use Rattle.pfr_fuses.proofs.RootSlotLemmas.{length-slot}
 use Rattle.pfr_script.specs.declared.event.Event.{Event}
 use Rattle.pfr_script.specs.declared.event.Event.TheVariants as event
+use Rattle.pfr_script.specs.Slots.{IsKnownSlot}
 use Rattle.pfr_story.specs.Apart.{MayWorkOn}
 use Rattle.pfr_story.specs.OneSlot.{WritesOneSlot, ProvisionsOneSlot}
-use Rattle.pfr_story.specs.Promises.{AreOff, IsKnownSlot, sizes_judged}
+use Rattle.pfr_story.specs.Promises.{AreOff, sizes_judged}
 use Rattle.pfr_story.specs.Story.{Past, image_of}
 use Rattle.pfr_story.specs.Turn.{Turn}
 use Rattle.pfr_story.specs.World.{World, past_of, story_of}

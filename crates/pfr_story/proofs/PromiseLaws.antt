@@ -11,6 +11,7 @@ use Rattle.pfr_story.specs.Keeping.{HasTrustedSpans}
 use Rattle.pfr_story.specs.Promises.{AreOff}
 use Rattle.pfr_story.specs.Turn.{Turn}
 use Rattle.pfr_story.specs.World.{World, story_of}
+use Rattle.pfr_story.proofs.ApartLaws.{Turn-apart}
 use Rattle.pfr_story.proofs.BringLaws.{Turn-brings, Turn-powers}
 use Rattle.pfr_story.proofs.Bytes.{HaveBytes}
 use Rattle.pfr_story.proofs.CancelLaws.{Turn-cancels}
@@ -28,6 +29,7 @@ use Rattle.pfr_story.proofs.JudgedLaws.{Turn-judges}
 use Rattle.pfr_story.proofs.KeepingLaws.{trusted_now}
 use Rattle.pfr_story.proofs.LossLaws.{Turn-losses, Turn-lost, Turn-off}
 use Rattle.pfr_story.proofs.NoteLaws.{Turn-distrusts, Turn-locks, Turn-releases, Turn-restores}
+use Rattle.pfr_story.proofs.OneSlotLaws.{Turn-one_slot}
 use Rattle.pfr_story.proofs.ProvisionLaws.{Turn-provisions}
 use Rattle.pfr_story.proofs.RecoveryLaws.{Turn-recoverable}
 use Rattle.pfr_story.proofs.RecoveryUpdateLaws.{Turn-updates_recovery}
@@ -60,6 +62,7 @@ Turn-promises accepts e old new t held bmc pch nv spans slot =
       cancels = Turn-cancels accepts e old new t nv trusted;
       changes = Turn-changes accepts e old new t held bmc pch nv slot spans;
       provisions = Turn-provisions accepts e old new nv slot t;
+      one_slot = Turn-one_slot accepts e old new nv slot t;
       grows = Turn-grows accepts e old new nv held slot t;
       keeps = Turn-keeps accepts e old new nv held slot t;
       filters = Turn-filters accepts e old new t trusted;
@@ -67,6 +70,7 @@ Turn-promises accepts e old new t held bmc pch nv spans slot =
       boots = Turn-boots accepts e old new t;
       guards = Turn-guards accepts e old new t;
       belongs = Turn-belongs accepts e old new t held bmc pch nv trusted idle settled;
+      apart = Turn-apart accepts e old new nv t;
       quiet = Turn-quiet accepts e old new t;
       losses = Turn-losses accepts e old new t;
       lost = Turn-lost accepts e old new t;

@@ -4,11 +4,13 @@ use Rattle.pfr_engine.specs.Acceptance.{Acceptance}
 use Rattle.pfr_fuses.specs.Growth.{KeepsProvision, NeverGoesBack}
 use Rattle.pfr_recoverable.specs.Recoverable.{IsRecoverable}
 use Rattle.pfr_script.specs.declared.event.Event.{Event}
+use Rattle.pfr_story.specs.Apart.{LeavesOthers}
 use Rattle.pfr_story.specs.Bringing.{BringsUpCalm, PowerReleases}
 use Rattle.pfr_story.specs.FaultCount.{FaultsAreCounted}
 use Rattle.pfr_story.specs.Filtering.{FiltersSo}
 use Rattle.pfr_story.specs.Guarding.{Boots, Expires, GuardsFollow}
 use Rattle.pfr_story.specs.JobPromises.{Cancels, ChangesFuses, MarksAreHeeded, RecoveryUpdates, TakesJobsUp}
+use Rattle.pfr_story.specs.OneSlot.{ProvisionsOneSlot}
 use Rattle.pfr_story.specs.Promises.{DistrustsWithCause, JudgesAtPower, LocksHaveCauses, LossesAreNoted, LostEnds, NotesBelong, NotesOff, ProvisionsSo, ReleasesTrusted, RestoresGood, RunningHasNoJob, StaysQuiet}
 use Rattle.pfr_story.specs.Recovery.{CountsRise, StaysRecoverable}
 use Rattle.pfr_story.specs.Scripted.{CanCount, FailsByScript}
@@ -47,8 +49,10 @@ pub record EventPromises (accepts : Acceptance) (e : Event) (old new : World) : 
   pub cancels : Cancels e accepts old new
   -- Behind an update of the recovery area the floor is its version at least, and a cancelled key stays so.
   pub changes : ChangesFuses old new
-  -- A provision writes its slot, or is refused with the first cause.
+  -- A provision provisions the platform, or is refused with the first cause,
   pub provisions : ProvisionsSo e old new
+  -- and writes nothing but its slot.
+  pub one_slot : ProvisionsOneSlot e old new
   -- Floors and cancellations never go back, between any two counts of the store.
   pub grows : NeverGoesBack old.nv new.nv
   -- Once the platform is provisioned it stays so.
@@ -63,6 +67,8 @@ pub record EventPromises (accepts : Acceptance) (e : Event) (old new : World) : 
   pub guards : GuardsFollow e old new
   -- What is noted belongs to the event.
   pub belongs : NotesBelong e old new
+  -- No device is written but of banks that are in work, and the store for these or by a provision.
+  pub apart : LeavesOthers e old new
   -- An event that the banks don't take, and a tick by which no watch expires, do nothing.
   pub quiet : StaysQuiet e old new
   -- A loss of power is noted exactly of a device that lost it,
