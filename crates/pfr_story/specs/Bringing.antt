@@ -25,7 +25,7 @@ use Rattle.pfr_story.specs.Causes.{IsTrustedWith, IsAgainst, IsDue, IsRestorable
 use Rattle.pfr_story.specs.JobContents.{image_resumed, fuses_resumed}
 use Rattle.pfr_story.specs.Promises.{count_at, AtCounts, NotBefore}
 
--- the work on the bank was over: on the BMC's it was where the PCH is held behind it
+-- The work on the BMC's bank was over where the PCH's is noted to be held. That on the PCH's is over only with the event.
 abbrev pub IsOver : Bank → List Note → Type 0
 IsOver bank.Bmc notes = (at : Counts) × IsNoted notes (Held bank.Pch at)
 IsOver bank.Pch notes = ⊥
@@ -97,8 +97,8 @@ abbrev pub BringsUpCalm : Event → Acceptance → World → World → Type 0
 BringsUpCalm event.Power accepts old new = (which : Bank) → IsCalm which (added old new) → (at from : Counts) × BringsUp accepts which new (added old new) at from
 BringsUpCalm e accepts old new = Unit {0}
 
--- A bank that can be recovered, by what R says of its bytes and the store's where it is held, ends a power-on released, after at
--- most 34 operations for each of its pages.
+-- In a power-on a bank that can be recovered, by what R says of its bytes and the store's where it is held, is released behind that, after
+-- at most 34 operations for each of its pages, unless a call failed while it was in work.
 abbrev pub PowerReleases : (Bank → List ℕ → List ℕ → Type 0) → Event → World → World → Type 0
 PowerReleases R event.Power old new = (which : Bank) (at : Counts) → IsCalm which (added old new) → IsNoted (added old new) (Held which at)
     → AtCounts (R which) which at new → ReleasedSoon which at (34 * (size_of (state_at (device_of which) new) / 4096)) (added old new)
