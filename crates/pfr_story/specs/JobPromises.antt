@@ -42,9 +42,9 @@ use Rattle.pfr_report.specs.declared.note.What.TheVariants.{Held, Resumed, Aband
 use Rattle.pfr_story.specs.Story.{device_of}
 use Rattle.pfr_story.specs.World.{World, state_at, counts_in, added}
 use Rattle.pfr_story.specs.Causes.{HasBadStaging, HasGoodStaging, IsResumable, IsGivenUp}
-use Rattle.pfr_story.specs.Bringing.{IsCalm, IsNotedBehind}
+use Rattle.pfr_story.specs.Bringing.{IsCalm, IsNotedBehind, Checks}
 use Rattle.pfr_story.specs.UpdatePlans.{has_manifest, standing_capsule}
-use Rattle.pfr_story.specs.Promises.{AtCounts, Runs, count_at}
+use Rattle.pfr_story.specs.Promises.{AtCounts, NotBefore, Runs, count_at}
 use Rattle.pfr_story.specs.Recovery.{moments_of}
 
 -- ---- jobs that are open at a power-on
@@ -189,6 +189,13 @@ pub record HasBadCert (cause : CertFail) (which : Bank) (image nv : List ℕ) (a
   pub provisioned : fuses_of nv ≡ Ok fuses
   pub judged : (judge_cert which image fuses accepts ≡ Err cause) ⊎ ((cert : Cert) × (judge_cert which image fuses accepts ≡ Ok cert) × (use_of which image fuses accepts cert ≡ Err cause))
 
+-- The bank is checked as it stands where it was held at these counts, by the store as it is then.
+pub record IsCheckedAnew (accepts : Acceptance) (which : Bank) (new : World) (notes : List Note) (at : Counts) : Type 0 where
+  pub from : Counts
+  pub forth : NotBefore at from
+  pub still : (bank : Bank) → count_at bank from ≡ count_at bank at
+  pub checks : Checks accepts which new notes from
+
 -- What an update by a certificate comes to, of a bank that is held at these counts.
 pub record CancelsKey (accepts : Acceptance) (which : Bank) (new : World) (notes : List Note) (at : Counts) : Type 0 where
   pub held : IsNoted notes (Held which at)
@@ -198,6 +205,8 @@ pub record CancelsKey (accepts : Acceptance) (which : Bank) (new : World) (notes
   -- Else the key of the certificate is cancelled.
   pub cancelled : (type : ContentType) (id : ℕ) → IsNoted notes (Cancelled type id) → AtCounts (λ image nv. HasCert (record { ty = type; id = id }) which image nv accepts) which at new
   pub cancels : (cert : Cert) → IsCalm which notes → AtCounts (λ image nv. HasCert cert which image nv accepts) which at new → IsNoted notes (Cancelled cert.ty cert.id)
+  -- Behind that the bank is checked as at a power-on.
+  pub tail : (type : ContentType) (id : ℕ) → IsCalm which notes → IsNoted notes (Cancelled type id) → IsCheckedAnew accepts which new notes at
   -- One that is refused writes nothing.
   pub writes_nothing : (why : Refusal) → IsNoted notes (Refused which why) → counts_in new ≡ at
 
