@@ -124,4 +124,6 @@ pub mod ScriptFaultLaws
 pub mod ApartLaws
 pub mod EachFaultLaws
 pub mod OneSlotLaws
+pub mod InWorkShapes
+pub mod InWorkRules
 pub mod ScriptRunLaws
