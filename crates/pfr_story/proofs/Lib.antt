@@ -126,4 +126,7 @@ pub mod EachFaultLaws
 pub mod OneSlotLaws
 pub mod InWorkShapes
 pub mod InWorkRules
+pub mod InWorkWalks
+pub mod KeptWalks
+pub mod InWorkLaws
 pub mod ScriptRunLaws
