@@ -127,5 +127,10 @@ pub mod ScriptFaultLaws
 pub mod ApartLaws
 pub mod EachFaultLaws
 pub mod OneSlotLaws
+pub mod InWorkShapes
+pub mod InWorkRules
+pub mod InWorkWalks
+pub mod KeptWalks
+pub mod InWorkLaws
 pub mod ScriptRunLaws
 pub mod PromiseLaws

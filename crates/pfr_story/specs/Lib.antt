@@ -28,6 +28,7 @@ pub mod Scripted
 pub mod Apart
 pub mod EachFault
 pub mod OneSlot
+pub mod InWork
 pub mod CalmRun
 pub mod JobPromises
 pub mod Contents
