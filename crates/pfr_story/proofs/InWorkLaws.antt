@@ -17,8 +17,9 @@ use Rattle.pfr_report.specs.Texts.{IsNoted}
 use Rattle.pfr_report.specs.declared.note.Note.{Note}
 use Rattle.pfr_report.specs.declared.note.What.{What}
 use Rattle.pfr_report.specs.declared.note.What.TheVariants as what
+use Rattle.pfr_script.specs.Slots.{IsKnownSlot}
 use Rattle.pfr_story.specs.InWork.{StoreChangesInWork}
-use Rattle.pfr_story.specs.Promises.{AreOff, IsKnownSlot, IsUpdateTo}
+use Rattle.pfr_story.specs.Promises.{AreOff, IsUpdateTo}
 use Rattle.pfr_story.specs.Story.{Story, Does, device_of}
 use Rattle.pfr_story.specs.Turn.{is_idle, begun, Turn}
 use Rattle.pfr_story.specs.World.{World, story_of}

@@ -25,6 +25,7 @@ use Rattle.pfr_story.proofs.GrowthLaws.{Turn-grows, Turn-keeps}
 use Rattle.pfr_story.proofs.GuardLaws.{Turn-guards}
 use Rattle.pfr_story.proofs.HeedLaws.{Turn-heeds}
 use Rattle.pfr_story.proofs.IdleLaws.{Turn-idle}
+use Rattle.pfr_story.proofs.InWorkLaws.{Turn-in_work}
 use Rattle.pfr_story.proofs.JudgedLaws.{Turn-judges}
 use Rattle.pfr_story.proofs.KeepingLaws.{trusted_now}
 use Rattle.pfr_story.proofs.LossLaws.{Turn-losses, Turn-lost, Turn-off}
@@ -59,7 +60,7 @@ Turn-promises accepts e old new t held bmc pch nv spans slot =
       no_job = λ which. Turn-idle accepts which e old new t held bmc pch nv spans;
       updates = Turn-updates accepts e old new t held bmc pch nv trusted idle;
       updates_recovery = Turn-updates_recovery accepts e old new t held bmc pch nv trusted idle settled;
-      cancels = Turn-cancels accepts e old new t nv trusted;
+      cancels = Turn-cancels accepts e old new t held nv trusted;
       changes = Turn-changes accepts e old new t held bmc pch nv slot spans;
       provisions = Turn-provisions accepts e old new nv slot t;
       one_slot = Turn-one_slot accepts e old new nv slot t;
@@ -71,6 +72,7 @@ Turn-promises accepts e old new t held bmc pch nv spans slot =
       guards = Turn-guards accepts e old new t;
       belongs = Turn-belongs accepts e old new t held bmc pch nv trusted idle settled;
       apart = Turn-apart accepts e old new nv t;
+      in_work = Turn-in_work accepts e old new t held bmc pch nv slot;
       quiet = Turn-quiet accepts e old new t;
       losses = Turn-losses accepts e old new t;
       lost = Turn-lost accepts e old new t;

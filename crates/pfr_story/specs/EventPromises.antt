@@ -9,6 +9,7 @@ use Rattle.pfr_story.specs.Bringing.{BringsUpCalm, PowerReleases}
 use Rattle.pfr_story.specs.FaultCount.{FaultsAreCounted}
 use Rattle.pfr_story.specs.Filtering.{FiltersSo}
 use Rattle.pfr_story.specs.Guarding.{Boots, Expires, GuardsFollow}
+use Rattle.pfr_story.specs.InWork.{StoreChangesInWork}
 use Rattle.pfr_story.specs.JobPromises.{Cancels, ChangesFuses, MarksAreHeeded, RecoveryUpdates, TakesJobsUp}
 use Rattle.pfr_story.specs.OneSlot.{ProvisionsOneSlot}
 use Rattle.pfr_story.specs.Promises.{DistrustsWithCause, JudgesAtPower, LocksHaveCauses, LossesAreNoted, LostEnds, NotesBelong, NotesOff, ProvisionsSo, ReleasesTrusted, RestoresGood, RunningHasNoJob, StaysQuiet}
@@ -69,6 +70,8 @@ pub record EventPromises (accepts : Acceptance) (e : Event) (old new : World) : 
   pub belongs : NotesBelong e old new
   -- No device is written but of banks that are in work, and the store for these or by a provision.
   pub apart : LeavesOthers e old new
+  -- A bank's log and floor change only while it is in work, and cancelled keys only by a certificate.
+  pub in_work : StoreChangesInWork e old new
   -- An event that the banks don't take, and a tick by which no watch expires, do nothing.
   pub quiet : StaysQuiet e old new
   -- A loss of power is noted exactly of a device that lost it,
