@@ -718,8 +718,9 @@ class Parts:
     def kinds(self, struct, field):
         """The types followed in part that a field's type names, and whether it is that type alone."""
         if not struct.file:
-            key = self.is_one(struct.definition, struct.fields[field].strip())
-            return ([key] if key else []), key is not None
+            words = [".".join(parts) for parts in words_of(struct.fields[field])]
+            keys = [key for key in (self.is_one(struct.definition, word) for word in words) if key]
+            return keys, struct.fields[field].strip() in words
         return self.of_kind(struct.file, struct.fields[field])
 
     def of_kind(self, file, kind):
@@ -790,6 +791,8 @@ class Parts:
             self.take_specs(definition)
         elif key not in self.structs and not definition.modelled:
             self.take_rust(definition)
+        elif definition.modelled and not self.value_of(definition):
+            self.check_names(definition, words_of(definition.terms), [])
 
     def take_rust(self, definition):
         """What a type or a trait of Rust names that isn't followed in part itself is followed whole."""

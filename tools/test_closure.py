@@ -462,6 +462,18 @@ impl Model for Box {
     ghost Value = { BoxState };
 }
 
+/// Some boxes.
+pub struct Boxes {
+    inside: u8,
+}
+
+impl Model for Boxes {
+    ghost use Rattle.std.specs.Prelude.{List};
+    ghost use Rattle.low.specs.Box.{BoxState};
+
+    ghost Value = { List BoxState };
+}
+
 /// What is at the side.
 pub enum Side {
     Left,
@@ -516,12 +528,13 @@ HasGiven bench = (λ give. many (give bench) ≤ 4) box_in
 ghost use Rattle.std.specs.Prelude.{IfSome};
 ghost use Rattle.high.specs.Top.{IsGood, IsSame, HasSameBox, IsFewest, IsOf, HasMany, HasItself, HasGiven};
 
-use low::{Box, Note, Side};
+use low::{Box, Boxes, Note, Side};
 
 /// All of it.
 pub struct Bench {
     pub box: Box,
     pub side: Side,
+    pub boxes: Boxes,
 }
 
 /// What is answered.
@@ -545,6 +558,7 @@ pub fn act(old_one: &Bench) -> Finished
     ensures many { IfSome result.bench HasMany }
     ensures itself { IfSome result.bench HasItself }
     ensures given { IfSome result.bench HasGiven }
+    ensures several { IfSome result.bench (λ bench. bench.boxes ≡ bench.boxes) }
     ensures nothing { result.bench ≡ None }
     ensures whole { result ≡ result }
 {
@@ -585,6 +599,9 @@ pub fn act(old_one: &Bench) -> Finished
             names, partly = self.names(clause)
             self.assertTrue("IsFew" in names and "Side" not in names, clause)
             self.assertEqual(partly, ["lib.rt Bench: box", "lib.rt Finished: bench"], clause)
+        names, partly = self.names("several")
+        self.assertTrue("IsFew" in names and "Side" not in names)
+        self.assertEqual(partly, ["lib.rt Bench: boxes", "lib.rt Finished: bench"])
         names, partly = self.names("whole")
         self.assertTrue({"Side", "IsFew", "Note"} <= names)
         self.assertEqual(partly, [])
