@@ -11,7 +11,8 @@ import sys
 
 TOP = os.path.dirname(os.path.dirname(os.path.abspath(__file__)))
 
-# The clauses of a text, and the most lines that it may have.
+# The clauses of a text, and the most lines that it may have. Beside these belong, once they are clauses, `recoverable` and `powers`
+# with 1,500 each, and the four of the headline in one text (spans, grows, recoverable, powers) with 1,950.
 MOST = (
     (("spans",), 1500),
 )

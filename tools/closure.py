@@ -11,16 +11,16 @@ definition.
 
 What is taken is each name in scope that a definition writes, so it may be more than is needed, as where a variable has the name
 of a definition. A struct that has a model is shown with the value that contracts see of it, and its fields aren't followed: how
-they stand for that value is a matter of the crate's proofs. What belongs to the kit is named at the end, and not printed. A call is shown
-by the first line of its comment, its signature, its conditions and the clause.
+they stand for that value is a matter of the crate's proofs. A call is shown by the first line of its comment, its signature, its
+conditions and the clause. What belongs to the kit is named at the end, and not printed.
 
 A struct that stands in the call's signature, one in a field of such a struct, and a record that is the value of such a one is
 followed only in those fields that the clause or a definition that it rests on names. The others may be left out, as no meaning
 depends on them: values of such a type are only handed on, to a definition that takes one, or asked for a field. Where one is
 used in another way, as compared, built, taken apart by its shape or ranged over, the type is followed whole, with the types of
-its fields; and so it is wherever this tool can't tell. A field that is left out may be a premise that each value of the type
-keeps, as that a device holds bytes: without it the clause reads no stronger. The types that are followed in part are named at
-the end with the fields that are followed.
+its fields; and so it is wherever this tool can't tell. A field that is left out may say what each value of the type keeps, as
+that a device holds bytes: each value of a program keeps it, so the clause speaks of the same values without it. A type that is
+followed in part is printed with those fields alone, marked `in part`, and named at the end.
 
 Lines are counted that are neither blank nor the name of a file.
 """
@@ -604,6 +604,22 @@ def struct_fields(text):
     return dict(re.findall(r"(?m)^    (?:pub(?:\(crate\))? )?(\w+): (.*?),?$", without_comments(text, "//")))
 
 
+def with_fields(text, fields):
+    """A record or a struct with these fields alone, and their comments; its first line says so."""
+    lines, above, keeps = [], [], True
+    for line in text.split("\n"):
+        field = re.match(r"(?:  pub (\S+) :|    (?:pub(?:\(crate\))? )?(\w+): )", line)
+        if re.match(r"\s+(--|//)", line):
+            above.append(line)
+            continue
+        keeps = keeps and not field or at_left(line) or bool(field) and (field.group(1) or field.group(2)) in fields
+        lines += above + [line] if keeps else []
+        above = []
+    first = next(at for at, line in enumerate(lines) if re.match(r"pub (record|struct) ", line))
+    mark = "--" if lines[first].startswith("pub record") else "//"
+    return "\n".join(lines[:first] + ["%s %s in part" % (lines[first], mark)] + lines[first + 1 :])
+
+
 def split_arrows(text):
     """The parts between arrows that stand in no brackets."""
     parts, depth = [""], 0
@@ -673,6 +689,9 @@ class Parts:
         if definition.path.endswith(".antt"):
             if re.search(r"(?m)^pub record \S+ : ", definition.text):
                 self.keep(Struct(definition, record_fields(definition.text), None))
+                for kind in record_fields(definition.text).values():
+                    if NAME.match(kind.strip()):
+                        self.add(self.meant(definition, kind.strip().split(".")))
             return
         if not re.search(r"(?m)^pub struct \w+ \{$", definition.text):
             return
@@ -699,7 +718,9 @@ class Parts:
     def kinds(self, struct, field):
         """The types followed in part that a field's type names, and whether it is that type alone."""
         if not struct.file:
-            return [], False
+            words = [".".join(parts) for parts in words_of(struct.fields[field])]
+            keys = [key for key in (self.is_one(struct.definition, word) for word in words) if key]
+            return keys, struct.fields[field].strip() in words
         return self.of_kind(struct.file, struct.fields[field])
 
     def of_kind(self, file, kind):
@@ -721,13 +742,24 @@ class Parts:
         key = key_of(definition)
         if key not in self.structs or key in self.whole:
             return definition
-        struct, named = self.structs[key], self.named[key]
+        struct, needed = self.structs[key], self.needed_of(key)
         if struct.file:
-            return definition._replace(types=field_types(self.project, definition, named) if named else ())
-        needed = set(named)
-        while any(self.inner(struct, needed)):
-            needed |= self.inner(struct, needed)
+            return definition._replace(types=field_types(self.project, definition, needed) if needed else ())
         return definition._replace(terms="\n".join(struct.fields[field] for field in sorted(needed)))
+
+    def needed_of(self, key):
+        """The fields that are followed: those that were named, and those of the same type that their types name."""
+        struct, needed = self.structs[key], set(self.named[key])
+        while not struct.file and self.inner(struct, needed):
+            needed |= self.inner(struct, needed)
+        return needed
+
+    def shown(self, definition):
+        """A definition as it is printed: of a type that is followed in part with these fields alone."""
+        key = key_of(definition)
+        if key not in self.structs or key in self.whole or self.needed_of(key) == set(self.structs[key].fields):
+            return definition
+        return definition._replace(text=with_fields(definition.text, self.needed_of(key)))
 
     def inner(self, struct, fields):
         """The fields that the types of some fields name."""
@@ -745,8 +777,8 @@ class Parts:
     def lines(self, graph):
         """A line for each type that is followed in part."""
         shown = [key for key in sorted(self.structs) if key in graph and key not in self.whole]
-        parted = [key for key in shown if self.named[key] != set(self.structs[key].fields)]
-        return ["-- crates/%s %s: %s" % (key[0], key[1], " ".join(sorted(self.named[key]))) for key in parted]
+        parted = [key for key in shown if self.needed_of(key) != set(self.structs[key].fields)]
+        return ["-- crates/%s %s: %s" % (key[0], key[1], " ".join(sorted(self.needed_of(key)))) for key in parted]
 
     # What a definition names
 
@@ -759,6 +791,8 @@ class Parts:
             self.take_specs(definition)
         elif key not in self.structs and not definition.modelled:
             self.take_rust(definition)
+        elif definition.modelled and not self.value_of(definition):
+            self.check_names(definition, words_of(definition.terms), [])
 
     def take_rust(self, definition):
         """What a type or a trait of Rust names that isn't followed in part itself is followed whole."""
@@ -782,7 +816,8 @@ class Parts:
         head, sides = head_and_equations(definition)
         arguments = self.arguments(definition)
         binders = self.binders(definition, head)
-        self.check_names(definition, words_of(definition.terms), [key for key in arguments if key] or list(binders.values()))
+        benign = [key for key in arguments if key] or list(binders.values())
+        self.check_names(definition, words_of(definition.terms), benign + [self.returned(definition)])
         for left, right in sides:
             self.read(definition, right, {**self.binders(definition, right), **binders, **self.patterns(definition, left, arguments)}, {})
 
@@ -794,6 +829,12 @@ class Parts:
             return [self.is_one(definition, kind) for kind in kinds]
         kinds = [part for part in split_arrows(head)[:-1] if not part.startswith("{")]
         return [key for kind in kinds for key in self.argument(definition, kind)]
+
+    def returned(self, definition):
+        """The type followed in part of what a definition of specs gives, or nothing."""
+        if re.search(r"(?m)^pub (record|data) ", definition.text):
+            return None
+        return self.is_one(definition, split_arrows(head_and_equations(definition)[0])[-1])
 
     def argument(self, definition, kind):
         named = re.match(r"\((\S+(?: \S+)*) : (.*)\)$", kind)
@@ -844,6 +885,8 @@ class Parts:
                 self.inside(compound[parts[0]], definition, tokens, at)
             elif known.get(parts[0]):
                 self.walk(known[parts[0]], rest, definition, tokens, at)
+            elif parts[0] not in known and self.gives(definition, token):
+                self.hand_on_result(self.gives(definition, token), definition, tokens, at)
             elif parts[0] not in known and parts[0] not in definition.scope.aliases:
                 for place in range(len(rest)):
                     for key in [key for key in self.structs if rest[place] in self.structs[key].fields]:
@@ -854,6 +897,25 @@ class Parts:
         while at and tokens[at] != "λ" and NAME.match(tokens[at].rstrip(".")) and not tokens[at - 1].endswith("."):
             at -= 1
         return tokens[at] == "λ"
+
+    def gives(self, definition, token):
+        """The type followed in part of what a definition gives that a word means, or nothing."""
+        found = self.meant(definition, token.split(".")) if NAME.match(token.split(".")[-1]) else None
+        return self.returned(found) if found and found.path.endswith(".antt") else None
+
+    def hand_on_result(self, key, definition, tokens, at):
+        """What a definition gives has to be all that is given here, too, or to stand in brackets and be handed on."""
+        arguments = self.arguments(self.meant(definition, tokens[at].split(".")))
+        rest = groups_in(tokens[at:])[1 : 1 + len(arguments)]
+        end = at + 1 + sum(len(group) for group in rest)
+        plain = len(rest) == len(arguments) and not any(is_apart(group[0]) and group[0] != "(" for group in rest)
+        if plain and at == 0 and end == len(tokens) and self.returned(definition) == key:
+            return
+        if plain and tokens[at - 1 : at] == ["("] and tokens[end : end + 1] == [")"]:
+            if not tokens[end + 1 : end + 2] or not tokens[end + 1].startswith("."):
+                self.hand_on(key, definition, tokens, at - 1)
+        else:
+            self.make_whole(key)
 
     def lambdas(self, definition, tokens, known, compound):
         """The variable of `IfSome value (λ x. ..)` has the type of what the value may be."""
@@ -903,7 +965,9 @@ class Parts:
         return place < len(arguments) and arguments[place] == key
 
     def hand_on(self, key, definition, tokens, at):
-        """A value that stands alone has to be an argument of a definition that takes one of its type."""
+        """A value that stands alone has to be an argument of a definition that takes one of its type, or all that is given."""
+        if len(tokens) == 1 and self.returned(definition) == key:
+            return
         begin, place = self.application(tokens, at)
         if begin == at or not self.takes(definition, tokens[begin], key, place):
             self.make_whole(key)
@@ -981,7 +1045,7 @@ def closure(clauses):
     rests_on = {key: {key_of(need) for need in needed} for key, (_, needed) in graph.items()}
     files, last = {}, [key_of(each) for each, _ in asked]
     order = sorted((key for key in graph if key not in last), key=lambda key: place_of(key, files)) + last
-    groups = [(path, [graph[key][0] for key in keys]) for path, keys in file_groups(rests_on, order)]
+    groups = [(path, [parts.shown(graph[key][0]) for key in keys]) for path, keys in file_groups(rests_on, order)]
     return groups, kit_lines(project), parts.lines(graph)
 
 

@@ -462,6 +462,18 @@ impl Model for Box {
     ghost Value = { BoxState };
 }
 
+/// Some boxes.
+pub struct Boxes {
+    inside: u8,
+}
+
+impl Model for Boxes {
+    ghost use Rattle.std.specs.Prelude.{List};
+    ghost use Rattle.low.specs.Box.{BoxState};
+
+    ghost Value = { List BoxState };
+}
+
 /// What is at the side.
 pub enum Side {
     Left,
@@ -495,18 +507,34 @@ IsFewest bench = (other : Bench) → count_of bench ≤ count_of other
 
 abbrev pub IsOf : ℕ → Bench → Type 0
 IsOf n bench = n ≤ count_of bench
+
+abbrev pub box_in : Bench → BoxState
+box_in bench = bench.box
+
+abbrev pub many : BoxState → ℕ
+many box = box.count
+
+abbrev pub HasMany : Bench → Type 0
+HasMany bench = (box_in bench).count ≤ many (box_in bench)
+
+abbrev pub HasItself : Bench → Type 0
+HasItself bench = box_in bench ≡ box_in bench
+
+abbrev pub HasGiven : Bench → Type 0
+HasGiven bench = (λ give. many (give bench) ≤ 4) box_in
 """,
         "high/src/lib.rt": """\
 //! High.
 ghost use Rattle.std.specs.Prelude.{IfSome};
-ghost use Rattle.high.specs.Top.{IsGood, IsSame, HasSameBox, IsFewest, IsOf};
+ghost use Rattle.high.specs.Top.{IsGood, IsSame, HasSameBox, IsFewest, IsOf, HasMany, HasItself, HasGiven};
 
-use low::{Box, Note, Side};
+use low::{Box, Boxes, Note, Side};
 
 /// All of it.
 pub struct Bench {
     pub box: Box,
     pub side: Side,
+    pub boxes: Boxes,
 }
 
 /// What is answered.
@@ -527,6 +555,10 @@ pub fn act(old_one: &Bench) -> Finished
     ensures alike { IfSome result.bench (λ bench. bench ≡ old_one.now) }
     ensures boxes { IfSome result.bench (HasSameBox old_one.now) }
     ensures fewest { IfSome result.bench IsFewest }
+    ensures many { IfSome result.bench HasMany }
+    ensures itself { IfSome result.bench HasItself }
+    ensures given { IfSome result.bench HasGiven }
+    ensures several { IfSome result.bench (λ bench. bench.boxes ≡ bench.boxes) }
     ensures nothing { result.bench ≡ None }
     ensures whole { result ≡ result }
 {
@@ -552,23 +584,33 @@ pub fn act(old_one: &Bench) -> Finished
 
     def test_only_asked_for_fields(self):
         """Neither the side nor the note is named, and no meaning depends on it that a box has few."""
-        for clause in ("good", "of", "within"):
+        for clause in ("good", "of", "within", "many"):
             names, partly = self.names(clause)
             self.assertFalse(names & {"Side", "Note", "IsFew"}, clause)
             self.assertEqual(partly, ["lib.rt Bench: box", "lib.rt Finished: bench", "Box.antt BoxState: count"], clause)
 
     def test_used_in_another_way(self):
         """What is compared or ranged over is followed whole."""
-        for clause in ("same", "alike", "fewest", "nothing"):
+        for clause in ("same", "alike", "fewest", "nothing", "given"):
             names, partly = self.names(clause)
             self.assertTrue({"Side", "IsFew"} <= names, clause)
             self.assertEqual(partly, ["lib.rt Finished: bench"], clause)
-        names, partly = self.names("boxes")
+        for clause in ("boxes", "itself"):
+            names, partly = self.names(clause)
+            self.assertTrue("IsFew" in names and "Side" not in names, clause)
+            self.assertEqual(partly, ["lib.rt Bench: box", "lib.rt Finished: bench"], clause)
+        names, partly = self.names("several")
         self.assertTrue("IsFew" in names and "Side" not in names)
-        self.assertEqual(partly, ["lib.rt Bench: box", "lib.rt Finished: bench"])
+        self.assertEqual(partly, ["lib.rt Bench: boxes", "lib.rt Finished: bench"])
         names, partly = self.names("whole")
         self.assertTrue({"Side", "IsFew", "Note"} <= names)
         self.assertEqual(partly, [])
+
+    def test_printed(self):
+        """A type that is followed in part is printed with these fields, and says so."""
+        text = closure.text_of(closure.closure(["high/good"])[0])
+        self.assertIn("/// All of it.\npub struct Bench { // in part\n    pub box: Box,\n}", text)
+        self.assertIn("pub record BoxState : Type 0 where -- in part\n  pub count : ℕ\n\n--", text)
 
     def test_first_line(self):
         """Of a call's comment the first line is shown, and nothing of what stands above the clause."""
