@@ -63,8 +63,8 @@ loss_noted first at new d front is =
 
 -- the other bank's part leaves it
 spared_same : (accepts : Acceptance) (b : Bank) (from to : Story) → Spared accepts (other_bank b) from to → HoldsSame accepts b from to
-spared_same accepts bank.Bmc from to p = record { mine = ap (λ (past : Past). image_of past) p.other; trusts = p.trusts; size = p.size; opened = p.opened }
-spared_same accepts bank.Pch from to p = record { mine = ap (λ (past : Past). image_of past) p.other; trusts = p.trusts; size = p.size; opened = p.opened }
+spared_same accepts bank.Bmc from to p = record { mine = ap (λ (past : Past). image_of past) p.other; count = ap (λ (past : Past). length past.ops) p.other; trusts = p.trusts; size = p.size; opened = p.opened }
+spared_same accepts bank.Pch from to p = record { mine = ap (λ (past : Past). image_of past) p.other; count = ap (λ (past : Past). length past.ops) p.other; trusts = p.trusts; size = p.size; opened = p.opened }
 
 same_stands : (accepts : Acceptance) (b : Bank) (level : ℕ) (from to : Story) → HoldsSame accepts b from to → level_at b to ≡ level_at b from → StandsAt accepts b level from → StandsAt accepts b level to
 same_stands accepts b level from to same rises p = record {

@@ -15,8 +15,14 @@ use Rattle.pfr_capsule.specs.CapsuleState.{CapsuleState}
 use Rattle.pfr_capsule.specs.declared.fail.CapsuleFail.{CapsuleFail}
 use Rattle.pfr_capsule.proofs.GoodLaw.{good_found}
 use Rattle.pfr_auth.specs.Trusted.{IsTrusted}
-use Rattle.pfr_jobs.specs.Log.{open_job}
+use Rattle.pfr_jobs.specs.LogState.{is_spent}
 use Rattle.pfr_jobs.specs.declared.job.JobKind.{JobKind}
+use Rattle.pfr_rebuilt.specs.ActiveCopying.{active_rebuilt}
+use Rattle.pfr_story.specs.Stopping.{IsOpenOrMade}
+use Rattle.pfr_story.proofs.JobCounts.{done_on}
+use Rattle.pfr_story.proofs.JobWalks.{store_sized}
+use Rattle.pfr_story.proofs.StoppedLaws.{open_or_made}
+use Rattle.pfr_jobs.specs.Log.{open_job}
 use Rattle.pfr_jobs.specs.declared.job.JobKind.TheVariants.{ActiveFromRecovery}
 use Rattle.pfr_jobs.specs.declared.job.OpenJob.TheVariants as job
 use Rattle.pfr_recoverable.specs.Recoverable.{HasGoodRecovery}
@@ -53,7 +59,7 @@ use Rattle.pfr_story.proofs.Entry.{trusted_ready}
 use Rattle.pfr_story.proofs.Endings.{Ending, ended_trace, ended_is}
 use Rattle.pfr_story.proofs.AnewLaws.{IsAnew, made_so}
 use Rattle.pfr_story.proofs.JobTrust.{IsTrustedNow}
-use Rattle.pfr_story.proofs.ExpiryLaws.{held_from, Expiry, ready_there, mine_there, expiry_noted, expiry_known, spent_noted, locked_noted, restored_noted, made_from, restored_anew}
+use Rattle.pfr_story.proofs.ExpiryLaws.{held_from, Expiry, ready_there, mine_there, expiry_noted, expiry_known, spent_noted, locked_noted, restored_noted, made_from, restored_anew, restored_stopped}
 use Rattle.pfr_story.proofs.QuietLaws.{IsOf, Elsewhere, Unwatched}
 
 -- ---- levels
@@ -88,12 +94,13 @@ pub record StandsAt (accepts : Acceptance) (b : Bank) (level : ℕ) (story : Sto
 -- the bank holds the same, by which it is as trusted as before, and its log has the same job open
 pub record HoldsSame (accepts : Acceptance) (b : Bank) (from to : Story) : Type 0 where
   pub mine : mine b to ≡ mine b from
+  pub count : done_on b to ≡ done_on b from
   pub trusts : (m : Manifest) → IsTrustedNow accepts b m from → IsTrustedNow accepts b m to
   pub size : length (store to) ≡ length (store from)
   pub opened : IsSized from → open_job (store to) b ≡ open_job (store from) b
 
 pub holds_refl : (accepts : Acceptance) (b : Bank) (story : Story) → HoldsSame accepts b story story
-holds_refl accepts b story = record { mine = refl; trusts = λ m t. t; size = refl; opened = λ sized. refl }
+holds_refl accepts b story = record { mine = refl; count = refl; trusts = λ m t. t; size = refl; opened = λ sized. refl }
 
 pub record Expiring (accepts : Acceptance) (b : Bank) (level : ℕ) (first new : World) : Type 0 where
   pub at : World
@@ -242,6 +249,32 @@ module _ (accepts : Acceptance) (b : Bank) (level : ℕ) (first new : World) (ha
             (subst (λ (c : CapsuleState). IsAnew accepts b (ActiveFromRecovery level) fuses c (mine b held) (story_of new)) (sym good.1) anew),
       )
 
+  -- wherever it was stopped
+  sized_end : IsSized (story_of p.end)
+  sized_end =
+      let moves : List Move = expired_to accepts b level start in
+      ap (λ (s : Story). length (store s)) (ended_is b Losing moves start (story_of p.end) ending) ∙ store_sized (ended_trace b Losing moves start (story_of p.end) ending) start ∙ p.stands.sized
+
+  abbrev IsStoppedFrom : List ℕ → List ℕ → Type 0
+  IsStoppedFrom image nv =
+      (r : HasGoodRecovery b image nv accepts) → (is_spent nv b ≡ true)
+      ⊎ IsOpenOrMade b (ActiveFromRecovery level) r.good.capsule.digest (active_rebuilt (ActiveFromRecovery level) image r.good.capsule (layout_of r.fuses.provision b)) new (counts_of held)
+
+  stopped_from : level < 4 → IsStoppedFrom (mine b held) (store held)
+  stopped_from below r =
+      let kind : JobKind = ActiveFromRecovery level in
+      let capsule : CapsuleState = r.good.capsule in
+      let image : List ℕ = active_rebuilt kind (mine b held) capsule (layout_of fuses.provision b) in
+      let IsLeft : FusesState → Type 0 = λ f. (is_spent (store held) b ≡ true) ⊎ IsOpenOrMade b kind capsule.digest (active_rebuilt kind (mine b held) capsule (layout_of f.provision b)) new (counts_of held) in
+      let at_end = restored_stopped accepts b level Losing fuses p.at p.end ready p.stands.sized ending p.stands.size bytes p.stands.idle low (below_four level below) capsule (good_found_here r) in
+      subst IsLeft (fuses_one (store held) fuses r.fuses ready_held.provisioned r.provisioned)
+      (elim at_end [
+        | inl spent ↦ inl spent
+        | inr (inl same) ↦ inr (open_or_made b kind capsule.digest image held new (inl (p.kept.count ∙ same)))
+        | inr (inr (inl opened)) ↦ inr (open_or_made b kind capsule.digest image held new (inr (inl (p.kept.opened sized_end ∙ opened))))
+        | inr (inr (inr made)) ↦ inr (open_or_made b kind capsule.digest image held new (inr (inr (p.kept.mine ∙ made))))
+      ])
+
   expires_at : ExpiresAt accepts b level new notes (counts_of held)
   expires_at = record {
     held = expiry_behind;
@@ -249,6 +282,7 @@ module _ (accepts : Acceptance) (b : Bank) (level : ℕ) (first new : World) (ha
     restored = λ below calm. by_counts (λ image nv. (g : HasGoodRecovery b image nv accepts) → IsReleasedAt b level g.good.capsule.manifest.svn notes) (released_so below calm);
     locked = λ below calm cause. by_counts (λ image nv. HasBadRecovery cause b image nv accepts → IsNoted notes (what.Locked b (why.NoRecovery cause) (counts_of held))) (locked_so below calm cause);
     made = λ n. by_counts IsRestoredFrom (restored_from n);
+    stopped = λ below. by_counts IsStoppedFrom (stopped_from below);
   }
 
   -- a bank is locked for the want of a capsule by what stands in its recovery area then

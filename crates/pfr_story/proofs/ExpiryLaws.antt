@@ -1,5 +1,5 @@
 -- What comes of an expired watch of one bank, whose fuses can be read.
-use Rattle.std.proofs.Common.{◌≡◌, ◌∙◌, refl, sym, ap, subst, arith, ℕ, ◌≤◌, Bool, true, false, List, [], ◌∷◌, length, inl, inr, Result, Ok, Err}
+use Rattle.std.proofs.Common.{◌⊎◌, ◌≡◌, ◌∙◌, refl, sym, ap, subst, arith, ℕ, ◌≤◌, Bool, true, false, List, [], ◌∷◌, length, inl, inr, Result, Ok, Err}
 use Rattle.std.specs.Prelude.{nat_lt}
 use Rattle.pfr_flash.specs.Bytes.{AreBytes}
 use Rattle.pfr_flash.specs.Layout.{IsBankSize}
@@ -15,6 +15,11 @@ use Rattle.pfr_manifest.specs.declared.manifest.Manifest.{Manifest}
 use Rattle.pfr_capsule.specs.CapsuleState.{CapsuleState}
 use Rattle.pfr_capsule.specs.declared.fail.CapsuleFail.{CapsuleFail}
 use Rattle.pfr_auth.specs.declared.fail.ActiveFail.{ActiveFail}
+use Rattle.pfr_jobs.specs.LogState.{is_spent}
+use Rattle.pfr_jobs.specs.declared.job.JobKind.{JobKind}
+use Rattle.pfr_rebuilt.specs.ActiveCopying.{active_rebuilt}
+use Rattle.pfr_story.proofs.JobCounts.{done_on}
+use Rattle.pfr_story.proofs.StoppedLaws.{stopped_so}
 use Rattle.pfr_jobs.specs.Log.{open_job}
 use Rattle.pfr_jobs.specs.LogPlans.{IsKind}
 use Rattle.pfr_jobs.specs.declared.job.JobKind.TheVariants.{ActiveFromRecovery}
@@ -222,6 +227,20 @@ module _ (accepts : Acceptance) (b : Bank) (level : ℕ) (L : Type 0) (fuses : F
           good = ((λ e. cc), ((λ e. cc), cut));
           moved = moved;
         }) told n).1 refl
+
+    -- wherever it was stopped
+    pub restored_stopped : open_job (store start) b ≡ job.None → 1 ≤ level → nat_lt level 4 ≡ true → (capsule : CapsuleState) → found ≡ Ok capsule → (is_spent (store held) b ≡ true)
+        ⊎ (done_on b (story_of end) ≡ done_on b held) ⊎ (open_job (store (story_of end)) b ≡ job.Job (ActiveFromRecovery level) capsule.digest)
+        ⊎ (mine b (story_of end) ≡ active_rebuilt (ActiveFromRecovery level) (mine b held) capsule (layout_of fuses.provision b))
+    restored_stopped none low e capsule j =
+        let told : What = what.Restored b level in
+        let kind : JobKind = ActiveFromRecovery level in
+        let work_here : Ending b L (whole_job accepts b kind (not_recovery level) told held fuses capsule) held (story_of end) =
+        subst (λ (moves : List Move). Ending b L moves held (story_of end)) (work_is (Ok capsule) e j) behind in
+        elim (job_ends accepts b kind (not_recovery level) told held fuses capsule (made_from capsule j) sized none (valid_level level low e) L (story_of end) work_here) [
+          | inl p ↦ stopped_so accepts b kind (not_recovery level) told held fuses capsule (made_from capsule j) sized none (valid_level level low e) L (story_of end) p
+          | inr anew ↦ inr (inr (inr anew.image))
+        ]
 
     pub restored_anew : open_job (store start) b ≡ job.None → 1 ≤ level → AllMoved at end → nat_lt level 4 ≡ true → (capsule : CapsuleState) → found ≡ Ok capsule → IsNoted (added at end) (what.Restored b level)
         → IsAnew accepts b (ActiveFromRecovery level) fuses capsule (mine b held) (story_of end)

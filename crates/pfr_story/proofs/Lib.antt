@@ -116,6 +116,7 @@ pub mod RecoveryUpdateLaws
 pub mod RenewedTrust
 pub mod ChangeLaws
 pub mod Fronts
+pub mod StoppedLaws
 pub mod HeedCuts
 pub mod HeedLaws
 pub mod HeldLaws

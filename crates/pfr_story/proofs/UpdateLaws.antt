@@ -1,5 +1,5 @@
 -- An update of a bank that runs is judged before anything is written.
-use Rattle.std.proofs.Common.{◌≡◌, ◌≢◌, ◌∙◌, refl, sym, ap, subst, ℕ, Bool, true, false, List, [], ◌∷◌, length, inl, inr, Result, Ok, Err}
+use Rattle.std.proofs.Common.{◌⊎◌, ◌≡◌, ◌≢◌, ◌∙◌, refl, sym, ap, subst, ℕ, Bool, true, false, List, [], ◌∷◌, length, inl, inr, Result, Ok, Err}
 use Rattle.pfr_flash.specs.Bytes.{AreBytes}
 use Rattle.pfr_flash.specs.FlashState.{size_of}
 use Rattle.pfr_flash.specs.Layout.{IsBankSize}
@@ -20,6 +20,11 @@ use Rattle.pfr_auth.specs.Trusted.{IsTrusted}
 use Rattle.pfr_auth.specs.Judge.{judge_active}
 use Rattle.pfr_auth.specs.declared.fail.ActiveFail.{ActiveFail}
 use Rattle.pfr_auth.proofs.TrustedLaw.{trusted_judged}
+use Rattle.pfr_jobs.specs.LogState.{is_spent}
+use Rattle.pfr_jobs.specs.declared.job.JobKind.{JobKind}
+use Rattle.pfr_rebuilt.specs.ActiveCopying.{active_rebuilt}
+use Rattle.pfr_story.specs.Stopping.{IsOpenOrMade}
+use Rattle.pfr_story.proofs.StoppedLaws.{stopped_so, open_or_made}
 use Rattle.pfr_jobs.specs.Log.{open_job}
 use Rattle.pfr_jobs.specs.declared.job.JobKind.TheVariants.{ActiveFromStaging}
 use Rattle.pfr_jobs.specs.declared.job.OpenJob.TheVariants as job
@@ -353,6 +358,32 @@ module _ (accepts : Acceptance) (b : Bank) (dynamic : Bool) (fuses : FusesState)
               (sym (added_said first new (record { trace = with_held (work (Ok capsule)); is = whole_by (Ok capsule) j calm }))) notes,
         )
 
+    -- wherever it was stopped
+    abbrev IsStoppedFrom : List ℕ → List ℕ → Type 0
+    IsStoppedFrom image nv =
+        (g : HasGoodStaging b image nv accepts) → (is_spent nv b ≡ true)
+        ⊎ IsOpenOrMade b (ActiveFromStaging dynamic) g.good.capsule.digest (active_rebuilt (ActiveFromStaging dynamic) image g.good.capsule (layout_of g.fuses.provision b)) new (counts_in first)
+
+    stopped_from : IsStoppedFrom (mine b there) (store there)
+    stopped_from g =
+        let kind : JobKind = ActiveFromStaging dynamic in
+        let capsule : CapsuleState = g.good.capsule in
+        let j = found_good g in
+        let told : What = what.Updated b dynamic capsule.manifest.svn in
+        let from_here = made_from capsule j in
+        let IsLeft : FusesState → Type 0 = λ f. (is_spent (store there) b ≡ true) ⊎ IsOpenOrMade b kind capsule.digest (active_rebuilt kind (mine b there) capsule (layout_of f.provision b)) new (counts_in first) in
+        let image : List ℕ = active_rebuilt kind (mine b there) capsule (layout_of fuses.provision b) in
+        let work_here : Ending b (Unit {0}) (whole_job accepts b kind (not_staging dynamic) told there fuses capsule) there (story_of new) =
+        subst (λ (r : Result CapsuleState CapsuleFail). Ending b (Unit {0}) (work r) there (story_of new)) j behind in
+        subst IsLeft (fuses_one (store there) fuses g.fuses ready_there.provisioned g.provisioned)
+        (elim (job_ends accepts b kind (not_staging dynamic) told there fuses capsule from_here sized idle tt (Unit {0}) (story_of new) work_here) [
+          | inl p ↦ elim (stopped_so accepts b kind (not_staging dynamic) told there fuses capsule from_here sized idle tt (Unit {0}) (story_of new) p) [
+            | inl spent ↦ inl spent
+            | inr left ↦ inr (open_or_made b kind capsule.digest image there new left)
+          ]
+          | inr anew ↦ inr (open_or_made b kind capsule.digest image there new (inr (inr anew.image)))
+        ])
+
     -- it is refused, and released again
     abbrev IsRefused : CapsuleFail → Type 0
     IsRefused cause = (svn : ℕ) × IsNotedBehind (what.Refused b (refusing.Capsule cause)) (what.Released b svn (counts_in first)) (added first new)
@@ -364,6 +395,7 @@ module _ (accepts : Acceptance) (b : Bank) (dynamic : Bool) (fuses : FusesState)
       refuses = λ cause calm. by_counts (λ image nv. HasBadStaging cause b image nv accepts → IsRefused cause) (λ h. (t.manifest.svn, refused_so cause (found_bad cause h) calm));
       updated = λ svn n. by_counts (IsUpdatedFrom svn) (updated_from svn n);
       updates = λ calm. by_counts (λ image nv. (g : HasGoodStaging b image nv accepts) → UpdatesAndReleases g.good.capsule.manifest.svn) (λ g. updates_so calm g.good.capsule (found_good g));
+      stopped = by_counts IsStoppedFrom stopped_from;
     }
 
 -- ---- a whole step

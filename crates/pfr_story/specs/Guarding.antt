@@ -1,5 +1,5 @@
 -- What a step promises of the watches over the banks' boots.
-use Rattle.std.specs.Prelude.{◌≡◌, ℕ, ◌<◌, true, List, [], ◌∷◌, Option}
+use Rattle.std.specs.Prelude.{◌≡◌, ◌⊎◌, ℕ, ◌<◌, true, List, [], ◌∷◌, Option}
 use Rattle.pfr_flash.specs.declared.names.Bank.{Bank}
 use Rattle.pfr_flash.specs.declared.names.Bank.TheVariants as bank
 use Rattle.pfr_flash.specs.declared.names.Counts.{Counts}
@@ -7,7 +7,9 @@ use Rattle.pfr_flash.specs.declared.names.Device.{Device}
 use Rattle.pfr_flash.specs.FlashState.{upto}
 use Rattle.pfr_engine.specs.Acceptance.{Acceptance}
 use Rattle.pfr_fuses.specs.RootSlot.{layout_of}
+use Rattle.pfr_jobs.specs.LogState.{is_spent}
 use Rattle.pfr_jobs.specs.declared.job.JobKind.TheVariants.{ActiveFromRecovery}
+use Rattle.pfr_rebuilt.specs.ActiveCopying.{active_rebuilt}
 use Rattle.pfr_capsule.specs.declared.fail.CapsuleFail.{CapsuleFail}
 use Rattle.pfr_recoverable.specs.Recoverable.{HasGoodRecovery}
 use Rattle.pfr_script.specs.declared.event.Event.{Event}
@@ -23,6 +25,7 @@ use Rattle.pfr_story.specs.World.{World, state_at, added}
 use Rattle.pfr_story.specs.Plans.{level_after}
 use Rattle.pfr_story.specs.Turn.{guards_at, pass_note}
 use Rattle.pfr_story.specs.Causes.{HasBadRecovery}
+use Rattle.pfr_story.specs.Stopping.{IsOpenOrMade}
 use Rattle.pfr_story.specs.Promises.{AtCounts, IsExpiring, IsAtStage, count_at}
 use Rattle.pfr_story.specs.Making.{IsMadeFrom}
 use Rattle.pfr_story.specs.Bringing.{IsCalm, IsNotedBehind}
@@ -59,6 +62,10 @@ pub record ExpiresAt (accepts : Acceptance) (which : Bank) (level : ℕ) (new : 
   -- What a restore leaves is the image rebuilt at this level from that capsule.
   pub made : IsNoted notes (Restored which level) → (r : AtCounts (λ image nv. HasGoodRecovery which image nv accepts) which at new)
       × IsMadeFrom accepts which (ActiveFromRecovery level) (upto (state_at (device_of which) new) (count_at which at)) r.good.capsule (layout_of r.fuses.provision which) new
+  -- Whatever failed, with a good capsule there the bank is left as it was, or its job is open, or the image made, unless the log was spent.
+  pub stopped : level < 4 → (r : AtCounts (λ image nv. HasGoodRecovery which image nv accepts) which at new) → AtCounts (λ image nv. is_spent nv which ≡ true) which at new
+      ⊎ IsOpenOrMade which (ActiveFromRecovery level) r.good.capsule.digest
+      (active_rebuilt (ActiveFromRecovery level) (upto (state_at (device_of which) new) (count_at which at)) r.good.capsule (layout_of r.fuses.provision which)) new at
 
 pub record ExpiresBy (e : Event) (accepts : Acceptance) (which : Bank) (old new : World) : Type 0 where
   -- Its watch is noted to expire always where it does.

@@ -16,6 +16,7 @@ pub mod Promises
 pub mod Filtering
 pub mod Bringing
 pub mod Making
+pub mod Stopping
 pub mod Guarding
 pub mod Updating
 pub mod Spans

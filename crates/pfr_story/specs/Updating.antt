@@ -1,5 +1,5 @@
 -- What a step promises of an update of a bank's active image.
-use Rattle.std.specs.Prelude.{◌≡◌, ◌≢◌, ℕ, Bool, true, false, List}
+use Rattle.std.specs.Prelude.{◌≡◌, ◌≢◌, ◌⊎◌, ℕ, Bool, true, false, List}
 use Rattle.pfr_flash.specs.declared.names.Bank.{Bank}
 use Rattle.pfr_flash.specs.declared.names.Counts.{Counts}
 use Rattle.pfr_flash.specs.FlashState.{upto}
@@ -7,7 +7,9 @@ use Rattle.pfr_flash.specs.declared.names.Device.{Device}
 use Rattle.pfr_flash.specs.declared.names.Device.TheVariants.{Nv}
 use Rattle.pfr_engine.specs.Acceptance.{Acceptance}
 use Rattle.pfr_fuses.specs.RootSlot.{layout_of}
+use Rattle.pfr_jobs.specs.LogState.{is_spent}
 use Rattle.pfr_jobs.specs.declared.job.JobKind.TheVariants.{ActiveFromStaging}
+use Rattle.pfr_rebuilt.specs.ActiveCopying.{active_rebuilt}
 use Rattle.pfr_capsule.specs.declared.fail.CapsuleFail.{CapsuleFail}
 use Rattle.pfr_script.specs.declared.event.Intent.TheVariants.{Active, Full}
 use Rattle.pfr_script.specs.declared.event.Event.{Event}
@@ -20,6 +22,7 @@ use Rattle.pfr_story.specs.Story.{device_of}
 use Rattle.pfr_story.specs.World.{World, counts_in, state_at, added}
 use Rattle.pfr_story.specs.Causes.{HasBadStaging, HasGoodStaging}
 use Rattle.pfr_story.specs.Making.{IsMadeFrom}
+use Rattle.pfr_story.specs.Stopping.{IsOpenOrMade}
 use Rattle.pfr_story.specs.Promises.{AtCounts, Runs, count_at}
 use Rattle.pfr_story.specs.Bringing.{IsCalm, IsNotedBehind}
 
@@ -38,6 +41,10 @@ pub record UpdatesAt (accepts : Acceptance) (which : Bank) (dynamic : Bool) (new
       × IsMadeFrom accepts which (ActiveFromStaging dynamic) (upto (state_at (device_of which) new) (count_at which at)) g.good.capsule (layout_of g.fuses.provision which) new
   pub updates : IsCalm which notes → (g : AtCounts (λ image nv. HasGoodStaging which image nv accepts) which at new)
       → (then : Counts) × IsNotedBehind (Updated which dynamic g.good.capsule.manifest.svn) (Released which g.good.capsule.manifest.svn then) notes
+  -- Whatever failed, with a good capsule there the bank is left as it was, or its job is open, or the image made, unless the log was spent.
+  pub stopped : (g : AtCounts (λ image nv. HasGoodStaging which image nv accepts) which at new) → AtCounts (λ image nv. is_spent nv which ≡ true) which at new
+      ⊎ IsOpenOrMade which (ActiveFromStaging dynamic) g.good.capsule.digest
+      (active_rebuilt (ActiveFromStaging dynamic) (upto (state_at (device_of which) new) (count_at which at)) g.good.capsule (layout_of g.fuses.provision which)) new at
 
 pub record UpdatesBy (accepts : Acceptance) (which : Bank) (dynamic : Bool) (old new : World) : Type 0 where
   pub updates : UpdatesAt accepts which dynamic new (added old new) (counts_in old)
