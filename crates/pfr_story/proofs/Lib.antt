@@ -129,4 +129,5 @@ pub mod InWorkRules
 pub mod InWorkWalks
 pub mod KeptWalks
 pub mod InWorkLaws
+pub mod PowerOrderLaws
 pub mod ScriptRunLaws
