@@ -133,5 +133,6 @@ pub mod InWorkRules
 pub mod InWorkWalks
 pub mod KeptWalks
 pub mod InWorkLaws
+pub mod PowerOrderLaws
 pub mod ScriptRunLaws
 pub mod PromiseLaws

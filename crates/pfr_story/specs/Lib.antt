@@ -30,6 +30,7 @@ pub mod Apart
 pub mod EachFault
 pub mod OneSlot
 pub mod InWork
+pub mod PowerOrder
 pub mod CalmRun
 pub mod JobPromises
 pub mod Contents
