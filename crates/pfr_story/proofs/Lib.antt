@@ -120,5 +120,6 @@ pub mod HeedLaws
 pub mod SafePlanLaws
 pub mod WholeLaws
 pub mod PowerRunLaws
+pub mod JoblessLaws
 pub mod ScriptFaultLaws
 pub mod ScriptRunLaws
