@@ -36,7 +36,7 @@ use Rattle.pfr_story.proofs.SafetyLaws.{image_operated}
 use Rattle.pfr_story.proofs.SpanLaws.{past_upto, AllOpen, AllEnded, open_none, open_map, ended_map, ended_append, ended_closes, opens_push, ended_push, IsReleaseOf, noted_all, none_or_running, upto_last}
 use Rattle.pfr_story.proofs.Traces.{Traced-keeps}
 use Rattle.pfr_story.proofs.TrustedRunLaws.{IsUnderway}
-use Rattle.pfr_story.proofs.WholeLaws.{sized_later, Reached-carries}
+use Rattle.pfr_story.proofs.WholeLaws.{sized_later, AnyItem, any_items, Reached-carries}
 
 each_ended : (P : Counts → Counts → Type 0) (spans : List (Counts × Counts)) → AllEnded P spans → AllByRecursion (λ span. P span.0 span.1) spans
 each_ended P [] p = tt
@@ -82,7 +82,7 @@ module _ (which : Bank) where
     omega (arith, p.0, longer nv op),
     λ n low high. elim (cases_lt (length nv.ops) n) [
       | inl last ↦ subst IsNone (sym (upto_last (with_op nv op) n (omega (arith, last, high, longer nv op))))
-        (keeps (subst IsNone (upto_last nv (length nv.ops) refl) (p.1 (length nv.ops) p.0 (omega arith))))
+          (keeps (subst IsNone (upto_last nv (length nv.ops) refl) (p.1 (length nv.ops) p.0 (omega arith))))
       | inr before ↦ subst IsNone (sym (upto_longer nv op n before)) (p.1 n low before)
     ],
   )
@@ -111,9 +111,9 @@ module _ (which : Bank) where
         closed = ended_map (IsIdleSpan story.nv) (IsIdleSpan later) (λ begin end q. span_longer story.nv op begin end q) (ended_from which [] story.notes) p.closed;
         opened = elim (none_or_running which story.notes (AllOpen (IsIdleFrom later) opens)
             (λ runs. open_map (IsIdleFrom story.nv) (IsIdleFrom later) (λ begin q. open_longer story.nv op begin (λ none. subst IsNone (sym is) (g p.size runs none)) q) opens p.opened)) [
-          | inl none ↦ open_none (IsIdleFrom later) opens none
-          | inr all ↦ all
-        ];
+              | inl none ↦ open_none (IsIdleFrom later) opens none
+              | inr all ↦ all
+            ];
       }
   idle_spans (Asks at) story g p = p
 
@@ -147,5 +147,5 @@ module _ (accepts : Acceptance) (tears : List (List ℕ)) (first : World) (bmc :
       → (which : Bank) → RunsJobless which (story_of new)
   Reached-jobless items new u held r none which =
       jobless_spans which (story_of new)
-      (Reached-carries accepts tears first bmc pch size (λ done w. IdleSpans which (story_of w)) (λ done i old mid under bytes did p. did_jobless which i old mid under bytes did p)
-      [] items first new u held r (none_noted which none))
+      (Reached-carries accepts tears first bmc pch size AnyItem (λ done w. IdleSpans which (story_of w)) (λ done i old mid any under bytes did p. did_jobless which i old mid under bytes did p)
+      [] items first new (any_items items) u held r (none_noted which none))

@@ -121,5 +121,6 @@ pub mod SafePlanLaws
 pub mod WholeLaws
 pub mod PowerRunLaws
 pub mod JoblessLaws
+pub mod ChangeRunLaws
 pub mod ScriptFaultLaws
 pub mod ScriptRunLaws
