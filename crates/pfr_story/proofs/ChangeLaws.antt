@@ -30,8 +30,8 @@ use Rattle.pfr_story.specs.Recovery.{moments_with, moments_of}
 use Rattle.pfr_story.specs.Safety.{AllGood, AllSafe}
 use Rattle.pfr_story.specs.Story.{Story, Move, Says, Does, Asks, after, noted, operated, counts_of, called}
 use Rattle.pfr_story.specs.Turn.{begun, Turn}
-use Rattle.pfr_story.specs.World.{World, story_of, AreDevices, added}
-use Rattle.pfr_story.proofs.Bytes.{HaveBytes, have_bytes}
+use Rattle.pfr_story.specs.World.{World, story_of, added}
+use Rattle.pfr_story.proofs.Bytes.{HaveBytes}
 use Rattle.pfr_story.proofs.ChangedFuses.{floor_grows}
 use Rattle.pfr_story.proofs.ChangeWalks.{Changed, Changing, brought_changes, expired_changes, updating_changes}
 use Rattle.pfr_story.proofs.GrownSteps.{Turn-grown}
@@ -47,7 +47,7 @@ abbrev first_what : What → List Note → What
 first_what other [] = other
 first_what other (note ∷ notes) = note.what
 
-abbrev rest_of : List Note → List Note
+abbrev pub rest_of : List Note → List Note
 rest_of [] = []
 rest_of (note ∷ notes) = notes
 
@@ -55,7 +55,7 @@ ended_by : (trace : List Move) (story last : Story) → last ≡ after trace sto
 ended_by trace story last is = subst (λ (s : Story). Precedes story s) (sym is) (Precedes-after story story trace (Precedes-refl story))
 
 -- what is true of the store at a count of its operations is so at each later one, from this count on
-abbrev StaysFrom : (List ℕ → Type 0) → ℕ → World → Type 0
+abbrev pub StaysFrom : (List ℕ → Type 0) → ℕ → World → Type 0
 StaysFrom P from new = (m n : ℕ) → from ≤ m → m ≤ n → n ≤ length new.nv.ops → P (upto new.nv m) → P (upto new.nv n)
 
 module _ (P : List ℕ → Type 0) (that : What) (tells : (story : Story) → Changed that story → P (store story)) (new : World) (from : ℕ) (stays : StaysFrom P from new) where
@@ -145,7 +145,7 @@ pub Turn-changed : (accepts : Acceptance) (e : Event) (old new : World) → Turn
 Turn-changed accepts e old new t held bmc pch nv spans = Turn-goes Changing accepts (λ root story. Unit {0}) (change_steps accepts) e old new t held bmc pch nv spans (provided_any e (story_of (begun e old)))
 
 -- Behind an update of the recovery area the floor stays as high, and a key that was cancelled stays so.
-pub Turn-changes : (accepts : Acceptance) (e : Event) (old new : World) → Turn accepts e old new → AreDevices new → IsBankSize (size_of old.bmc) → IsBankSize (size_of old.pch) → size_of old.nv ≡ 32768
+pub Turn-changes : (accepts : Acceptance) (e : Event) (old new : World) → Turn accepts e old new → HaveBytes new → IsBankSize (size_of old.bmc) → IsBankSize (size_of old.pch) → size_of old.nv ≡ 32768
     → (¬ AreOff old → IsKnownSlot e) → ((which : Bank) → HasTrustedSpans accepts which (story_of old)) → ChangesFuses old new
 Turn-changes accepts e old new t held bmc pch nv slot spans = record {
   raised = λ which svn n.
@@ -155,7 +155,7 @@ Turn-changes accepts e old new t held bmc pch nv slot spans = record {
 }
   where
     traced : Traced Changing (begun e old) new
-    traced = Turn-changed accepts e old new t (have_bytes new held) bmc pch nv spans
+    traced = Turn-changed accepts e old new t held bmc pch nv spans
 
     grows : NeverGoesBack old.nv new.nv
     grows = (Turn-grown accepts old new e nv held slot t).0

@@ -16,11 +16,11 @@ use Rattle.pfr_story.specs.Plans.{store}
 use Rattle.pfr_story.specs.Promises.{AreOff, IsKnownSlot}
 use Rattle.pfr_story.specs.Story.{Story}
 use Rattle.pfr_story.specs.Turn.{off_course, boot_course, ignored, is_idle, taken, begun, Turn}
-use Rattle.pfr_story.specs.World.{World, story_of, AreDevices}
+use Rattle.pfr_story.specs.World.{World, story_of}
 use Rattle.pfr_story.proofs.BringAllowed.{AllowsUpdate}
 use Rattle.pfr_story.proofs.BringRules.{Any}
 use Rattle.pfr_story.proofs.BusRules.{AllowsSpi, spi_safe, smbus_safe}
-use Rattle.pfr_story.proofs.Bytes.{have_bytes, images_then}
+use Rattle.pfr_story.proofs.Bytes.{HaveBytes, images_then}
 use Rattle.pfr_story.proofs.Courses.{Turn-cases}
 use Rattle.pfr_fuses.proofs.StaysLemmas.{row_in_sector}
 use Rattle.pfr_story.proofs.JobGrowth.{Growing, grown, own_growing, jobs_grow, jobs_grow_told, cleared_grown, migration_grows, provision_grows}
@@ -81,11 +81,11 @@ module _ (accepts : Acceptance) (old new : World) where
   taken_grown (event.Update b intent) size whole slot on t =
       update_traced Growing growing_banks accepts b intent (begun (event.Update b intent) old) new (growing_update b) size t
 
-  module _ (e : Event) (size : size_of old.nv ≡ 32768) (held : AreDevices new) (slot : ¬ AreOff old → IsKnownSlot e) (t : Turn accepts e old new) where
+  module _ (e : Event) (size : size_of old.nv ≡ 32768) (held : HaveBytes new) (slot : ¬ AreOff old → IsKnownSlot e) (t : Turn accepts e old new) where
     whole_first : IsWhole (story_of old)
     whole_first =
         let first : World = begun e old in
-        (length-play old.nv.start old.nv.ops ∙ size, images_then (story_of first) new (precedes_moved first new (Turn-moved accepts e old new t)) (have_bytes new held) device.Nv)
+        (length-play old.nv.start old.nv.ops ∙ size, images_then (story_of first) new (precedes_moved first new (Turn-moved accepts e old new t)) held device.Nv)
 
     pub Turn-growing : Traced Growing (begun e old) new
     Turn-growing = elim (Turn-cases accepts e old new t) [

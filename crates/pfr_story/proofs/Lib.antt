@@ -120,5 +120,7 @@ pub mod HeedLaws
 pub mod SafePlanLaws
 pub mod WholeLaws
 pub mod PowerRunLaws
+pub mod JoblessLaws
+pub mod ChangeRunLaws
 pub mod ScriptFaultLaws
 pub mod ScriptRunLaws

@@ -1,6 +1,8 @@
 -- Laws of whole runs that begin with no note: a bank that runs where an item begins is trusted there.
 use Rattle.std.proofs.Common.{◌≡◌, ◌∙◌, ℕ, ◌+◌, List, [], ◌∷◌, length, sym, ap, subst}
+use Rattle.std.specs.List.{All}
 use Rattle.std.specs.Prelude.{slice_index_or}
+use Rattle.std.proofs.lemmas.List.Elements.{All-head, All-tail}
 use Rattle.pfr_flash.specs.FlashState.{size_of}
 use Rattle.pfr_flash.specs.Layout.{IsBankSize}
 use Rattle.pfr_flash.specs.declared.names.Bank.{Bank}
@@ -56,8 +58,7 @@ module _ (accepts : Acceptance) (tears : List (List ℕ)) where
       subst (λ (s : Story). HasTrustedSpans accepts which s) (sym (ap story_of is ∙ armed_story arm (slice_index_or tears arm.tear []) old))
       (spans_item accepts which (old.item + 1) (story_of old) (h which))
 
-  module _ (Q : Item → World → World → Type 0) (first : World) (bmc : IsBankSize (size_of first.bmc)) (pch : IsBankSize (size_of first.pch)) (size : size_of first.nv ≡ 32768)
-      (holds : (i : Item) (old new : World) → IsUnderway accepts first old → HaveBytes new → Did accepts tears i old new → Q i old new) where
+  module _ (first : World) (bmc : IsBankSize (size_of first.bmc)) (pch : IsBankSize (size_of first.pch)) (size : size_of first.nv ≡ 32768) where
     -- an item leaves a world that the run can go on from
     pub did_underway : (i : Item) (old new : World) → HaveBytes new → Did accepts tears i old new → IsUnderway accepts first old → IsUnderway accepts first new
     did_underway i old new held did u = record {
@@ -67,10 +68,15 @@ module _ (accepts : Acceptance) (tears : List (List ℕ)) where
           (subst (λ (start : List ℕ). IsBankSize (length start)) (sym u.later.precedes.pch.start) pch) (ap (λ (start : List ℕ). length start) u.later.precedes.nv.start ∙ size) did u.trusted;
     }
 
-    -- What holds of each item besides holds of it in the run, where the devices had bytes.
-    pub Reached-with : (items : List Item) (old new : World) → IsUnderway accepts first old → HaveBytes new → Reached (Did accepts tears) items old new
+    -- What holds besides of each item that fits holds of it in the run, where all fit and the devices had bytes.
+    pub Reached-with : (Fits : Item → Type 0) (Q : Item → World → World → Type 0)
+        → ((i : Item) (old new : World) → Fits i → IsUnderway accepts first old → HaveBytes new → Did accepts tears i old new → Q i old new)
+        → (items : List Item) (old new : World) → All Fits items → IsUnderway accepts first old → HaveBytes new → Reached (Did accepts tears) items old new
         → Reached (λ i a b. Did accepts tears i a b × Q i a b) items old new
-    Reached-with [] old new u held r = r
-    Reached-with (i ∷ items) old new u held (mid, did, r) =
-        let bytes = have_before mid new (Reached-later accepts tears items mid new r).precedes held in
-        (mid, (did, holds i old mid u bytes did), Reached-with items mid new (did_underway i old mid bytes did u) held r)
+    Reached-with Fits Q holds [] old new fit u held r = r
+    Reached-with Fits Q holds (i ∷ items) old new fit u held (mid, did, r) =
+        let bytes = have_before mid new (Reached-later accepts tears items mid new r).precedes held in (
+          mid,
+          (did, holds i old mid (All-head Fits i items fit) u bytes did),
+          Reached-with Fits Q holds items mid new (All-tail Fits i items fit) (did_underway i old mid bytes did u) held r,
+        )
