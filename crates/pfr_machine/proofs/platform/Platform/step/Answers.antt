@@ -87,10 +87,10 @@ pub returns-clause-filters : goal.returns-clause-filters
 returns-clause-filters g c = by_turn c.work-done.result c.work-done.ensures.turn (λ t. Turn-filters _ c.args.event.now _ _ t c.known.ensures.trusted)
 
 pub returns-clause-grows : goal.returns-clause-grows
-returns-clause-grows g c = by_both c.work-done.result c.work-done.ensures.turn c.work-done.ensures.spelled (λ t slot. let s = sizes_before _ c.args.event.now _ _ t c.known-2.ensures.sizes in Turn-grows _ c.args.event.now _ _ s.nv c.known-2.ensures.bytes slot t)
+returns-clause-grows g c = by_both c.work-done.result c.work-done.ensures.turn c.work-done.ensures.spelled (λ t slot. let s = sizes_before _ c.args.event.now _ _ t c.known-2.ensures.sizes in Turn-grows _ c.args.event.now _ _ s.nv (have_bytes _ c.known-2.ensures.bytes) slot t)
 
 pub returns-clause-provision : goal.returns-clause-provision
-returns-clause-provision g c = by_both c.work-done.result c.work-done.ensures.turn c.work-done.ensures.spelled (λ t slot. let s = sizes_before _ c.args.event.now _ _ t c.known-2.ensures.sizes in Turn-keeps _ c.args.event.now _ _ s.nv c.known-2.ensures.bytes slot t)
+returns-clause-provision g c = by_both c.work-done.result c.work-done.ensures.turn c.work-done.ensures.spelled (λ t slot. let s = sizes_before _ c.args.event.now _ _ t c.known-2.ensures.sizes in Turn-keeps _ c.args.event.now _ _ s.nv (have_bytes _ c.known-2.ensures.bytes) slot t)
 
 pub returns-clause-dark : goal.returns-clause-dark
 returns-clause-dark g c = by_both c.work-done.result c.work-done.ensures.turn c.work-done.ensures.dark (λ t dark. Turn-dark _ c.args.event.now _ _ t (Turn-lost _ c.args.event.now _ _ t) dark)
@@ -120,7 +120,7 @@ pub returns-clause-cancels : goal.returns-clause-cancels
 returns-clause-cancels g c = by_turn c.work-done.result c.work-done.ensures.turn (λ t. let s = sizes_before _ c.args.event.now _ _ t c.known-2.ensures.sizes in Turn-cancels _ c.args.event.now _ _ t s.nv c.known.ensures.trusted)
 
 pub returns-clause-changes : goal.returns-clause-changes
-returns-clause-changes g c = by_both c.work-done.result c.work-done.ensures.turn c.work-done.ensures.spelled (λ t slot. let s = sizes_before _ c.args.event.now _ _ t c.known-2.ensures.sizes in Turn-changes _ c.args.event.now _ _ t c.known-2.ensures.bytes s.bmc s.pch s.nv slot c.known.ensures.spans)
+returns-clause-changes g c = by_both c.work-done.result c.work-done.ensures.turn c.work-done.ensures.spelled (λ t slot. let s = sizes_before _ c.args.event.now _ _ t c.known-2.ensures.sizes in Turn-changes _ c.args.event.now _ _ t (have_bytes _ c.known-2.ensures.bytes) s.bmc s.pch s.nv slot c.known.ensures.spans)
 
 pub returns-clause-updates_recovery : goal.returns-clause-updates_recovery
 returns-clause-updates_recovery g c = by_turn c.work-done.result c.work-done.ensures.turn (λ t. let s = sizes_before _ c.args.event.now _ _ t c.known-2.ensures.sizes in Turn-updates_recovery _ c.args.event.now _ _ t (have_bytes _ c.known-2.ensures.bytes) s.bmc s.pch s.nv c.known.ensures.trusted (λ which. (c.known.ensures.spans which).idle) (λ which. (c.known.ensures.spans which).settled))
