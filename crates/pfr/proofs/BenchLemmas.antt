@@ -48,14 +48,14 @@ use Rattle.pfr.specs.Promises.{TellsOfFaults, TellsIn, IsUnheard, IsRunWith, Has
 use Rattle.pfr.specs.declared.finished.Bench.{Bench}
 
 -- ---- a world, but for the number of its items, the memory for notes, and the guards
-abbrev as_if : World → ℕ → ℕ → Guards → World
+abbrev pub as_if : World → ℕ → ℕ → Guards → World
 as_if w item spare guards = record { bmc = w.bmc; pch = w.pch; nv = w.nv; item = item; notes = record { list = w.notes.list; spare = spare }; guards = guards }
 
 looks : (there here : World) → StandsAs there here → here ≡ as_if there here.item here.notes.spare here.guards
 looks there here s = rw (← s.bmc, ← s.pch, ← s.nv, ← s.notes) refl
 
 -- what its devices held and were given are bytes
-held_at : (bench : Bench) (end : World) → StandsAs end (end_of bench) → HaveBytes end
+pub held_at : (bench : Bench) (end : World) → StandsAs end (end_of bench) → HaveBytes end
 held_at bench end left = have_bytes end (record {
   bmc = subst (λ (d : FlashState). HoldsBytes d) left.bmc bench.bmc.bytes;
   pch = subst (λ (d : FlashState). HoldsBytes d) left.pch bench.pch.bytes;
@@ -86,11 +86,11 @@ faults_as old w item spare guards p = record { flash = flash; store = λ which a
     flash bank.Pch at noted = p.flash bank.Pch at noted
 
 -- ---- the promises of a bench
-fresh_start : (bench : Bench) → HasRun bench → IsFresh (fresh_of bench)
+pub fresh_start : (bench : Bench) → HasRun bench → IsFresh (fresh_of bench)
 fresh_start bench has = record { notes = refl; size = has.sizes.nv }
 
 -- what holds of worlds that stand as the end of the run does holds of the bench
-of_end : (P : World → Type 0) (bench : Bench) (has : HasRun bench) → P (as_if has.run.end (end_of bench).item (end_of bench).notes.spare (end_of bench).guards) → P (end_of bench)
+pub of_end : (P : World → Type 0) (bench : Bench) (has : HasRun bench) → P (as_if has.run.end (end_of bench).item (end_of bench).notes.spare (end_of bench).guards) → P (end_of bench)
 of_end P bench has p = subst P (sym (looks has.run.end (end_of bench) has.run.left)) p
 
 has_spans : (bench : Bench) → HasRun bench → HasReleasedSpans bench
@@ -191,7 +191,7 @@ brings_up bench has =
     (underway_trusted accepts (fresh_of bench) old underway) underway.trusted held did)
 
 -- ---- of each bench
-of_each : (P : Bench → Type 0) → ((bench : Bench) → HasRun bench → P bench) → (option : Option Bench) → IfSome option HasRun → IfSome option P
+pub of_each : (P : Bench → Type 0) → ((bench : Bench) → HasRun bench → P bench) → (option : Option Bench) → IfSome option HasRun → IfSome option P
 of_each P law None has = tt
 of_each P law (Some bench) has = law bench has
 

@@ -11,6 +11,7 @@ pub mod PlayedLemmas
 pub mod RunLemmas
 pub mod WordLemmas
 pub mod BenchLemmas
+pub mod HeadlineLemmas
 pub mod StoringLemmas
 pub mod AnswerLemmas
 pub mod MakingLemmas

@@ -8,6 +8,7 @@ pub mod Loading
 pub mod Faults
 pub mod Benches
 pub mod Promises
+pub mod Headline
 pub mod Played
 pub mod Storing
 pub mod Making

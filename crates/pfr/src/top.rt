@@ -5,6 +5,7 @@ ghost use Rattle.pfr_flash.specs.FlashState.{Rose};
 ghost use Rattle.pfr.specs.Benches.{HasRun};
 ghost use Rattle.pfr.specs.Checks.{CheckAnswers};
 ghost use Rattle.pfr.specs.Faults.{IsFaultless};
+ghost use Rattle.pfr.specs.Headline.{CountsNeverFall, PowerOnsReleaseIn, RecoversThroughout};
 ghost use Rattle.pfr.specs.Judging.{Keeps, Breaks, verdict};
 ghost use Rattle.pfr.specs.Promises.{HasReleasedSpans, ReleasesTrustedBanks, HasDueLocks, BringsBanksUp, KeepsFuses, StaysProvisioned, TellsOfFaults};
 ghost use Rattle.pfr.specs.Makes.{KeepsAllBut, MakingAnswers};
@@ -126,6 +127,12 @@ pub fn pfr<S: Shelf, K: Sink>(
     // No floor and no cancellation goes back, and a provision stays.
     ensures grows { IfSome result.bench KeepsFuses }
     ensures provision { IfSome result.bench StaysProvisioned }
+
+    // A bank that could be recovered at one moment could be at each later one, which the counts of the notes follow; and
+    // where it was held at a power-on, that released it, unless a device failed.
+    ensures counted { IfSome result.bench CountsNeverFall }
+    ensures recoverable { IfSome result.bench RecoversThroughout }
+    ensures powers { IfSome result.bench PowerOnsReleaseIn }
 
     // No note's cause is a failed device.
     ensures texts { IfSome result.bench (λ bench. AllText bench.notes.list) }

@@ -1,6 +1,7 @@
 use Rattle.pfr.specs.Runs.{outside}
 use Rattle.pfr.specs.Top.{asked}
 use Rattle.pfr.proofs.BenchLemmas.{each_spans, each_releases, each_locks, each_brings_up, each_told, each_grows, each_provision}
+use Rattle.pfr.proofs.HeadlineLemmas.{each_counted, each_recoverable, each_powers}
 use Rattle.pfr.proofs.CommandLemmas.{breach, complete}
 use Rattle.pfr.proofs.TopLemmas.{files_spare, files_stay, others_kept, output_and_line}
 use Rattle.pfr.proofs.WorthLemmas.{worth_of}
@@ -90,3 +91,12 @@ returns-clause-provision g c = each_provision c.serve-finished.result.bench c.se
 
 pub returns-clause-told : goal.returns-clause-told
 returns-clause-told g c = each_told c.serve-finished.result.bench c.serve-finished.ensures.bench
+
+pub returns-clause-counted : goal.returns-clause-counted
+returns-clause-counted g c = each_counted c.serve-finished.result.bench c.serve-finished.ensures.bench
+
+pub returns-clause-recoverable : goal.returns-clause-recoverable
+returns-clause-recoverable g c = each_recoverable c.serve-finished.result.bench c.serve-finished.ensures.bench
+
+pub returns-clause-powers : goal.returns-clause-powers
+returns-clause-powers g c = each_powers c.serve-finished.result.bench c.serve-finished.ensures.bench
