@@ -11,8 +11,16 @@ definition.
 
 What is taken is each name in scope that a definition writes, so it may be more than is needed, as where a variable has the name
 of a definition. A struct that has a model is shown with the value that contracts see of it, and its fields aren't followed: how
-they stand for that value is a matter of the crate's proofs. Of a value in the signature only the fields are followed that the
-clause names. What belongs to the kit is named at the end, and not printed.
+they stand for that value is a matter of the crate's proofs. What belongs to the kit is named at the end, and not printed. A call is shown
+by the first line of its comment, its signature, its conditions and the clause.
+
+A struct that stands in the call's signature, one in a field of such a struct, and a record that is the value of such a one is
+followed only in those fields that the clause or a definition that it rests on names. The others may be left out, as no meaning
+depends on them: values of such a type are only handed on, to a definition that takes one, or asked for a field. Where one is
+used in another way, as compared, built, taken apart by its shape or ranged over, the type is followed whole, with the types of
+its fields; and so it is wherever this tool can't tell. A field that is left out may be a premise that each value of the type
+keeps, as that a device holds bytes: without it the clause reads no stronger. The types that are followed in part are named at
+the end with the fields that are followed.
 
 Lines are counted that are neither blank nor the name of a file.
 """
@@ -357,7 +365,7 @@ def functions_of(file):
         generics = bounds_of((named.group(1) or "") if named else "")
         generics.update(bounds_of(own.group(1)) if own else {})
         scope = ghost_scope(impl, "", file.scope, True)
-        signature = re.split(r"\n\s*(?:requires|ensures)\b", head)[0]
+        signature = re.split(r"\n\s*(?:requires|ensures|//)", head)[0]
         owner = named.group(2) if named else ""
         above = documented(file.lines, at)
         functions.append(Function(file, owner, found.group(1), signature, clauses_of(head), generics, scope, above))
@@ -515,7 +523,7 @@ def followed_types(project, function, term, value, kind):
     paths = [file.type_path(word) for word in re.findall(r"\b[A-Z]\w*", kind)]
     types = [project.rust_type(file.crate, path) for path in paths]
     known = [each for each in types if each]
-    if fields is None:
+    if fields is None or all(re.search(r"(?m)^pub struct \w+ \{$", each.text) for each in known):
         return known
     return [
         each if each.modelled else each._replace(types=field_types(project, each, fields), terms="") for each in known
@@ -536,7 +544,7 @@ def asked_definition(project, function, clause):
     shown = [each for each in function.clauses if each[0] == "requires"] + [clause]
     indent = " " * (len(function.signature) - len(function.signature.lstrip()))
     lines = ["%s    %s {%s}" % (indent, " ".join(filter(None, (kind, name))), term) for kind, name, term in shown]
-    text = "\n".join(function.above + [function.signature] + lines)
+    text = "\n".join(function.above[:1] + [function.signature] + lines)
     term = "\n".join(each[2] for each in shown)
     values = [item for item in values_of(function).items() if any(parts[0] == item[0] for parts in words_of(term))]
     brought = [each for value, kind in values for each in followed_types(project, function, term, value, kind)]
@@ -547,7 +555,7 @@ def asked_definition(project, function, clause):
     return asked, unique(each for each in brought if each)
 
 
-def reached(project, asked_clauses):
+def reached(project, asked_clauses, parts):
     """All definitions that clauses rest on, the clauses too, each with what it rests on."""
     graph, waiting = {}, []
     for asked, brought in asked_clauses:
@@ -556,9 +564,366 @@ def reached(project, asked_clauses):
     while waiting:
         definition = waiting.pop()
         if key_of(definition) not in graph:
-            graph[key_of(definition)] = (definition, project.needed(definition))
+            graph[key_of(definition)] = (definition, project.needed(parts.followed(definition)))
             waiting += graph[key_of(definition)][1]
     return graph
+
+
+def reached_in_part(project, calls):
+    """The same, with structs followed in those fields alone that are named: what is named grows until nothing more is."""
+    asked_clauses = [asked_definition(project, *call) for call in calls]
+    parts, before = Parts(project, calls), None
+    while parts.known() != before:
+        before = parts.known()
+        graph = reached(project, asked_clauses, parts)
+        for definition, _ in list(graph.values()):
+            parts.take(definition)
+    return asked_clauses, graph, parts
+
+
+# Types that are followed in part
+
+
+# A type of which only some fields may be followed: its fields with what is known of their types.
+Struct = namedtuple("Struct", "definition fields file")
+SIGN = re.compile(r"[(){}\[\],;]|[^\s(){}\[\],;]+")
+NAME = re.compile(r"[^\W\d][\w'-]*$")
+BINDER = re.compile(r"[({]([^\s(){}:]+(?: [^\s(){}:]+)*) : ")
+KEYWORDS = ("if", "then", "else", "where", "let", "in", "do", "λ", "record", "case", "of", "with")
+OTHER = None
+
+
+def record_fields(text):
+    """The fields of a record of specs, each with the text of its type."""
+    found = re.findall(r"(?ms)^  pub (\S+) :(.*?)(?=^  pub |\Z)", without_comments(text, "--"))
+    return dict(found)
+
+
+def struct_fields(text):
+    """The fields of a struct, each with the text of its type."""
+    return dict(re.findall(r"(?m)^    (?:pub(?:\(crate\))? )?(\w+): (.*?),?$", without_comments(text, "//")))
+
+
+def split_arrows(text):
+    """The parts between arrows that stand in no brackets."""
+    parts, depth = [""], 0
+    for sign in text:
+        depth += (sign in "({[") - (sign in ")}]")
+        if sign == "→" and depth == 0:
+            parts.append("")
+        else:
+            parts[-1] += sign
+    return [" ".join(part.split()) for part in parts]
+
+
+def groups_in(tokens):
+    """Tokens with each bracket and what it holds as one."""
+    groups, depth = [], 0
+    for token in tokens:
+        if depth == 0:
+            groups.append([])
+        groups[-1].append(token)
+        depth += (token in "({[") - (token in ")}]")
+    return groups
+
+
+def head_and_equations(definition):
+    """The type of a definition, and the left and right sides of its equations; of a record its fields stand on the right."""
+    lines = without_comments(definition.text, "--").split("\n")
+    begin = next(index for index, line in enumerate(lines) if DEFINITION.match(line))
+    if lines[begin].startswith(("pub record", "pub data")):
+        head, _, body = "\n".join(lines[begin:]).partition("where\n")
+        return head, [("", body)]
+    ends = [at for at in range(begin + 1, len(lines)) if at_left(lines[at]) and not lines[at].startswith("}")] + [len(lines)]
+    sides = ["\n".join(lines[at:end]).partition(" =")[::2] for at, end in zip(ends, ends[1:])]
+    return "\n".join(lines[begin : ends[0]]).partition(" : ")[2], sides
+
+
+def is_apart(token):
+    """Whether a token stands between two applications."""
+    return token in KEYWORDS or token in ",;({[" or token.endswith(".") or not re.search(r"\w", token)
+
+
+class Parts:
+    """The types that may be followed in part, the fields that were named of each, and those that have to be followed whole."""
+
+    def __init__(self, project, calls):
+        self.project, self.structs, self.named, self.whole = project, {}, {}, set()
+        self.values = {}
+        for function, clause in calls:
+            for value, kind in values_of(function).items():
+                self.find(function.file, kind)
+            asked = asked_definition(project, function, clause)[0]
+            self.values[key_of(asked)] = function
+
+    def known(self):
+        return {key: set(fields) for key, fields in self.named.items()}, set(self.whole)
+
+    # Which types there are
+
+    def find(self, file, kind):
+        """Takes the structs that a type of Rust names, and those of their fields."""
+        for word in re.findall(r"\b[A-Z]\w*", kind):
+            self.add(self.project.rust_type(file.crate, file.type_path(word)))
+
+    def add(self, definition):
+        definition = self.value_of(definition) if definition and definition.modelled else definition
+        if not definition or key_of(definition) in self.structs:
+            return
+        if definition.path.endswith(".antt"):
+            if re.search(r"(?m)^pub record \S+ : ", definition.text):
+                self.keep(Struct(definition, record_fields(definition.text), None))
+            return
+        if not re.search(r"(?m)^pub struct \w+ \{$", definition.text):
+            return
+        crate = definition.path.split("/")[0]
+        file = next(each for each in self.project.files_of(crate) if each.path == definition.path)
+        self.keep(Struct(definition, struct_fields(definition.text), file))
+        for kind in struct_fields(definition.text).values():
+            self.find(file, kind)
+
+    def keep(self, struct):
+        self.structs[key_of(struct.definition)] = struct
+        self.named[key_of(struct.definition)] = set()
+
+    def value_of(self, definition):
+        """The record that is the value of a struct with a model, or nothing."""
+        words = words_of(definition.terms)
+        return self.meant(definition, words[0]) if len(words) == 1 else None
+
+    def meant(self, definition, parts):
+        """The definition that a word means where it stands."""
+        found = [self.project.meant(*target) for target in definition.scope.targets(parts)]
+        return next((each for each in found if each), None)
+
+    def kinds(self, struct, field):
+        """The types followed in part that a field's type names, and whether it is that type alone."""
+        if not struct.file:
+            return [], False
+        return self.of_kind(struct.file, struct.fields[field])
+
+    def of_kind(self, file, kind):
+        words = re.findall(r"\b[A-Z]\w*", kind)
+        found = [self.project.rust_type(file.crate, file.type_path(word)) for word in words]
+        found = [self.value_of(each) if each and each.modelled else each for each in found]
+        keys = [key_of(each) for each in found if each and key_of(each) in self.structs]
+        return keys, re.sub(r"^&(mut )?", "", kind.strip()) in words
+
+    def is_one(self, definition, text):
+        """The type followed in part that a text of specs is, or nothing."""
+        found = self.meant(definition, text.split(".")) if NAME.match(text) else None
+        return key_of(found) if found and key_of(found) in self.structs else None
+
+    # What is followed
+
+    def followed(self, definition):
+        """A definition with those fields alone that are followed."""
+        key = key_of(definition)
+        if key not in self.structs or key in self.whole:
+            return definition
+        struct, named = self.structs[key], self.named[key]
+        if struct.file:
+            return definition._replace(types=field_types(self.project, definition, named) if named else ())
+        needed = set(named)
+        while any(self.inner(struct, needed)):
+            needed |= self.inner(struct, needed)
+        return definition._replace(terms="\n".join(struct.fields[field] for field in sorted(needed)))
+
+    def inner(self, struct, fields):
+        """The fields that the types of some fields name."""
+        words = {parts[0] for field in fields for parts in words_of(struct.fields[field])}
+        return {field for field in struct.fields if field in words} - fields
+
+    def make_whole(self, key):
+        """Follows all of a type, and of those in its fields."""
+        if key not in self.whole:
+            self.whole.add(key)
+            for field in self.structs[key].fields:
+                for inside in self.kinds(self.structs[key], field)[0]:
+                    self.make_whole(inside)
+
+    def lines(self, graph):
+        """A line for each type that is followed in part."""
+        shown = [key for key in sorted(self.structs) if key in graph and key not in self.whole]
+        parted = [key for key in shown if self.named[key] != set(self.structs[key].fields)]
+        return ["-- crates/%s %s: %s" % (key[0], key[1], " ".join(sorted(self.named[key]))) for key in parted]
+
+    # What a definition names
+
+    def take(self, definition):
+        """Takes what a definition of the text names."""
+        key = key_of(definition)
+        if key in self.values:
+            self.take_clause(definition, self.values[key])
+        elif key not in self.structs and definition.path.endswith(".antt"):
+            self.take_specs(definition)
+        elif key not in self.structs and not definition.modelled:
+            self.take_rust(definition)
+
+    def take_rust(self, definition):
+        """What a type or a trait of Rust names that isn't followed in part itself is followed whole."""
+        for each in self.project.needed(definition):
+            each = self.value_of(each) if each.modelled else each
+            if each and key_of(each) in self.structs:
+                self.make_whole(key_of(each))
+
+    def take_clause(self, definition, function):
+        known, compound = {}, {}
+        for value, kind in values_of(function).items():
+            keys, alone = self.of_kind(function.file, kind)
+            if alone and keys:
+                known[value] = keys[0]
+            elif keys:
+                compound[value] = keys
+        self.check_names(definition, words_of(definition.terms), [])
+        self.read(definition, definition.terms, known, compound)
+
+    def take_specs(self, definition):
+        head, sides = head_and_equations(definition)
+        arguments = self.arguments(definition)
+        binders = self.binders(definition, head)
+        self.check_names(definition, words_of(definition.terms), [key for key in arguments if key] or list(binders.values()))
+        for left, right in sides:
+            self.read(definition, right, {**self.binders(definition, right), **binders, **self.patterns(definition, left, arguments)}, {})
+
+    def arguments(self, definition):
+        """For each argument of a definition of specs the type followed in part that it has, or nothing."""
+        head, _ = head_and_equations(definition)
+        if re.search(r"(?m)^pub (record|data) ", definition.text):
+            kinds = [kind for names, kind in re.findall(r"\((\S+(?: \S+)*) : ([^()]*)\)", head) for _ in names.split()]
+            return [self.is_one(definition, kind) for kind in kinds]
+        kinds = [part for part in split_arrows(head)[:-1] if not part.startswith("{")]
+        return [key for kind in kinds for key in self.argument(definition, kind)]
+
+    def argument(self, definition, kind):
+        named = re.match(r"\((\S+(?: \S+)*) : (.*)\)$", kind)
+        if named:
+            return [self.is_one(definition, named.group(2))] * len(named.group(1).split())
+        return [self.is_one(definition, kind)]
+
+    def binders(self, definition, text):
+        """The variables that a text binds with their types."""
+        found = {}
+        for match in BINDER.finditer(text):
+            kind = re.match(r"[^(){}]*", text[match.end() :]).group(0).strip()
+            found.update({name: self.is_one(definition, kind) for name in match.group(1).split()})
+        fields = record_fields(text)
+        found.update({field: self.is_one(definition, fields[field].strip()) for field in fields})
+        return found
+
+    def check_names(self, definition, words, benign):
+        """Where a type is named otherwise than as that of an argument, it is followed whole."""
+        named = [self.is_one(definition, ".".join(parts)) for parts in words]
+        for key in set(filter(None, named)):
+            if named.count(key) > benign.count(key):
+                self.make_whole(key)
+
+    def patterns(self, definition, left, arguments):
+        """The variables of an equation's left side. An argument that isn't one is taken apart, or handed on unseen."""
+        patterns = [each for each in groups_in(SIGN.findall(left))[1:] if each[0] != "{"] if left else []
+        found = {}
+        for place, key in enumerate(arguments if left else []):
+            plain = place < len(patterns) and len(patterns[place]) == 1 and "◌" not in definition.name
+            if key and not plain:
+                self.make_whole(key)
+            elif plain and (key or NAME.match(patterns[place][0])):
+                found[patterns[place][0]] = key
+        return found
+
+    def read(self, definition, text, known, compound):
+        """Takes the words of a term: of a variable of a type followed in part its fields, and of one whose type isn't known each
+        field of that name."""
+        tokens = SIGN.findall(re.sub(r'"[^"]*"', " ", without_comments(text, "--")))
+        self.lambdas(definition, tokens, known, compound)
+        for at, token in enumerate(tokens):
+            if self.is_bound(tokens, at):
+                continue
+            parts = [part for part in token.rstrip(".").split(".")]
+            rest = [part for part in parts[1:] if part not in ("now", "old", "new")]
+            if parts[0] in compound:
+                self.inside(compound[parts[0]], definition, tokens, at)
+            elif known.get(parts[0]):
+                self.walk(known[parts[0]], rest, definition, tokens, at)
+            elif parts[0] not in known and parts[0] not in definition.scope.aliases:
+                for place in range(len(rest)):
+                    for key in [key for key in self.structs if rest[place] in self.structs[key].fields]:
+                        self.walk(key, rest[place:], definition, tokens, at)
+
+    def is_bound(self, tokens, at):
+        """Whether a token is one of the variables behind a λ."""
+        while at and tokens[at] != "λ" and NAME.match(tokens[at].rstrip(".")) and not tokens[at - 1].endswith("."):
+            at -= 1
+        return tokens[at] == "λ"
+
+    def lambdas(self, definition, tokens, known, compound):
+        """The variable of `IfSome value (λ x. ..)` has the type of what the value may be."""
+        for at in range(len(tokens) - 4):
+            if tokens[at] == "IfSome" and tokens[at + 2 : at + 4] == ["(", "λ"]:
+                keys = self.end_of(tokens[at + 1], known, compound)
+                known.update({tokens[at + 4].rstrip("."): keys[0]} if keys else {})
+
+    def end_of(self, token, known, compound):
+        """The types followed in part that the value of a path may hold."""
+        first, *rest = token.split(".")
+        keys = compound.get(first) or ([known[first]] if known.get(first) else [])
+        for field in rest:
+            keys = [each for key in keys if field in self.structs[key].fields for each in self.kinds(self.structs[key], field)[0]]
+        return keys
+
+    def walk(self, key, fields, definition, tokens, at):
+        """Follows a path from a value of a type on."""
+        struct = self.structs[key]
+        if not fields:
+            self.hand_on(key, definition, tokens, at)
+        elif fields[0] in struct.fields:
+            self.named[key].add(fields[0])
+            keys, alone = self.kinds(struct, fields[0])
+            if alone and keys:
+                self.walk(keys[0], fields[1:], definition, tokens, at)
+            elif keys:
+                self.inside(keys, definition, tokens, at)
+
+    def application(self, tokens, at):
+        """The place of the head of the application in which a token is an argument, and how many arguments stand before it."""
+        begin, depth = at, 0
+        while begin > 0:
+            token = tokens[begin - 1]
+            depth += (token in ")}]") - (token in "({[")
+            if depth < 0 or (depth == 0 and is_apart(token) and token not in "({["):
+                break
+            begin -= 1
+        return begin, len(groups_in(tokens[begin:at])) - 1
+
+    def takes(self, definition, token, key, place):
+        """Whether a word means a definition of the project with an argument of this type at this place."""
+        found = self.meant(definition, token.split(".")) if token not in ("(", "{", "[") else None
+        if not found or not found.path.endswith(".antt"):
+            return False
+        arguments = self.arguments(found)
+        return place < len(arguments) and arguments[place] == key
+
+    def hand_on(self, key, definition, tokens, at):
+        """A value that stands alone has to be an argument of a definition that takes one of its type."""
+        begin, place = self.application(tokens, at)
+        if begin == at or not self.takes(definition, tokens[begin], key, place):
+            self.make_whole(key)
+
+    def inside(self, keys, definition, tokens, at):
+        """A value that may hold one of these types has to stand in `IfSome`, before what takes one."""
+        begin, place = self.application(tokens, at)
+        if tokens[begin] == "IfSome" and place == 0 and len(keys) == 1 and self.is_taken(definition, tokens[at + 1 :], keys[0]):
+            return
+        for key in keys:
+            self.make_whole(key)
+
+    def is_taken(self, definition, tokens, key):
+        """Whether what stands next takes a value of the type."""
+        group = groups_in(tokens)[0] if tokens else [""]
+        if group[:2] == ["(", "λ"]:
+            return True
+        if group[0] != "(":
+            return self.takes(definition, group[0], key, 0)
+        return self.takes(definition, group[1], key, len(groups_in(group[1:-1])) - 1)
 
 
 # The order
@@ -610,15 +975,14 @@ def is_counted(line):
 
 
 def closure(clauses):
-    """The groups of files that clauses rest on, and the names that are the kit's."""
+    """The groups of files that clauses rest on, the names that are the kit's, and the types that are followed in part."""
     project = Project()
-    asked = [asked_definition(project, *clause_of(project, each)) for each in clauses]
-    graph = reached(project, asked)
+    asked, graph, parts = reached_in_part(project, [clause_of(project, each) for each in clauses])
     rests_on = {key: {key_of(need) for need in needed} for key, (_, needed) in graph.items()}
     files, last = {}, [key_of(each) for each, _ in asked]
     order = sorted((key for key in graph if key not in last), key=lambda key: place_of(key, files)) + last
     groups = [(path, [graph[key][0] for key in keys]) for path, keys in file_groups(rests_on, order)]
-    return groups, kit_lines(project)
+    return groups, kit_lines(project), parts.lines(graph)
 
 
 def text_of(groups):
@@ -636,7 +1000,7 @@ def main(words):
         print(__doc__, file=sys.stderr)
         return 2
     try:
-        groups, kit = closure(clauses)
+        groups, kit, partly = closure(clauses)
     except Unknown as unknown:
         print("closure: %s" % unknown, file=sys.stderr)
         return 1
@@ -649,7 +1013,8 @@ def main(words):
         print(total)
     else:
         print("-- What %s rests on, bottom up.\n" % " and ".join(clauses))
-        print(text + "\n\n-- Of the kit:\n" + "\n".join(kit) + "\n\n-- " + total)
+        print(text + "\n\n-- Of the kit:\n" + "\n".join(kit))
+        print("\n-- Followed in part:\n" + "\n".join(partly) + "\n\n-- " + total)
     return 0
 
 

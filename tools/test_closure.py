@@ -63,27 +63,33 @@ def occurs(name, text):
     return name in text and re.search(r"(?<![\w.◌])%s(?![\w'])" % re.escape(name), text) is not None
 
 
+def in_part(text, fields):
+    """A type's text with the lines of these fields alone."""
+    return "\n".join(line for line in text.split("\n") if re.match(r"\s*(?:pub )?(%s) ?:" % "|".join(fields), line))
+
+
 class Plain:
-    """The plain search."""
+    """The plain search. Of some types, by their file and name, only some fields are followed."""
 
     specs = {}
 
-    def __init__(self):
-        self.found = set()
+    def __init__(self, parts=()):
+        self.found, self.parts = set(), dict(parts)
 
-    def pieces(self, path):
+    def pieces(self, file):
         """The definitions of a file of specs: their texts by their names, with the constructors of a `data`."""
-        if path not in self.specs:
-            text = re.sub(r"(?m)^\s*--.*$", "", read(path))
+        if (file, str(self.parts)) not in self.specs:
+            text = re.sub(r"(?m)^\s*--.*$", "", read(file))
             pieces = {}
             for piece in re.split(r"(?m)^(?=abbrev|unfoldable|pub record|pub data|infix)", text)[1:]:
                 name = re.match(r"(?:(?:abbrev|unfoldable) pub|pub record|pub data|infixl \d+) (\S+)", piece).group(1)
-                piece = re.sub(r"\n  pub \S+", "\n  pub", piece)
+                piece = in_part(piece, self.parts[file, name]) if (file, name) in self.parts else piece
+                piece = re.sub(r"(^|\n)  pub \S+", r"\1  pub", piece)
                 pieces[name] = (name, piece + pieces.get(name, ("", ""))[1])
                 if piece.startswith("pub data"):
                     pieces.update({each: (name, piece) for each in re.findall(r"(?m)^  (\w+) :", piece)})
-            self.specs[path] = (pieces, imported(text))
-        return self.specs[path]
+            self.specs[file, str(self.parts)] = (pieces, imported(text))
+        return self.specs[file, str(self.parts)]
 
     def follow(self, text, own, names, modules):
         """Follows all names that occur in a text."""
@@ -122,6 +128,7 @@ class Plain:
             return
         block = re.search(r"(?ms)^pub (?:struct|enum|trait) %s\b(?:[^\n]*;$|.*?^}$)" % name, text).group(0)
         self.follow("\n".join(re.findall(r"\{ .* \}", block)), {}, *imported(text))
+        block = in_part(block, self.parts[file, name]) if (file, name) in self.parts else block
         self.types_in(re.sub(r"(?:ghost|requires|ensures).*", "", block), file, text)
 
     def impls_of(self, text, name):
@@ -148,20 +155,20 @@ class Plain:
         return self.home(passed.group(1), word)
 
 
-def plain_names(file, function, clause, types, terms=""):
+def plain_names(file, function, clause, types, parts=()):
     """The names of the plain search for a clause. The types are those that its values bring in, as words of the file."""
-    search = Plain()
+    search = Plain(parts)
     text = read(file)
     head = re.search(r"(?ms)^\s*pub fn %s\b.*?^\s*\{$" % function, text).group(0)
     shown = re.findall(r"requires \w* ?\{.*\}", head) + re.findall(r"ensures %s \{.*\}" % clause, head)
-    search.follow("\n".join(shown).partition(terms)[2] if terms else "\n".join(shown), {}, *imported(text))
+    search.follow("\n".join(shown), {}, *imported(text))
     search.types_in(types, file, text)
     return search.found
 
 
 def tool_names(clause):
     """The tool's names without the clause itself and the structs of which fields alone are followed."""
-    groups, _ = closure.closure([clause])
+    groups = closure.closure([clause])[0]
     return {(path, each.name) for path, definitions in groups for each in definitions if "/" not in each.name}
 
 
@@ -169,12 +176,12 @@ class Names(unittest.TestCase):
     """The names of the tool are those of the plain search."""
 
     def test_clauses_on_the_bench(self):
-        """These name the bench of what `pfr` answers, whose type stands beside that of the answer."""
-        for clause in ("spans", "releases", "locks", "causes"):
-            wanted = plain_names("pfr/src/top.rt", "pfr", clause, "")
-            search = Plain()
-            search.type("pfr/src/finished.rt", "Bench")
-            wanted |= search.found | {("pfr/src/finished.rt", "Finished")}
+        """These name the bench of what `pfr` answers, and of its devices nothing but what a device is. The script's tears are
+        of no matter where no item is said to be done."""
+        parts = {("pfr/src/finished.rt", "Finished"): ["bench"], ("pfr_flash/specs/MemFlash.antt", "MemState"): ["device"]}
+        for clause, more in (("spans", ["items"]), ("releases", ["items"]), ("locks", ["items"]), ("causes", ["items", "tears"])):
+            parts["pfr_script/specs/ScriptState.antt", "ScriptState"] = more
+            wanted = plain_names("pfr/src/top.rt", "pfr", clause, "Finished", parts)
             self.assertEqual(tool_names("pfr/" + clause), wanted, clause)
 
     def test_clauses_of_a_step(self):
@@ -188,18 +195,19 @@ class Names(unittest.TestCase):
 class Order(unittest.TestCase):
     """What comes first rests on nothing behind it."""
 
-    def whole(self, project, groups):
+    def whole(self, clause):
         """Each definition with what it rests on."""
-        return [(path, each.name, project.needed(each)) for path, definitions in groups for each in definitions]
+        project = closure.Project()
+        graph = closure.reached_in_part(project, [closure.clause_of(project, clause)])[1]
+        return [(each.path, each.name, needed) for each, needed in graph.values()]
 
     def test_bottom_up(self):
         for clause in ("pfr/locks", "pfr_machine::Platform::step/turn"):
-            project = closure.Project()
             groups = closure.closure([clause])[0]
             placed = {
                 (path, each.name): number for number, (path, definitions) in enumerate(groups) for each in definitions
             }
-            for path, name, needed in self.whole(project, groups):
+            for path, name, needed in self.whole(clause):
                 behind = [need.name for need in needed if placed[need.path, need.name] > placed[path, name]]
                 self.assertEqual(behind, [], name)
 
@@ -422,6 +430,151 @@ class Small(unittest.TestCase):
         with self.assertRaises(closure.Unknown) as raised:
             self.text("high::Pair::act/good")
         self.assertEqual(str(raised.exception), "nothing named Those in low.specs.Base")
+
+
+class InPart(unittest.TestCase):
+    """Which fields of a struct are followed: crates that are written here."""
+
+    FILES = {
+        "low/specs/Box.antt": """\
+-- A box as contracts see it.
+use Rattle.std.specs.Prelude.{ℕ, ◌≤◌}
+
+abbrev pub IsFew : ℕ → Type 0
+IsFew n = n ≤ 4
+
+pub record BoxState : Type 0 where
+  pub count : ℕ
+  pub few : IsFew count
+""",
+        "low/src/lib.rt": """\
+//! Low.
+use std::marker::Model;
+
+/// A box.
+pub struct Box {
+    inside: u8,
+}
+
+impl Model for Box {
+    ghost use Rattle.low.specs.Box.{BoxState};
+
+    ghost Value = { BoxState };
+}
+
+/// What is at the side.
+pub enum Side {
+    Left,
+}
+
+/// A note.
+pub enum Note {
+    Said,
+}
+""",
+        "high/specs/Top.antt": """\
+-- What is promised.
+use Rattle.std.specs.Prelude.{ℕ, ◌≡◌, ◌≤◌}
+use Rattle.high.specs.declared.Bench.{Bench}
+use Rattle.low.specs.Box.{BoxState}
+
+abbrev pub count_of : Bench → ℕ
+count_of bench = bench.box.count
+
+abbrev pub IsGood : Bench → Type 0
+IsGood bench = count_of bench ≤ 4
+
+abbrev pub IsSame : Bench → Bench → Type 0
+IsSame a b = a ≡ b
+
+abbrev pub HasSameBox : Bench → Bench → Type 0
+HasSameBox a b = a.box ≡ b.box
+
+abbrev pub IsFewest : Bench → Type 0
+IsFewest bench = (other : Bench) → count_of bench ≤ count_of other
+
+abbrev pub IsOf : ℕ → Bench → Type 0
+IsOf n bench = n ≤ count_of bench
+""",
+        "high/src/lib.rt": """\
+//! High.
+ghost use Rattle.std.specs.Prelude.{IfSome};
+ghost use Rattle.high.specs.Top.{IsGood, IsSame, HasSameBox, IsFewest, IsOf};
+
+use low::{Box, Note, Side};
+
+/// All of it.
+pub struct Bench {
+    pub box: Box,
+    pub side: Side,
+}
+
+/// What is answered.
+pub struct Finished {
+    pub bench: Option<Bench>,
+    pub note: Note,
+}
+
+/// Does it.
+///
+/// And more is said of it.
+pub fn act(old_one: &Bench) -> Finished
+    // What is promised.
+    ensures good { IfSome result.bench IsGood }
+    ensures of { IfSome result.bench (IsOf 4) }
+    ensures within { IfSome result.bench (λ bench. IsGood bench) }
+    ensures same { IfSome result.bench (IsSame old_one.now) }
+    ensures alike { IfSome result.bench (λ bench. bench ≡ old_one.now) }
+    ensures boxes { IfSome result.bench (HasSameBox old_one.now) }
+    ensures fewest { IfSome result.bench IsFewest }
+    ensures nothing { result.bench ≡ None }
+    ensures whole { result ≡ result }
+{
+    body
+}
+""",
+    }
+
+    def setUp(self):
+        self.folder = tempfile.TemporaryDirectory()
+        self.addCleanup(self.folder.cleanup)
+        self.addCleanup(setattr, closure, "CRATES", closure.CRATES)
+        closure.CRATES = self.folder.name
+        for name, text in self.FILES.items():
+            path = os.path.join(self.folder.name, name)
+            os.makedirs(os.path.dirname(path), exist_ok=True)
+            with open(path, "w", encoding="utf-8") as file:
+                file.write(text)
+
+    def names(self, clause):
+        groups, _, partly = closure.closure(["high/" + clause])
+        return {each.name for _, definitions in groups for each in definitions}, [each.split("/")[-1] for each in partly]
+
+    def test_only_asked_for_fields(self):
+        """Neither the side nor the note is named, and no meaning depends on it that a box has few."""
+        for clause in ("good", "of", "within"):
+            names, partly = self.names(clause)
+            self.assertFalse(names & {"Side", "Note", "IsFew"}, clause)
+            self.assertEqual(partly, ["lib.rt Bench: box", "lib.rt Finished: bench", "Box.antt BoxState: count"], clause)
+
+    def test_used_in_another_way(self):
+        """What is compared or ranged over is followed whole."""
+        for clause in ("same", "alike", "fewest", "nothing"):
+            names, partly = self.names(clause)
+            self.assertTrue({"Side", "IsFew"} <= names, clause)
+            self.assertEqual(partly, ["lib.rt Finished: bench"], clause)
+        names, partly = self.names("boxes")
+        self.assertTrue("IsFew" in names and "Side" not in names)
+        self.assertEqual(partly, ["lib.rt Bench: box", "lib.rt Finished: bench"])
+        names, partly = self.names("whole")
+        self.assertTrue({"Side", "IsFew", "Note"} <= names)
+        self.assertEqual(partly, [])
+
+    def test_first_line(self):
+        """Of a call's comment the first line is shown, and nothing of what stands above the clause."""
+        text = closure.text_of(closure.closure(["high/good"])[0])
+        self.assertIn("/// Does it.\npub fn act(old_one: &Bench) -> Finished\n    ensures good {", text)
+        self.assertNotIn("And more", text)
 
 
 class Words(unittest.TestCase):

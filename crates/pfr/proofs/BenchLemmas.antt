@@ -1,6 +1,6 @@
 -- What a bench promises, by the laws of whole runs.
 use Rattle.std.proofs.Common.{◌≡◌, ◌∙◌, ap, sym, refl, subst, ℕ, List, [], length, take, Option, Some, None}
-use Rattle.std.specs.List.{All}
+use Rattle.std.specs.List.{AllByRecursion}
 use Rattle.std.specs.Prelude.{IfSome, slice_index_or}
 use Rattle.pfr_flash.specs.FlashState.{FlashState, Rose}
 use Rattle.pfr_flash.specs.Holding.{HoldsBytes}
@@ -126,7 +126,7 @@ has_provision bench has = has.kept
 -- of each item of a run that fits what its step did says this, where all fit
 run_where : (bench : Bench) (has : HasRun bench) (Fits : Item → Type 0) (Goes : Item → World → World → Type 0)
     → ((i : Item) (old new : World) → Fits i → IsUnderway (acceptance bench.engine) (fresh_of bench) old → HaveBytes new → Did (acceptance bench.engine) bench.script.tears i old new → Goes i old new)
-    → (items : List Item) → All Fits items → IsRun items bench → IsRunWith Goes items bench
+    → (items : List Item) → AllByRecursion Fits items → IsRun items bench → IsRunWith Goes items bench
 run_where bench has Fits Goes did items fit run = record {
   end = run.end;
   reached = Reached-with (acceptance bench.engine) bench.script.tears (fresh_of bench) has.sizes.bmc has.sizes.pch has.sizes.nv Fits Goes did items (fresh_of bench) run.end fit

@@ -1,11 +1,12 @@
 -- Where marks are ignored, or no job is used.
-use Rattle.std.proofs.Common.{◌≡◌, ℕ, Bool, List, refl, ◌⊎◌, inl, inr, Result, Ok, Err, OnOk}
+use Rattle.std.proofs.Common.{◌≡◌, ℕ, Bool, List, refl, ◌⊎◌, inl, inr, Result, Ok, Err, OnErr, OnOk}
 use Rattle.pfr_flash.specs.declared.names.Bank.{Bank}
 use Rattle.pfr_jobs.specs.LogState.{LogState}
 use Rattle.pfr_rebuilt.specs.Passing.{ignoring}
 use Rattle.pfr_strokes.specs.Passes.{Pair, Passes}
 use Rattle.pfr_strokes.specs.declared.side.CopyFail.{CopyFail}
 use Rattle.pfr_copy.specs.Copied.{SetsMarks}
+use Rattle.pfr_copy.specs.Stopped.{SetsSomeMarks}
 use Rattle.pfr_copy.specs.Marking.{LogStays, marks_deeds}
 use Rattle.pfr_copy.specs.declared.marks.Marks.{Marks}
 use Rattle.pfr_copy.specs.declared.marks.Marks.TheVariants.{Heed, Ignore, Without}
@@ -36,6 +37,13 @@ ignored_marks Ignore is bank test group all nv (Ok x) = refl
 ignored_marks Ignore is bank test group all nv (Err e) = tt
 ignored_marks Without is bank test group all nv (Ok x) = refl
 ignored_marks Without is bank test group all nv (Err e) = tt
+
+pub ignored_some : (marks : Marks) → IsUnheeded marks → (bank : Bank) (test : ℕ → Bool) (group all : ℕ) (nv : List ℕ) (result : Result (Unit {0}) CopyFail) → OnErr result (SetsSomeMarks marks bank test group all nv nv)
+ignored_some Heed is bank test group all nv result = absurd (not_heeded is)
+ignored_some Ignore is bank test group all nv (Ok x) = tt
+ignored_some Ignore is bank test group all nv (Err e) = refl
+ignored_some Without is bank test group all nv (Ok x) = tt
+ignored_some Without is bank test group all nv (Err e) = refl
 
 pub ignored_none : (marks : Marks) → IsUnheeded marks → marks ≡ Heed → ⊥
 ignored_none Heed is e = not_heeded is

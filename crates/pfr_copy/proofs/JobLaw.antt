@@ -1,5 +1,5 @@
 -- The pages of a job lie apart from what is read of its capsule, so what they are to hold is the same however many of them were written.
-use Rattle.std.proofs.Common.{◌≡◌, ◌∙◌, ℕ, ◌+◌, ◌-◌, ◌*◌, ◌/◌, ◌≤◌, ◌<◌, Bool, true, if◌then◌else◌, refl, sym, ap, subst, arith, List, [], ◌∷◌, length, Result, Ok, OnOk, ◌⊎◌, inl, inr}
+use Rattle.std.proofs.Common.{◌≡◌, ◌∙◌, ℕ, ◌+◌, ◌-◌, ◌*◌, ◌/◌, ◌≤◌, ◌<◌, Bool, true, if◌then◌else◌, refl, sym, ap, subst, arith, List, [], ◌∷◌, length, Ok, ◌⊎◌, inl, inr}
 use Rattle.std.proofs.lemmas.Bool.Decides.{nat_tests}
 use Rattle.pfr_flash.specs.Bytes.{AreBytes, bytes_at}
 use Rattle.pfr_flash.specs.FlashState.{FlashState, now}
@@ -8,7 +8,6 @@ use Rattle.pfr_flash.specs.Layout.{IsValidLayout}
 use Rattle.pfr_flash.specs.Operation.{play}
 use Rattle.pfr_flash.specs.Plan.{Follows}
 use Rattle.pfr_flash.specs.declared.layout.Layout.{Layout}
-use Rattle.pfr_flash.specs.declared.flash.FlashFail.{FlashFail}
 use Rattle.pfr_flash.proofs.AreBytesLemmas.{AreBytes-bytes_at}
 use Rattle.pfr_flash.proofs.FollowsLemmas.{Follows-now}
 use Rattle.pfr_flash.proofs.HoldingLemmas.{now_bytes}
@@ -21,12 +20,11 @@ use Rattle.pfr_strokes.specs.Strokes.{strokes, strokes_of}
 use Rattle.pfr_strokes.specs.Replaced.{IsPage, pages_between, replaced}
 use Rattle.pfr_strokes.proofs.ReplacedLaws.{AllCan, IsOneOf, pages_are, strokes_replace}
 use Rattle.pfr_strokes.proofs.GroupLaws.{between_only}
-use Rattle.pfr_rebuilt.specs.ActiveCopying.{active_page, active_pages, active_rebuilt, is_active_page}
+use Rattle.pfr_rebuilt.specs.ActiveCopying.{active_page, active_pages, is_active_page}
 use Rattle.pfr_rebuilt.specs.Copying.{holds_text, recovery_page, text_page}
 use Rattle.pfr_rebuilt.proofs.CopiedLaw.{text_fills}
 use Rattle.pfr_copy.specs.Applying.{CanApply, CanCopyOver, IsActive, page_plan}
 use Rattle.pfr_copy.specs.Working.{CanDo, is_job_page, job_page, job_pages}
-use Rattle.pfr_copy.proofs.PlanLemmas.{follows_now}
 use Rattle.pfr_copy.proofs.SourcesLaw.{IsPageApart, SameSources, sources_same, sources_stay, same_test, same_content, can_later, lies_later, strokes_leave, fills}
 
 -- ---- the recovery area

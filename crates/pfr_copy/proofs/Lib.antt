@@ -11,6 +11,7 @@ pub mod TouchLaw
 pub mod ResumeLaw
 pub mod CopyLemmas
 pub mod ClauseLaw
+pub mod StoppedLaw
 pub mod RecoverLaw
 pub mod AreaLaw
 pub mod LogLaw

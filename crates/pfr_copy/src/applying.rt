@@ -1,5 +1,5 @@
 // A capsule is applied to a bank's active image.
-ghost use Rattle.std.specs.Prelude.{◌≡◌, ◌≢◌, ◌/◌, OnOk, length};
+ghost use Rattle.std.specs.Prelude.{◌≡◌, ◌≢◌, ◌/◌, OnOk, OnErr, length};
 ghost use Rattle.pfr_flash.specs.FlashState.{now, size_of};
 ghost use Rattle.pfr_flash.specs.Layout.{IsBankSize};
 ghost use Rattle.pfr_flash.specs.Range.{SameOutside};
@@ -8,6 +8,7 @@ ghost use Rattle.pfr_copy.specs.Applying.{CanApply, IsActive};
 ghost use Rattle.pfr_copy.specs.Copied.{AddsPlan, Resumes, SetsMarks, written_pages};
 ghost use Rattle.pfr_copy.specs.Marking.{HasLog, LogStays, active_deeds};
 ghost use Rattle.pfr_copy.specs.Recovering.{HasAreaBy};
+ghost use Rattle.pfr_copy.specs.Stopped.{SetsSomeMarks};
 ghost use Rattle.pfr_copy.specs.declared.marks.Marks.TheVariants as how;
 ghost use Rattle.pfr_jobs.specs.Log.{log_at, open_job};
 ghost use Rattle.pfr_engine.specs.Acceptance.{Acceptance};
@@ -63,6 +64,9 @@ pub fn apply<F: Flash>(
     // At Ok exactly the groups are marked that were, or that have a page of the job; without marks the store is as it was.
     ensures marked { let image = now (F.device held.old.flash) in
         OnOk result (SetsMarks marks held.old.bank (is_active_page kind image capsule.now layout.now) (group_pages (length image)) (length image / 4096) (now (F.device nv.old)) (now (F.device nv.new))) }
+    // At Err those of them are marked, in rising order, that were finished.
+    ensures stopped { let image = now (F.device held.old.flash) in
+        OnErr result (SetsSomeMarks marks held.old.bank (is_active_page kind image capsule.now layout.now) (group_pages (length image)) (length image / 4096) (now (F.device nv.old)) (now (F.device nv.new))) }
     // However it ends, a recovery area that was good is so still.
     ensures recoverable { (accepts : Acceptance) → HasAreaBy layout.now held.old.bank (now (F.device held.old.flash)) (now (F.device nv.old)) accepts →
         size_of (F.device nv.old) ≡ 32768 → HasGoodRecovery held.old.bank (now (F.device held.new.flash)) (now (F.device nv.new)) accepts }

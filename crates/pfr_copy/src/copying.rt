@@ -1,10 +1,11 @@
 // The pages of a job are written, whatever is done with marks.
-ghost use Rattle.std.specs.Prelude.{◌≡◌, ◌≢◌, ◌/◌, OnOk, length};
+ghost use Rattle.std.specs.Prelude.{◌≡◌, ◌≢◌, ◌/◌, OnOk, OnErr, length};
 ghost use Rattle.pfr_flash.specs.FlashState.{FlashState, now, size_of};
 ghost use Rattle.pfr_flash.specs.Layout.{IsBankSize};
 ghost use Rattle.pfr_flash.specs.Plan.{Follows};
 ghost use Rattle.pfr_copy.specs.Copied.{OpensOne, SetsMarks};
 ghost use Rattle.pfr_copy.specs.Marking.{HasLog, LogStays, job_deeds};
+ghost use Rattle.pfr_copy.specs.Stopped.{SetsSomeMarks};
 ghost use Rattle.pfr_copy.specs.Working.{CanDo, is_job_page, job_page, job_pages};
 ghost use Rattle.pfr_copy.specs.declared.marks.Marks.TheVariants as how;
 ghost use Rattle.pfr_rebuilt.specs.Passing.{group_pages, ignoring};
@@ -73,6 +74,8 @@ pub fn copy<F: Flash>(
     ensures stands { OnOk result (LogStays marks jobs.old.bank (now (F.device nv.new)) jobs.old jobs.new) }
     ensures marked { let image = now (F.device flash.old) in
         OnOk result (SetsMarks marks jobs.old.bank (is_job_page kind image capsule.now layout.now) (group_pages (length image)) (length image / 4096) (now (F.device nv.old)) (now (F.device nv.new))) }
+    ensures stopped { let image = now (F.device flash.old) in
+        OnErr result (SetsSomeMarks marks jobs.old.bank (is_job_page kind image capsule.now layout.now) (group_pages (length image)) (length image / 4096) (now (F.device nv.old)) (now (F.device nv.new))) }
     ensures one { marks ≡ how.Heed → OpensOne jobs.old.bank (group_pages (length (now (F.device flash.old))))
         (record { bank = F.device flash.old; store = F.device nv.old }) (record { bank = F.device flash.new; store = F.device nv.new }) }
     ensures unused { marks ≢ how.Heed → F.device nv.new ≡ F.device nv.old }

@@ -1,8 +1,9 @@
 // The pages of a job are written group by group, where marks are heeded and set.
-ghost use Rattle.std.specs.Prelude.{◌≡◌, ◌≢◌, ℕ, ◌/◌, ◌<◌, ◌≤◌, OnOk, length};
+ghost use Rattle.std.specs.Prelude.{◌≡◌, ◌≢◌, ◌⊎◌, ℕ, ◌/◌, ◌<◌, ◌≤◌, true, OnOk, OnErr, length};
 ghost use Rattle.pfr_flash.specs.FlashState.{now, size_of};
 ghost use Rattle.pfr_flash.specs.Layout.{IsBankSize};
 ghost use Rattle.pfr_copy.specs.Copied.{MarksGroups, OpensOne};
+ghost use Rattle.pfr_copy.specs.Stopped.{MarksBelow};
 ghost use Rattle.pfr_copy.specs.Working.{CanDo, is_job_page, job_page, job_pages};
 ghost use Rattle.pfr_jobs.specs.LogPlans.{mark_plan};
 ghost use Rattle.pfr_jobs.specs.LogState.{is_marked, log_of};
@@ -10,7 +11,7 @@ ghost use Rattle.pfr_jobs.specs.declared.job.OpenJob.TheVariants as job;
 ghost use Rattle.pfr_rebuilt.specs.Passing.{group_pages, heeding};
 ghost use Rattle.pfr_strokes.specs.Deeds.{marked_by, pass};
 ghost use Rattle.pfr_strokes.specs.Passes.{Passes};
-ghost use Rattle.pfr_strokes.specs.Replaced.{pages_of_group};
+ghost use Rattle.pfr_strokes.specs.Replaced.{has_pages, pages_of_group};
 
 use crate::pages::replace_pages;
 use crate::taking::PAGE;
@@ -53,6 +54,8 @@ fn replace_group<F: Flash>(
     ensures stands { OnOk result (jobs.new ≡ log_of (now (F.device nv.new)) jobs.old.bank) }
     ensures others { (other : ℕ) → other < 128 → other ≢ group →
         is_marked (now (F.device nv.new)) jobs.old.bank other ≡ is_marked (now (F.device nv.old)) jobs.old.bank other }
+    ensures early { let image = now (F.device flash.old) in OnErr result ((F.device nv.new ≡ F.device nv.old)
+        ⊎ (has_pages (pages_of_group (is_job_page kind image capsule.now layout.now) (group_pages (length image)) (length image / 4096) group) ≡ true)) }
 {
     let count = group_pages(flash.size());
     let all = flash.size() / PAGE;
@@ -88,6 +91,8 @@ pub fn replace_heeding<F: Flash>(
     ensures stands { OnOk result (jobs.new ≡ log_of (now (F.device nv.new)) jobs.old.bank) }
     ensures marked { let image = now (F.device flash.old) in
         OnOk result (MarksGroups jobs.old.bank (is_job_page kind image capsule.now layout.now) (group_pages (length image)) (length image / 4096) (now (F.device nv.old)) (now (F.device nv.new))) }
+    ensures stopped { let image = now (F.device flash.old) in
+        OnErr result (MarksBelow jobs.old.bank (is_job_page kind image capsule.now layout.now) (group_pages (length image)) (length image / 4096) (now (F.device nv.old)) (now (F.device nv.new))) }
     ensures one { OpensOne jobs.old.bank (group_pages (length (now (F.device flash.old))))
         (record { bank = F.device flash.old; store = F.device nv.old }) (record { bank = F.device flash.new; store = F.device nv.new }) }
 {

@@ -1,5 +1,5 @@
 // A capsule is copied from a bank's staging area to its recovery area.
-ghost use Rattle.std.specs.Prelude.{◌≡◌, ◌≢◌, ◌/◌, OnOk, length};
+ghost use Rattle.std.specs.Prelude.{◌≡◌, ◌≢◌, ◌/◌, OnOk, OnErr, length};
 ghost use Rattle.pfr_flash.specs.FlashState.{now, size_of};
 ghost use Rattle.pfr_flash.specs.Layout.{IsBankSize};
 ghost use Rattle.pfr_flash.specs.Range.{SameOutside};
@@ -8,6 +8,7 @@ ghost use Rattle.pfr_copy.specs.Applying.{CanCopyOver};
 ghost use Rattle.pfr_copy.specs.Copied.{AddsPlan, Resumes, SetsMarks, written_pages};
 ghost use Rattle.pfr_copy.specs.Marking.{HasLog, LogStays, recovery_deeds};
 ghost use Rattle.pfr_copy.specs.Recovering.{HasJobBy};
+ghost use Rattle.pfr_copy.specs.Stopped.{SetsSomeMarks};
 ghost use Rattle.pfr_copy.specs.declared.marks.Marks.TheVariants as how;
 ghost use Rattle.pfr_jobs.specs.Log.{log_at, open_job};
 ghost use Rattle.pfr_engine.specs.Acceptance.{Acceptance};
@@ -59,6 +60,9 @@ pub fn copy_recovery<F: Flash>(
     // At Ok exactly the groups are marked that were, or that have a page of the job; without marks the store is as it was.
     ensures marked { let image = now (F.device held.old.flash) in
         OnOk result (SetsMarks marks held.old.bank (holds_text layout.now.recovery_at capsule.now.length) (group_pages (length image)) (length image / 4096) (now (F.device nv.old)) (now (F.device nv.new))) }
+    // At Err those of them are marked, in rising order, that were finished.
+    ensures stopped { let image = now (F.device held.old.flash) in
+        OnErr result (SetsSomeMarks marks held.old.bank (holds_text layout.now.recovery_at capsule.now.length) (group_pages (length image)) (length image / 4096) (now (F.device nv.old)) (now (F.device nv.new))) }
     // However it ends, it can be resumed by its marks.
     ensures resumes { Resumes marks held.old.bank (group_pages (length (now (F.device held.old.flash)))) (record { bank = F.device held.old.flash; store = F.device nv.old }) (record { bank = F.device held.new.flash; store = F.device nv.new }) }
     // However it ends, a bank whose recovery job this is can be recovered.

@@ -10,7 +10,7 @@ use pfr_engine::Curve;
 use pfr_flash::Bank;
 use std::marker::Model;
 
-/// A platform: the root key, and both banks. Only a reading makes one, and each keeps the rules of descriptions.
+/// A platform: the root key, and both banks. Each keeps the rules of descriptions.
 #[derive(Drop)]
 pub struct Description {
     curve: Curve,
@@ -33,8 +33,8 @@ impl Model for Description {
 }
 
 impl Description {
-    // a description of these parts
-    pub(crate) fn new(
+    /// A description of these parts, which keep the rules.
+    pub fn new(
         curve: Curve,
         form: Form,
         root: PublicKey,

@@ -1,5 +1,5 @@
 -- What is kept of a store stands for it.
-use Rattle.std.proofs.Common.{◌≡◌, ℕ, ◌+◌, ◌*◌, ◌≤◌, ◌<◌, List, length, get_or, replicate, Result, Ok, Err, IfOk, IfErr, refl, sym, ap, ◌∙◌, subst, arith, ◌⊎◌, inl, inr, eq-eqb}
+use Rattle.std.proofs.Common.{◌≡◌, ℕ, ◌+◌, ◌*◌, ◌≤◌, ◌<◌, List, [], length, get_or, replicate, Result, Ok, Err, IfOk, IfErr, refl, sym, ap, ◌∙◌, subst, arith, ◌⊎◌, inl, inr, eq-eqb}
 use Rattle.std.specs.Prelude.{◌↔◌}
 use Rattle.std.proofs.lemmas.Bool.{ne_eqb}
 use Rattle.pfr_flash.specs.Answer.{Answers}
@@ -13,7 +13,7 @@ use Rattle.pfr_flash.proofs.BytesLemmas.{length-bytes_at, get_or-bytes_at}
 use Rattle.pfr_fuses.specs.Answer.{fuse_failure}
 use Rattle.pfr_fuses.specs.Slots.{IsProvisionedBy, IsUnset, HasBlank, slot_at}
 use Rattle.pfr_fuses.specs.FuseMap.{IsSigning, IsBit, IsCancelBit, IsFloor, profile_of, floor_at, floor_width, row_at, row_width}
-use Rattle.pfr_fuses.specs.FusesState.{FusesState, floor_row, row_of, floor_of}
+use Rattle.pfr_fuses.specs.FusesState.{FusesState, floor_row, row_of, floor_in, floor_of}
 use Rattle.pfr_fuses.specs.FusesOf.{Stands, FloorStands, RowStands, IsRefused, floor_fuses, row_fuses, fuses_with, fuses_of}
 use Rattle.pfr_fuses.specs.declared.fuse_fail.FuseFail.{FuseFail}
 use Rattle.pfr_fuses.specs.declared.fuse_fail.FuseFail.TheVariants.{NotProvisioned, SlotsSpent, Flash}
@@ -106,6 +106,12 @@ rows_stand nv slot PchCapsule size = row_stands nv (fuses_with nv slot) PchCapsu
 rows_stand nv slot BmcManifest size = row_stands nv (fuses_with nv slot) BmcManifest size tt refl
 rows_stand nv slot BmcCapsule size = row_stands nv (fuses_with nv slot) BmcCapsule size tt refl
 rows_stand nv slot type size = no_row_stands nv (fuses_with nv slot) type (λ h. h) refl
+
+-- what the floor of a store is, provisioned or not
+pub store_floor : (nv : List ℕ) (bank : Bank) → length nv ≡ 32768 → IsFloor nv bank (floor_in 128 (floor_fuses nv bank))
+store_floor nv bank size =
+    let fuses = fuses_with nv [] in
+    subst (λ (row : List ℕ). IsFloor nv bank (floor_in 128 row)) (same_floor nv [] bank) (kept_floor nv fuses bank (floor_stands nv fuses bank size (same_floor nv [] bank)))
 
 pub fuses_with-stands : (nv : List ℕ) (number : ℕ) → length nv ≡ 32768 → IsProvisionedBy nv number → Stands nv (fuses_with nv (slot_at nv number))
 fuses_with-stands nv number size h = record {

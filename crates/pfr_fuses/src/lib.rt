@@ -10,8 +10,10 @@ mod profile;
 mod provisioning;
 mod root_slot;
 mod slots;
+mod store_floor;
 
 pub use fuse_fail::FuseFail;
 pub use fuses::{Fuses, load};
 pub use provisioning::provision;
 pub use root_slot::RootSlot;
+pub use store_floor::floor_in_store;

@@ -1,5 +1,5 @@
 // The two profiles of a store: where its fuses lie, and how many there are.
-ghost use Rattle.std.specs.Prelude.{◌≡◌, ◌+◌, ◌≤◌, IfOk, IfErr, Some};
+ghost use Rattle.std.specs.Prelude.{◌≡◌, ◌+◌, ◌≤◌, length, IfOk, IfErr, Some};
 ghost use Rattle.pfr_flash.specs.FlashState.{now, size_of};
 ghost use Rattle.pfr_flash.specs.Reading.{EndsAt, failed_by};
 ghost use Rattle.pfr_fuses.specs.FuseMap.{IsSigning, profile_of, profile_number, floor_at, floor_width, row_at, row_width};
@@ -31,6 +31,19 @@ impl Profile {
             Ok(Profile::One)
         } else {
             Ok(Profile::Two)
+        }
+    }
+
+    /// The profile of a store of these bytes.
+    #[tactic(auto, unfolding(crate::specs::FuseMap::profile_of))]
+    pub fn of_store(store: &[u8]) -> Profile
+        requires { length store.now ≡ 32768 }
+        ensures { result ≡ profile_of store.now }
+    {
+        if store[PROFILE_GATE as usize] == 0xFF {
+            Profile::One
+        } else {
+            Profile::Two
         }
     }
 

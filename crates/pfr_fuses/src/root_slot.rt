@@ -100,6 +100,13 @@ impl RootSlot {
         bytes
     }
 
+    /// Says that this is what a slot holds. It does nothing.
+    pub fn known(&self)
+        ensures { IsSlot self.now }
+    {
+        let _ = self.to_slot();
+    }
+
     /// The layout of this bank, as it is provisioned; whether it fits the bank is not judged here.
     pub fn layout(&self, bank: Bank) -> &Layout
         ensures { result.now ≡ layout_of self.now bank }

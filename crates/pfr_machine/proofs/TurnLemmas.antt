@@ -17,10 +17,11 @@ use Rattle.pfr_report.specs.declared.note.Note.{Note}
 use Rattle.pfr_report.specs.declared.note.What.TheVariants.{Power}
 use Rattle.pfr_script.specs.declared.event.Event.{Event}
 use Rattle.pfr_script.specs.declared.event.Event.TheVariants as event
+use Rattle.pfr_script.specs.Slots.{IsKnownSlot}
 use Rattle.pfr_story.specs.Course.{Stretch, Course, CrossesOrFaults, LosesPower, Steps, Follows}
 use Rattle.pfr_story.specs.Goes.{Ran, Stopped}
 use Rattle.pfr_story.specs.Plans.{Ruling, migrated, mine, ready_in, ready_of, ruling, ruling_by, ruling_with, smbus_by, smbus_judged, store}
-use Rattle.pfr_story.specs.Promises.{AreOff, CallsNone, IsIdle, IsKnownSlot, IsUneventful}
+use Rattle.pfr_story.specs.Promises.{AreOff, CallsNone, IsIdle, IsUneventful}
 use Rattle.pfr_story.specs.Standing.{Standing, standing_of, is_off, is_running, Off, Held, Locked, Running}
 use Rattle.pfr_story.specs.Story.{Story, Move, Says, after}
 use Rattle.pfr_story.specs.Turn.{bank_stretch, fuse_stretch, is_due, unreadable, power_course, course, ignored, ignored_if, is_idle, guards_at, next_item, taken, begun, Turn}

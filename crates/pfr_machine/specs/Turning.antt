@@ -11,8 +11,9 @@ use Rattle.pfr_story.specs.Keeping.{IsSettled}
 use Rattle.pfr_story.specs.Story.{device_of}
 use Rattle.pfr_machine.specs.Inside.{IsWhole}
 use Rattle.pfr_script.specs.declared.event.Event.{Event}
+use Rattle.pfr_script.specs.Slots.{IsKnownSlot}
 use Rattle.pfr_story.specs.Course.{Follows}
-use Rattle.pfr_story.specs.Promises.{IsIdle, IsKnownSlot, IsUneventful, Runs}
+use Rattle.pfr_story.specs.Promises.{IsIdle, IsUneventful, Runs}
 use Rattle.pfr_story.specs.Standing.{standing_of, Off}
 use Rattle.pfr_story.specs.Turn.{course, is_idle}
 use Rattle.pfr_story.specs.World.{World, IsDark, SameDevices, added, state_at, story_of}

@@ -4,25 +4,19 @@ ghost use Rattle.pfr_auth.specs.Trusted.{IsTrusted};
 ghost use Rattle.pfr_flash.specs.FlashState.{now, size_of};
 ghost use Rattle.pfr_flash.specs.Layout.{IsBankSize};
 ghost use Rattle.pfr_flash.specs.declared.names.Bank.{Bank};
-ghost use Rattle.pfr_fuses.specs.Growth.{NeverGoesBack, KeepsProvision};
-ghost use Rattle.pfr_recoverable.specs.Recoverable.{IsRecoverable};
 ghost use Rattle.pfr_report.specs.Texts.{AllText};
-ghost use Rattle.pfr_story.specs.Bringing.{BringsUpCalm, PowerReleases};
+ghost use Rattle.pfr_script.specs.Slots.{IsKnownSlot};
 ghost use Rattle.pfr_story.specs.Course.{Calm};
-ghost use Rattle.pfr_story.specs.Filtering.{FiltersSo};
-ghost use Rattle.pfr_story.specs.Guarding.{Boots, Expires, GuardsFollow};
+ghost use Rattle.pfr_story.specs.EventPromises.{EventPromises};
 ghost use Rattle.pfr_story.specs.Guards.{first_guards};
-ghost use Rattle.pfr_story.specs.JobPromises.{Cancels, ChangesFuses, MarksAreHeeded, RecoveryUpdates, TakesJobsUp};
 ghost use Rattle.pfr_story.specs.Keeping.{HasTrustedSpans};
-ghost use Rattle.pfr_story.specs.Promises.{ReleasesTrusted, LocksHaveCauses, RestoresGood, ProvisionsSo, FaultsAreNoted, FaultsHaveCauses, LossesAreNoted, LostEnds, LostIsDark, NotesOff, StaysQuiet, CallsNone, HasPower, DistrustsWithCause, NotesBelong, AreOff, IsKnownSlot, JudgesAtPower, Runs, RunningHasNoJob};
-ghost use Rattle.pfr_story.specs.Recovery.{CountsRise, StaysRecoverable};
+ghost use Rattle.pfr_story.specs.Promises.{LostIsDark, CallsNone, HasPower, AreOff, Runs};
 ghost use Rattle.pfr_story.specs.Run.{armed, takes_arm};
 ghost use Rattle.pfr_story.specs.Spans.{ReleasedSpans};
 ghost use Rattle.pfr_story.specs.Standing.{standing_of, standing_by};
 ghost use Rattle.pfr_story.specs.Story.{device_of};
 ghost use Rattle.pfr_story.specs.Turn.{Turn, begun, course, is_idle};
-ghost use Rattle.pfr_story.specs.Updating.{Updates};
-ghost use Rattle.pfr_story.specs.World.{AllMoved, AreDevices, IsDark, NoneLost, NoneRose, added, state_at, story_of};
+ghost use Rattle.pfr_story.specs.World.{AreDevices, IsDark, NoneLost, NoneRose, added, state_at, story_of};
 ghost use Rattle.pfr_story.specs.declared.line.Line.TheVariants as line;
 ghost use Rattle.pfr_machine.specs.Inside.{HasSizes};
 
@@ -115,69 +109,17 @@ impl<F: Flash, E: Engine + Drop> Platform<F, E> {
         ensures engine { self.new.engine ≡ self.old.engine }
         ensures err { OnErr result (SameButRoom self.old self.new) }
 
-        // A bank is released only where it is trusted, and each lock and each restore has its cause.
-        ensures released { OnOk result (ReleasesTrusted (E.accepts self.old.engine) self.old.world self.new.world) }
-        ensures locks { OnOk result (LocksHaveCauses (E.accepts self.old.engine) self.old.world self.new.world) }
-        ensures distrusts { OnOk result (DistrustsWithCause (E.accepts self.old.engine) self.old.world self.new.world) }
-        ensures restores { OnOk result (RestoresGood (E.accepts self.old.engine) self.old.world self.new.world) }
-        ensures brings_up { OnOk result (BringsUpCalm event.now (E.accepts self.old.engine) self.old.world self.new.world) }
-        // A job that is open at a power-on is taken up where it can be, and else given up.
-        ensures takes_up { OnOk result (TakesJobsUp event.now (E.accepts self.old.engine) self.old.world self.new.world) }
-        // Behind that it begins with the pages whose groups weren't marked, and unless a call fails does all of these.
-        ensures heeds { OnOk result (MarksAreHeeded event.now (E.accepts self.old.engine) self.old.world self.new.world) }
-        // An update of the recovery area is refused with its cause, and then writes nothing; else the staged capsule stands there behind it.
-        ensures updates_recovery { OnOk result (RecoveryUpdates event.now (E.accepts self.old.engine) self.old.world self.new.world) }
-        // A key is cancelled exactly where a certificate for it stands in the staging area and the recovery area doesn't need it.
-        ensures cancels { OnOk result (Cancels event.now (E.accepts self.old.engine) self.old.world self.new.world) }
-        // Behind an update of the recovery area the floor is that of its capsule at least, and a key that was cancelled stays so.
-        ensures changes { OnOk result (ChangesFuses self.old.world self.new.world) }
-        ensures provisions { OnOk result (ProvisionsSo event.now self.old.world self.new.world) }
-        // But at a power-on and at an update by a certificate no bank is called untrusted, or locked for its contents.
-        ensures judges { OnOk result (JudgesAtPower event.now self.old.world self.new.world) }
-        // Frames on the buses of a bank that runs are judged by what it is trusted by.
-        ensures filters { OnOk result (FiltersSo event.now (E.accepts self.old.engine) self.old.world self.new.world) }
-        // An update of the active image of a bank that runs is judged before anything is written.
-        ensures updates { OnOk result (Updates event.now (E.accepts self.old.engine) self.old.world self.new.world) }
-        // A bank whose watch expires is restored or locked, a stage that is passed is noted, and what guards the banks is moved by
-        // the ticks of the event and by the notes alone.
-        ensures expires { OnOk result (Expires event.now (E.accepts self.old.engine) self.old.world self.new.world) }
-        ensures boots { OnOk result (Boots event.now self.old.world self.new.world) }
-        ensures guards { OnOk result (GuardsFollow event.now self.old.world self.new.world) }
-        ensures belongs { OnOk result (NotesBelong event.now self.old.world self.new.world) }
+        // All that an event promises.
+        ensures promises { OnOk result (EventPromises (E.accepts self.old.engine) event.now self.old.world self.new.world) }
 
         // So far each bank was trusted throughout each span in which it stood released, and in none of them a byte was written that
         // its trust rests on, or one of its recovery area.
         ensures spans { OnOk result ((which : Bank) → ReleasedSpans (E.accepts self.old.engine) which (story_of self.new.world)) }
 
-        // A bank that can be recovered can be after each note and at the end, whatever was cut or torn; and a power-on in which no
-        // call fails releases it.
-        ensures recoverable { OnOk result
-            (StaysRecoverable (λ bank image nv. IsRecoverable bank image nv (E.accepts self.old.engine))
-            self.old.world self.new.world) }
-        ensures powers { OnOk result
-            (PowerReleases (λ bank image nv. IsRecoverable bank image nv (E.accepts self.old.engine))
-            event.now self.old.world self.new.world) }
-        // No job of a bank that runs is open.
-        ensures no_job { OnOk result (RunningHasNoJob self.new.world) }
-
-        // A fault is noted only where it was counted, and a loss of power exactly where it was.
-        ensures faults { OnOk result (FaultsHaveCauses self.old.world self.new.world) }
-        // No fault of a device is passed over: where none is noted, no device's count of faults rose.
-        ensures told { OnOk result (FaultsAreNoted self.old.world self.new.world) }
-        ensures losses { OnOk result (LossesAreNoted self.old.world self.new.world) }
-        ensures lost { OnOk result (LostEnds self.old.world self.new.world) }
+        // Once a loss of power is noted no device has power, and where the banks aren't off each has; an event that isn't taken calls none.
         ensures dark { OnOk result (LostIsDark self.old.world self.new.world) }
-        ensures off { OnOk result (NotesOff event.now self.old.world self.new.world) }
-        ensures quiet { OnOk result (StaysQuiet event.now self.old.world self.new.world) }
-        ensures untouched { OnOk result (CallsNone event.now self.old.world self.new.world) }
         ensures on { OnOk result (HasPower self.new.world) }
-        ensures moved { OnOk result (AllMoved (begun event.now self.old.world) self.new.world) }
-        // The counts that notes carry rise from the step's begin to its end.
-        ensures counted { OnOk result (CountsRise self.old.world self.new.world) }
-
-        // Floors and cancellations never go back, and a provision stays, whatever was cut or torn.
-        ensures grows { OnOk result (NeverGoesBack self.old.world.nv self.new.world.nv) }
-        ensures provision { OnOk result (KeepsProvision self.old.world.nv self.new.world.nv) }
+        ensures untouched { OnOk result (CallsNone event.now self.old.world self.new.world) }
 
         // No note's cause is a failed device, so each has a text.
         ensures texts { AllText self.new.world.notes.list }

@@ -2,6 +2,7 @@
 ghost use Rattle.pfr_jobs.specs.Log.{open_job};
 ghost use Rattle.pfr_jobs.specs.declared.job.OpenJob.TheVariants as job;
 ghost use Rattle.pfr_machine.specs.Inside.{IsMigrated};
+ghost use Rattle.pfr_script.specs.Slots.{IsKnownSlot};
 ghost use Rattle.pfr_story.specs.Keeping.{IsSettled};
 ghost use Rattle.std.specs.Prelude.{◌≡◌, ◌≢◌, ◌⊎◌, ◌*◌, ◌<◌, ◌≤◌, ◌∷◌, [], length, true, false, OnOk, OnErr};
 ghost use Rattle.pfr_auth.specs.Trusted.{IsTrusted};
@@ -11,7 +12,7 @@ ghost use Rattle.pfr_flash.specs.declared.names.Bank.TheVariants.{Bmc, Pch};
 ghost use Rattle.pfr_report.specs.Texts.{AllText};
 ghost use Rattle.pfr_story.specs.Course.{Follows, Steps};
 ghost use Rattle.pfr_story.specs.Goes.{Ran};
-ghost use Rattle.pfr_story.specs.Promises.{IsIdle, IsKnownSlot, IsUneventful, Runs};
+ghost use Rattle.pfr_story.specs.Promises.{IsIdle, IsUneventful, Runs};
 ghost use Rattle.pfr_story.specs.Standing.{standing_of, is_off, is_running, Off};
 ghost use Rattle.pfr_story.specs.Story.{device_of};
 ghost use Rattle.pfr_story.specs.Turn.{bank_stretch, course, ignored, is_idle, next_item, off_course, power_course, taken, unreadable};

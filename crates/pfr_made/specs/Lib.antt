@@ -2,6 +2,8 @@ pub mod Accepting
 pub mod Blocks
 pub mod Capsules
 pub mod Certificates
+pub mod Demo
+pub mod DemoWorth
 pub mod Entries
 pub mod Fields
 pub mod Form1

@@ -14,6 +14,7 @@ use Rattle.pfr_script.specs.declared.item.Item.TheVariants.{Event, Arm}
 use Rattle.pfr_script.specs.declared.event.Event as event
 use Rattle.pfr_script.specs.declared.script.Script.TheInside.{Inside}
 use Rattle.pfr_script.specs.Arms.{IsKnownArm, KnownArms, FirstEmpty, same_device, is_counted, is_arm_of, arms_in}
+use Rattle.pfr_script.specs.Slots.{HasKnownSlot, IsKnownSlot}
 use Rattle.pfr_script.specs.Counting.{count_of, raised, counted}
 use Rattle.pfr_script.specs.Growing.{tear_number, with_tear}
 use Rattle.pfr_script.specs.ScriptInside.{IsScript}
@@ -97,19 +98,21 @@ pub same_script : (s t : Inside) → IsScript s → t.items ≡ s.items → t.te
 same_script s t is items tears arms = record {
   few = rw items is.few;
   known = rw (items, tears) is.known;
+  slots = rw items is.slots;
   arms = rw items is.arms;
   first = rw tears is.first;
   tears = rw (items, tears) is.tears;
   counts = rw (items, arms) is.counts;
 }
 
-pub event_grown : (s t : Inside) (what : event.Event) → IsScript s → length s.items < 65536 → t.items ≡ s.items ++ Event what ∷ [] → t.tears.items ≡ s.tears.items → t.arms ≡ s.arms → IsScript t
-event_grown s t what is room items tears arms =
+pub event_grown : (s t : Inside) (what : event.Event) → IsScript s → IsKnownSlot what → length s.items < 65536 → t.items ≡ s.items ++ Event what ∷ [] → t.tears.items ≡ s.tears.items → t.arms ≡ s.arms → IsScript t
+event_grown s t what is slot room items tears arms =
     let more : length t.items ≡ length s.items + 1 = rw items (length-append s.items (Event what ∷ [])) in
     let same : (d : Device) → arms_in d t.items ≡ arms_in d s.items = λ d. rw items (arms_push d s.items (Event what) ∙ add-zero (arms_in d s.items)) in
     record {
       few = omega (arith, more);
       known = rw (items, tears) (All-push (IsKnownArm (length s.tears.items)) s.items (Event what) is.known tt);
+      slots = rw items (All-push HasKnownSlot s.items (Event what) is.slots slot);
       arms = λ d. rw (same d) (is.arms d);
       first = rw tears is.first;
       tears = rw (more, tears) (omega (arith, is.tears));
@@ -132,6 +135,7 @@ arm_grown s t device what nth tear is room some may items tears arms =
     record {
       few = omega (arith, more);
       known = rw (items, tears) (All-push (IsKnownArm count) s.items item before (some, number_known s.tears.items tear is.first));
+      slots = rw items (All-push HasKnownSlot s.items item is.slots tt);
       arms = λ d. rw (plus d) (arms_fit s.items d device what may (is.arms d));
       first = rw tears (first_stays s.tears.items tear is.first);
       tears = rw (more, tears) (omega (arith, is.tears, tears_few s.tears.items tear));

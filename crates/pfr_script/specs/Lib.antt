@@ -1,6 +1,7 @@
 pub mod Why
 pub mod ScriptState
 pub mod Arms
+pub mod Slots
 pub mod Counting
 pub mod ScriptInside
 pub mod Words

@@ -1,4 +1,5 @@
 // What happens to a platform.
+ghost use Rattle.pfr_script.specs.Slots.{IsKnownSlot};
 
 use crate::frame::Frame;
 use pfr_flash::Bank;
@@ -36,4 +37,15 @@ pub enum Event {
     Update { bank: Bank, intent: Intent },
     /// The platform is provisioned.
     Provision(RootSlot),
+}
+
+impl Event {
+    // What is provisioned is a slot.
+    pub(crate) fn known(&self)
+        ensures { IsKnownSlot self.now }
+    {
+        if let Event::Provision(slot) = self {
+            slot.known();
+        }
+    }
 }

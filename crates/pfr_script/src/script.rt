@@ -1,6 +1,7 @@
 // A script: its items, and the tears that they name.
 ghost use Rattle.std.specs.Prelude.{◌≡◌, ◌+◌, ◌<◌, ◌≤◌, [], true, length, slice_index_or, vec_len, vec_capacity, OnOk, OnErr, IfOk};
 ghost use Rattle.pfr_script.specs.Arms.{FewItems, KnownArms, FewArms, FirstEmpty};
+ghost use Rattle.pfr_script.specs.Slots.{KnownSlots};
 ghost use Rattle.pfr_script.specs.Growing.{no_items, with_item, may_arm, tear_number, with_tear, with_arm};
 ghost use Rattle.pfr_script.specs.declared.item.Item.TheVariants as items;
 
@@ -87,6 +88,7 @@ impl Script {
         ensures ok { OnOk result (self.new ≡ with_item self.old (items.Event event)) }
         ensures err { OnErr result (self.new ≡ self.old) }
     {
+        event.known();
         self.items.push(Item::Event(event))?;
         Ok(())
     }
@@ -137,6 +139,7 @@ impl Script {
         ensures items { result.now ≡ self.now.items }
         ensures few { FewItems self.now.items }
         ensures known { KnownArms (length self.now.tears) self.now.items }
+        ensures slots { KnownSlots self.now.items }
         ensures arms { FewArms self.now.items }
     {
         &self.items

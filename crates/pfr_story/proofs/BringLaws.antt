@@ -15,7 +15,6 @@ use Rattle.pfr_engine.specs.Acceptance.{Acceptance}
 use Rattle.pfr_fuses.specs.FusesState.{FusesState}
 use Rattle.pfr_fuses.specs.FusesOf.{fuses_of}
 use Rattle.pfr_fuses.specs.RootSlot.{layout_of}
-use Rattle.pfr_auth.specs.Trusted.{IsTrusted}
 use Rattle.pfr_jobs.specs.declared.job.JobKind.TheVariants.{ActiveFromRecovery}
 use Rattle.pfr_recoverable.specs.Recoverable.{IsRecoverable}
 use Rattle.pfr_recoverable.proofs.StaysLaw.{fuses_one}
@@ -32,9 +31,9 @@ use Rattle.pfr_story.specs.World.{World, story_of, counts_in, state_at, AllMoved
 use Rattle.pfr_story.specs.Course.{Crosses, Ends, Faults, LosesPower, Steps, lost}
 use Rattle.pfr_story.specs.Plans.{mine, store, ready_of, by_ready, checked_then, brought_up, migrated, migration_in}
 use Rattle.pfr_story.specs.Turn.{fault_of, bank_stretch, unreadable, fuse_stretch, begun, Turn}
-use Rattle.pfr_story.specs.Causes.{IsAgainst, IsDue, IsRestorable, HasOpenJob}
-use Rattle.pfr_story.specs.Promises.{count_at, AtCounts, NotBefore, IsFaultLock, ReleasesTrusted, LocksHaveCauses}
-use Rattle.pfr_story.specs.Bringing.{IsOver, IsCalm, IsNotedBehind, ReleasedSoon, BringsUp, BringsUpCalm, PowerReleases}
+use Rattle.pfr_story.specs.Causes.{HasOpenJob}
+use Rattle.pfr_story.specs.Promises.{count_at, AtCounts, NotBefore, ReleasesTrusted, LocksHaveCauses}
+use Rattle.pfr_story.specs.Bringing.{IsOver, IsCalm, IsNotedBehind, ReleasedSoon, IsWorkedFrom, BringsUp, BringsUpCalm, PowerReleases}
 use Rattle.pfr_story.proofs.WorldLaws.{AllMoved-trans}
 use Rattle.pfr_story.proofs.SafetyLaws.{image_noted, AllMake-called}
 use Rattle.pfr_story.proofs.Courses.{Steps-moved}
@@ -43,9 +42,10 @@ use Rattle.pfr_story.proofs.Sequence.{after-append}
 use Rattle.pfr_story.proofs.Traces.{noted_append, noted_right, Precedes, Precedes-refl, Precedes-after, Precedes-trans, not_before, precedes_moved}
 use Rattle.pfr_story.proofs.Bytes.{HaveBytes, images_then, mine_sized, bank_sized}
 use Rattle.pfr_story.proofs.NoteLaws.{at_moment, Turn-releases, Turn-locks}
-use Rattle.pfr_story.proofs.TailLaws.{IsOf, Apart, NoneOf, brought_apart, behind, tail_trusted, tail_due, tail_named, tail_restored}
-use Rattle.pfr_story.proofs.OwnLaws.{Cause, tail_caused}
-use Rattle.pfr_story.proofs.TakenLaws.{IsOfJob, CanTake, taken, checked_at, can_work, ready_parts, said_parts, checked_closed, checked_same, taken_of, taken_restored}
+use Rattle.pfr_story.proofs.TailLaws.{IsOf, Apart, NoneOf, brought_apart, behind}
+use Rattle.pfr_story.proofs.OwnLaws.{tail_caused}
+use Rattle.pfr_story.proofs.CheckLaws.{IsOfCheck, of_check, check_no_job, HasCheck, checks_so}
+use Rattle.pfr_story.proofs.TakenLaws.{CanTake, taken, checked_at, can_work, ready_parts, said_parts, checked_closed, checked_worked, checked_same, taken_of, taken_restored}
 use Rattle.pfr_story.proofs.TwoLaws.{IsTwo, brought_two, stopped_two}
 use Rattle.pfr_story.proofs.BringRules.{ready_is}
 use Rattle.pfr_story.proofs.JobPower.{PowerEnds}
@@ -331,12 +331,12 @@ module _ (accepts : Acceptance) (first new : World) where
         let mine : IsNoted whole that = only_between (Apart which) (Apart which) first c.at c.end new whole c.before own_is c.behind that (λ apart. apart of) (λ apart. apart of) n in
         elim (subst (λ (notes : List Note). IsNoted notes that) whole_is mine) [ inl e ↦ inl e | inr m ↦ inr (noted_append work (behind accepts which (checked c)) that m) ]
 
-    -- and has its cause, but for what is noted of the job
-    caused : (that : What) → IsOf which that → ¬ (what.Held which (counts_in c.at) ≡ that) → ¬ IsOfJob that → IsNoted (added first new) that → Cause accepts which (checked c) that
-    caused that of other apart n = elim (own that of n) [
-      | inl e ↦ absurd (other e)
-      | inr (inl m) ↦ absurd (apart (taken_of accepts which (held c) that m))
-      | inr (inr m) ↦ tail_caused accepts which (checked c) then_bytes that m
+    -- where it is a note of a check it stands behind that
+    own_check : (that : What) → IsOfCheck which that → IsNoted (added first new) that → IsNoted (behind accepts which (checked c)) that
+    own_check that of n = elim (own that (of_check which that of) n) [
+      | inl e ↦ absurd (subst (IsOfCheck which) (sym e) of)
+      | inr (inl m) ↦ absurd (check_no_job which that of (taken_of accepts which (held c) that m))
+      | inr (inr m) ↦ m
     ]
 
     pub held_then : (at : Counts) → IsNoted (added first new) (what.Held which at) → at ≡ counts_in c.at
@@ -356,38 +356,17 @@ module _ (accepts : Acceptance) (first new : World) where
         subst (λ (notes : List Note). IsNotedBehind this that notes) (sym (added_is (Apart which) (Apart which) first c.at c.end new whole c.before own_is c.behind))
         (behind_within this that c.before.more whole c.behind.more mine)
 
-    released_then : (svn : ℕ) (then : Counts) → IsNoted (added first new) (what.Released which svn then)
-        → (then ≡ from c) ⊎ IsNotedBehind (what.Restored which 1) (what.Released which svn then) (added first new)
-    released_then svn then n = elim (caused (what.Released which svn then) refl (λ e. absurd cc) (λ of. of) n) [
-      | inl e ↦ inl e
-      | inr m ↦ inr (put_behind (what.Restored which 1) (what.Released which svn then) m)
-    ]
-
-    no_fault : IsCalm which (added first new) → (cause : LockWhy) (then : Counts) → IsNoted (added first new) (what.Locked which cause then) → ¬ IsFaultLock cause
-    no_fault calm why.FlashFault then n fault = calm.flash then n
-    no_fault calm why.StoreFault then n fault = calm.store then n
-    no_fault calm why.Unprovisioned then n fault = fault
-    no_fault calm why.SlotsSpent then n fault = fault
-    no_fault calm (why.Layout rule) then n fault = fault
-    no_fault calm (why.NoGoodImage active recovery) then n fault = fault
-    no_fault calm why.WatchdogSpent then n fault = fault
-    no_fault calm (why.NoRecovery recovery) then n fault = fault
-
-    locked_then : IsCalm which (added first new) → LocksHaveCauses accepts first new → (cause : LockWhy) (then : Counts) → IsNoted (added first new) (what.Locked which cause then)
-        → (then ≡ from c) × AtCounts (λ image nv. IsDue cause which image nv accepts) which (from c) new
-    locked_then calm locks cause then n =
-        let due = caused (what.Locked which cause then) refl (λ e. absurd cc) (λ of. of) n in
-        (due.0, subst (λ (at : Counts). AtCounts (λ image nv. IsDue cause which image nv accepts) which at new) due.0 (locks which cause then n (no_fault calm cause then n) due.1))
-
     restored_then : (level : ℕ) → IsNoted (added first new) (what.Restored which level)
-        → IsNoted (added first new) (what.Resumed which (ActiveFromRecovery level)) ⊎ ((level ≡ 1) × AtCounts (λ image nv. IsRestorable which image nv accepts) which (from c) new)
+        → IsNoted (added first new) (what.Resumed which (ActiveFromRecovery level)) ⊎ IsNoted (behind accepts which (checked c)) (what.Restored which level)
     restored_then level n = elim (own (what.Restored which level) refl n) [
       | inl e ↦ absurd cc
       | inr (inl m) ↦ inl (put_work (what.Resumed which (ActiveFromRecovery level)) (taken_restored accepts which (held c) level m))
-      | inr (inr m) ↦
-          let h = tail_caused accepts which (checked c) then_bytes (what.Restored which level) m in
-          inr (h.0, by_counts (λ image nv. IsRestorable which image nv accepts) h.1)
+      | inr (inr m) ↦ inr m
     ]
+
+    -- the notes of the check
+    has_check : HasCheck accepts which (checked c) (added first new)
+    has_check = record { put = put_check; put_behind = put_behind; own = own_check; restored = restored_then }
 
     -- where no job is open it is checked at once
     plain_then : ¬ AtCounts (λ image nv. HasOpenJob which image nv) which (counts_in c.at) new → from c ≡ counts_in c.at
@@ -400,19 +379,10 @@ module _ (accepts : Acceptance) (first new : World) where
       once = held_then;
       forth = forth;
       plain = plain_then;
+      worked = by_held (λ image nv. HasOpenJob which image nv → AtCounts (λ then nv_then. IsWorkedFrom accepts which image nv then nv_then) which (from c) new)
+          (λ opened. by_counts (λ then nv_then. IsWorkedFrom accepts which (mine which (held c)) (store (held c)) then nv_then) (checked_worked accepts which (held c) can opened));
       done = by_counts (λ image nv. ¬ HasOpenJob which image nv) (checked_closed accepts which (held c) can);
-      released = λ svn then n. (releases which svn then n, released_then svn then n);
-      locked = locked_then calm locks;
-      distrusted = λ cause n. by_counts (λ image nv. IsAgainst cause which image nv accepts) (caused (what.Untrusted which cause) refl (λ e. absurd cc) (λ of. of) n);
-      restored = restored_then;
-      trusted = by_counts (λ image nv. (t : IsTrusted image nv which accepts) → IsNoted (added first new) (what.Released which t.manifest.svn (from c)))
-          (λ t. put_check (what.Released which t.manifest.svn (from c)) (tail_trusted accepts which (checked c) t));
-      due = λ cause. by_counts (λ image nv. IsDue cause which image nv accepts → IsNoted (added first new) (what.Locked which cause (from c)))
-          (λ h. put_check (what.Locked which cause (from c)) (tail_due accepts which (checked c) cause h));
-      named = λ cause. by_counts (λ image nv. IsAgainst cause which image nv accepts → IsNoted (added first new) (what.Untrusted which cause))
-          (λ h. put_check (what.Untrusted which cause) (tail_named accepts which (checked c) cause h));
-      restorable = by_counts (λ image nv. IsRestorable which image nv accepts → IsNoted (added first new) (what.Restored which 1))
-          (λ h. put_check (what.Restored which 1) (tail_restored accepts which (checked c) then_bytes h));
+      checks = checks_so accepts first new which (checked c) then_precedes then_bytes has_check calm releases locks;
     }
 
     -- ---- and it ends released

@@ -1,5 +1,6 @@
 -- An update by a certificate of a bank that runs is judged before anything is written.
-use Rattle.std.proofs.Common.{◌≡◌, ◌∙◌, refl, sym, ap, subst, ℕ, List, [], ◌∷◌, inl, inr, ◌⊎◌, Result, Ok, Err}
+use Rattle.std.proofs.Common.{◌≡◌, ◌∙◌, refl, sym, ap, subst, ℕ, List, [], ◌∷◌, ◌++◌, inl, inr, ◌⊎◌, Result, Ok, Err}
+use Rattle.std.proofs.lemmas.List.{append-nil}
 use Rattle.pfr_flash.specs.FlashState.{size_of}
 use Rattle.pfr_flash.specs.declared.names.Bank.{Bank}
 use Rattle.pfr_flash.specs.declared.names.Counts.{Counts}
@@ -31,24 +32,41 @@ use Rattle.pfr_story.specs.Plans.{mine, store, ready_of, checked_then}
 use Rattle.pfr_story.specs.UpdatePlans.{refused_so, judged_cert, cancelled_key, by_use, by_cert, updated_with, updating}
 use Rattle.pfr_story.specs.Standing.{standing_of}
 use Rattle.pfr_story.specs.Turn.{update_stretch, update_course, begun, Turn}
-use Rattle.pfr_story.specs.Promises.{AtCounts, Runs}
-use Rattle.pfr_story.specs.Bringing.{IsCalm}
-use Rattle.pfr_story.specs.JobPromises.{HasCert, HasBadCert, CancelsKey, Cancels}
-use Rattle.pfr_story.proofs.SafetyLaws.{AllSafe-append}
+use Rattle.pfr_story.specs.Promises.{AtCounts, Runs, count_at, ReleasesTrusted, LocksHaveCauses}
+use Rattle.pfr_story.specs.Bringing.{IsCalm, IsNotedBehind}
+use Rattle.pfr_story.specs.JobPromises.{HasCert, HasBadCert, IsCheckedAnew, CancelsKey, Cancels}
+use Rattle.pfr_story.proofs.SafetyLaws.{AllSafe-append, AllMake-append, AllMake-called}
+use Rattle.pfr_story.proofs.Sequence.{after-append}
+use Rattle.pfr_story.proofs.Bytes.{HaveBytes, images_then}
 use Rattle.pfr_story.proofs.BringAllowed.{IsSized, AllowsBank, allowed_table}
 use Rattle.pfr_story.proofs.WorkShapes.{Brings}
 use Rattle.pfr_story.proofs.WorkWalks.{tail_on, then_on}
 use Rattle.pfr_story.proofs.BringRules.{Any, IsReady, ready_noted, ready_is, use_judged}
 use Rattle.pfr_story.proofs.Courses.{Turn-cases}
-use Rattle.pfr_story.proofs.Traces.{precedes_moved, Saying, call_says, Traced-known, KnownBefore}
-use Rattle.pfr_story.proofs.Made.{said, added_said}
-use Rattle.pfr_story.proofs.NoteLaws.{at_moment}
+use Rattle.pfr_story.proofs.Traces.{noted_append, noted_right, Precedes, Precedes-refl, Precedes-after, not_before, precedes_moved, Saying, call_says, Traced-known, KnownBefore}
+use Rattle.pfr_story.proofs.Made.{said, said_append, said_all, added_said, Whichever, behind_within}
+use Rattle.pfr_story.proofs.NoteLaws.{at_moment, Turn-releases, Turn-locks}
+use Rattle.pfr_story.proofs.CheckLaws.{IsOfCheck, HasCheck, checks_so}
+use Rattle.pfr_story.proofs.TailLaws.{behind as checks_of}
+use Rattle.pfr_story.proofs.JobCounts.{noted_count, store_count}
 use Rattle.pfr_story.proofs.Entry.{TrustedRunning, trusted_here, trusted_ready, follows_moved, takes}
 use Rattle.pfr_story.proofs.Endings.{IsTrouble, Ending, single_ends, ended_trace, ended_is, ended_good, ends_whole, over_alone, ends_behind}
 use Rattle.pfr_story.proofs.JobLaws.{Still, same_pasts, same_counts}
 use Rattle.pfr_story.proofs.JobQuiet.{told_jobs}
 use Rattle.pfr_story.proofs.JobWalks.{store_sized}
 use Rattle.pfr_story.proofs.RefusalLaws.{refused_still, trusted_held}
+
+-- what is noted before the check behind a cancellation
+abbrev IsOfCancel : What → Type 0
+IsOfCancel (what.Held b at) = Unit {0}
+IsOfCancel (what.Cancelled type id) = Unit {0}
+IsOfCancel that = ⊥
+
+no_cancel : (which : Bank) (that : What) → IsOfCheck which that → ¬ IsOfCancel that
+no_cancel which (what.Released b svn at) of other = other
+no_cancel which (what.Locked b cause at) of other = other
+no_cancel which (what.Untrusted b cause) of other = other
+no_cancel which that of other = absurd of
 
 -- ---- what is known of each note
 module _ (accepts : Acceptance) (b : Bank) (fuses : FusesState) (from : Story) where
@@ -219,13 +237,74 @@ module _ (accepts : Acceptance) (b : Bank) (fuses : FusesState) (first new : Wor
       subst (λ (f : FusesState). (judged_cert accepts b f there ≡ Ok cert) × (use_judged accepts b f cert there ≡ Ok tt))
       (fuses_one (store there) h.fuses fuses h.provisioned ready_there.provisioned) (h.judged, h.free)
 
-  cancels_key : IsTrusted (mine b (story_of first)) (store (story_of first)) b accepts → CancelsKey accepts b new (added first new) (counts_in first)
-  cancels_key t = record {
+  -- ---- behind a cancellation the bank is checked
+  module _ (cert : Cert) (is : IsFor accepts b fuses start cert) (calm : IsCalm b (added first new)) where
+    abbrev cancels : List Move
+    cancels = cancelled_key cert there
+
+    abbrev left : Story
+    left = after (cancelled_key cert there) there
+
+    abbrev front : List Note
+    front = record { item = start.item; what = what.Held b (counts_of start) } ∷ said cancels there
+
+    parts : added first new ≡ front ++ checks_of accepts b left
+    parts =
+        added_said first new (record { trace = Says (what.Held b) ∷ used cert (Ok tt); is = whole_used cert (Ok tt) is.0 is.1 calm })
+        ∙ ap (λ (notes : List Note). record { item = start.item; what = what.Held b (counts_of start) } ∷ notes) (said_append cancels (checked_then accepts b left) there)
+
+    ends : story_of new ≡ after (checked_then accepts b left) left
+    ends = whole_used cert (Ok tt) is.0 is.1 calm ∙ after-append cancels (checked_then accepts b left) there
+
+    front_of : (that : What) → IsNoted (record { item = (story_of first).item; what = what.Held b (counts_of (story_of first)) } ∷ said (cancelled_key cert there) there) that → IsOfCancel that
+    front_of that (inl e) = subst IsOfCancel e tt
+    front_of that (inr n) =
+        said_all IsOfCancel cancels there
+        (AllMake-append Whichever (λ w. (at : Counts) → IsOfCancel (w at)) (called device.Nv (cancellation cert.ty cert.id)) (Says (λ _. what.Cancelled cert.ty cert.id) ∷ [])
+        (AllMake-called Whichever (λ w. (at : Counts) → IsOfCancel (w at)) device.Nv (cancellation cert.ty cert.id) tt) ((λ at. tt), tt)) that n
+
+    in_check : (that : What) → ¬ IsOfCancel that → IsNoted (added first new) that → IsNoted (checks_of accepts b left) that
+    in_check that other n = elim (noted_append front (checks_of accepts b left) that (subst (λ (notes : List Note). IsNoted notes that) parts n)) [
+      | inl m ↦ absurd (other (front_of that m))
+      | inr m ↦ m
+    ]
+
+    has_check : HasCheck accepts b left (added first new)
+    has_check = record {
+      put = λ that n. subst (λ (notes : List Note). IsNoted notes that) (sym parts) (noted_right front (checks_of accepts b left) that n);
+      put_behind = λ this that k. subst (λ (notes : List Note). IsNotedBehind this that notes) (ap (λ (notes : List Note). front ++ notes) (append-nil (checks_of accepts b left)) ∙ sym parts)
+          (behind_within this that front (checks_of accepts b left) [] k);
+      own = λ that of n. in_check that (no_cancel b that of) n;
+      restored = λ level n. inr (in_check (what.Restored b level) (λ e. e) n);
+    }
+
+    precedes : Precedes left (story_of new)
+    precedes = subst (λ (s : Story). Precedes left s) (sym ends) (Precedes-after left left (checked_then accepts b left) (Precedes-refl left))
+
+    still_banks : (c : Bank) → count_at c (counts_of left) ≡ count_at c (counts_of start)
+    still_banks c =
+        let call : List Move = called device.Nv (cancellation cert.ty cert.id) in
+        let told : Counts → What = λ _. what.Cancelled cert.ty cert.id in
+        ap (λ (s : Story). count_at c (counts_of s)) (after-append call (Says told ∷ []) there) ∙ noted_count c told (after call there)
+        ∙ store_count c (cancellation cert.ty cert.id) there ∙ noted_count c (what.Held b) start
+
+    checked_anew : HaveBytes new → ReleasesTrusted accepts first new → LocksHaveCauses accepts first new → IsCheckedAnew accepts b new (added first new) (counts_in first)
+    checked_anew have releases locks = record {
+      from = counts_of left;
+      forth = not_before there left (Precedes-after there there cancels (Precedes-refl there));
+      still = still_banks;
+      checks = checks_so accepts first new b left precedes (images_then left new precedes have (device_of b)) has_check calm releases locks;
+    }
+
+  cancels_key : IsTrusted (mine b (story_of first)) (store (story_of first)) b accepts → HaveBytes new → ReleasesTrusted accepts first new → LocksHaveCauses accepts first new
+      → CancelsKey accepts b new (added first new) (counts_in first)
+  cancels_key t have releases locks = record {
     held = make_noted (ended_trace b (Unit {0}) (todo found) there (story_of new) behind) (ended_is b (Unit {0}) (todo found) there (story_of new) behind) (what.Held b (counts_in first)) (inl refl);
     refused = λ cause n. by_counts (λ image nv. HasBadCert cause b image nv accepts) (bad_cert cause (known (what.Refused b (refusing.Cert cause)) n).1);
     refuses = λ cause calm. by_counts (λ image nv. HasBadCert cause b image nv accepts → IsNoted (added first new) (what.Refused b (refusing.Cert cause))) (λ h. refuses_so cause calm (against_cert cause h));
     cancelled = λ type id n. by_counts (λ image nv. HasCert (record { ty = type; id = id }) b image nv accepts) (has_cert (record { ty = type; id = id }) (known (what.Cancelled type id) n).1);
     cancels = λ cert calm. by_counts (λ image nv. HasCert cert b image nv accepts → IsNoted (added first new) (what.Cancelled cert.ty cert.id)) (λ h. cancels_so cert calm (for_cert cert h));
+    tail = λ type id calm n. checked_anew (record { ty = type; id = id }) (known (what.Cancelled type id) n).1 calm have releases locks;
     writes_nothing = λ why n. writes_nothing t why n;
   }
 
@@ -234,19 +313,21 @@ module _ (accepts : Acceptance) (b : Bank) (old new : World) where
   abbrev first : World
   first = begun (event.Update b intent.Cert) old
 
-  cancels_by : IsSized (story_of first) → IsTrusted (mine b (story_of first)) (store (story_of first)) b accepts → Follows (update_course accepts b intent.Cert) first new → CancelsKey accepts b new (added old new) (counts_in old)
-  cancels_by sized t f =
+  cancels_by : IsSized (story_of first) → IsTrusted (mine b (story_of first)) (store (story_of first)) b accepts → HaveBytes new → ReleasesTrusted accepts old new → LocksHaveCauses accepts old new
+      → Follows (update_course accepts b intent.Cert) first new → CancelsKey accepts b new (added old new) (counts_in old)
+  cancels_by sized t have releases locks f =
       let ready : IsReady b t.fuses (story_of first) = trusted_ready accepts b (story_of first) t in
       let ending = single_ends (update_stretch accepts b intent.Cert) b (Unit {0}) (λ d. refl) tt first new f in
-      cancels_key accepts b t.fuses first new ready sized ending (follows_moved (update_course accepts b intent.Cert) first new f) t
+      cancels_key accepts b t.fuses first new ready sized ending (follows_moved (update_course accepts b intent.Cert) first new f) t have releases locks
 
-  cancel_turn : Turn accepts (event.Update b intent.Cert) old new → size_of old.nv ≡ 32768 → TrustedRunning accepts old → Runs b old → CancelsKey accepts b new (added old new) (counts_in old)
-  cancel_turn t nv trusted runs = elim (Turn-cases accepts (event.Update b intent.Cert) old new t) [
+  cancel_turn : Turn accepts (event.Update b intent.Cert) old new → HaveBytes new → size_of old.nv ≡ 32768 → TrustedRunning accepts old → Runs b old → CancelsKey accepts b new (added old new) (counts_in old)
+  cancel_turn t have nv trusted runs = elim (Turn-cases accepts (event.Update b intent.Cert) old new t) [
     | inl none ↦ absurd (takes (standing_of b old.notes.list) runs none.0)
-    | inr on ↦ cancels_by (length-play old.nv.start old.nv.ops ∙ nv) (trusted_here accepts (event.Update b intent.Cert) old trusted b runs) on.1
+    | inr on ↦ cancels_by (length-play old.nv.start old.nv.ops ∙ nv) (trusted_here accepts (event.Update b intent.Cert) old trusted b runs) have
+        (Turn-releases accepts (event.Update b intent.Cert) old new nv t have) (Turn-locks accepts (event.Update b intent.Cert) old new nv t have) on.1
   ]
 
--- A certificate is judged before anything is written.
-pub Turn-cancels : (accepts : Acceptance) (e : Event) (old new : World) → Turn accepts e old new → size_of old.nv ≡ 32768 → TrustedRunning accepts old → Cancels e accepts old new
-Turn-cancels accepts (event.Update b intent.Cert) old new t nv trusted = cancel_turn accepts b old new t nv trusted
-Turn-cancels accepts e old new t nv trusted = tt
+-- A certificate is judged before anything is written, and behind a cancellation the bank is checked.
+pub Turn-cancels : (accepts : Acceptance) (e : Event) (old new : World) → Turn accepts e old new → HaveBytes new → size_of old.nv ≡ 32768 → TrustedRunning accepts old → Cancels e accepts old new
+Turn-cancels accepts (event.Update b intent.Cert) old new t have nv trusted = cancel_turn accepts b old new t have nv trusted
+Turn-cancels accepts e old new t have nv trusted = tt

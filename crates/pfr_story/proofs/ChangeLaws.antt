@@ -18,6 +18,7 @@ use Rattle.pfr_fuses.specs.Provisioning.{judge_provision, provision_plan}
 use Rattle.pfr_fuses.specs.declared.fuse_fail.FuseFail.{FuseFail}
 use Rattle.pfr_fuses.specs.declared.root_slot.RootSlot.{RootSlot}
 use Rattle.pfr_script.specs.declared.event.Event.{Event}
+use Rattle.pfr_script.specs.Slots.{IsKnownSlot}
 use Rattle.pfr_report.specs.Texts.{IsNoted}
 use Rattle.pfr_report.specs.declared.note.Note.{Note}
 use Rattle.pfr_report.specs.declared.note.What.{What}
@@ -25,7 +26,7 @@ use Rattle.pfr_report.specs.declared.note.What.TheVariants as what
 use Rattle.pfr_story.specs.JobPromises.{HasFloor, HoldsBehind, ChangesFuses}
 use Rattle.pfr_story.specs.Keeping.{HasTrustedSpans}
 use Rattle.pfr_story.specs.Plans.{store, migration_in, provisioned_in}
-use Rattle.pfr_story.specs.Promises.{AreOff, IsKnownSlot}
+use Rattle.pfr_story.specs.Promises.{AreOff}
 use Rattle.pfr_story.specs.Recovery.{moments_with, moments_of}
 use Rattle.pfr_story.specs.Safety.{AllGood, AllSafe}
 use Rattle.pfr_story.specs.Story.{Story, Move, Says, Does, Asks, after, noted, operated, counts_of, called}

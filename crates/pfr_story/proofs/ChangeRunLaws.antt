@@ -16,6 +16,7 @@ use Rattle.pfr_engine.specs.Acceptance.{Acceptance}
 use Rattle.pfr_fuses.specs.FuseMap.{IsCancelled}
 use Rattle.pfr_fuses.specs.Growth.{Grows, NeverGoesBack, KeepsProvision}
 use Rattle.pfr_fuses.proofs.GrowthLemmas.{NeverGoesBack-trans, KeepsProvision-none, KeepsProvision-trans}
+use Rattle.pfr_script.specs.Slots.{HasKnownSlot, KnownSlots}
 use Rattle.pfr_script.specs.declared.item.Item.{Item}
 use Rattle.pfr_script.specs.declared.item.Item.TheVariants as item
 use Rattle.pfr_report.specs.Texts.{IsNoted}
@@ -23,7 +24,7 @@ use Rattle.pfr_report.specs.declared.note.Note.{Note}
 use Rattle.pfr_report.specs.declared.note.What.{What}
 use Rattle.pfr_report.specs.declared.note.What.TheVariants as what
 use Rattle.pfr_story.specs.JobPromises.{HasFloor, HoldsBehind, ChangesFuses}
-use Rattle.pfr_story.specs.Promises.{NotBefore, IsKnownSlot}
+use Rattle.pfr_story.specs.Promises.{NotBefore}
 use Rattle.pfr_story.specs.Recovery.{moments_of, Rise}
 use Rattle.pfr_story.specs.Run.{Did, Reached}
 use Rattle.pfr_story.specs.Story.{Story}
@@ -37,10 +38,6 @@ use Rattle.pfr_story.proofs.RunLaws.{Adds, IsLater, added_is, adds_then, armed_s
 use Rattle.pfr_story.proofs.Traces.{noted_append, noted_right, upto_begins}
 use Rattle.pfr_story.proofs.TrustedRunLaws.{IsUnderway}
 use Rattle.pfr_story.proofs.WholeLaws.{sized_later, Reached-along, Recovers, recovers_refl, recovers_then, did_recovers, R, moments_append, rise_last, early}
-
-abbrev pub HasKnownSlot : Item → Type 0
-HasKnownSlot (item.Event e) = IsKnownSlot e
-HasKnownSlot (item.Arm arm) = Unit {0}
 
 -- ---- a note in one of two parts of a list
 abbrev first_or : Note → List Note → Note
@@ -188,12 +185,12 @@ module _ (accepts : Acceptance) (tears : List (List ℕ)) (first : World) (bmc :
           (holds_then P that b c later stays (added first b) (added b c) (counts_in first) p.counted q.counted early_part late_part (subst (λ (notes : List Note). IsNoted notes that) whole n))
 
   -- No run takes a fuse back or loses a provision, where all that is provisioned are slots.
-  pub Reached-stays : (items : List Item) (new : World) → All HasKnownSlot items → IsUnderway accepts first first → HaveBytes new → Reached (Did accepts tears) items first new → StoreStays first new
+  pub Reached-stays : (items : List Item) (new : World) → KnownSlots items → IsUnderway accepts first first → HaveBytes new → Reached (Did accepts tears) items first new → StoreStays first new
   Reached-stays items new slots u held r =
       let none : added first first ≡ [] = nothing_added first first refl in
       let both = Reached-along accepts tears first bmc pch size HasKnownSlot (λ old here. Rises old here × StoreStays old here)
       (recovers_refl (R accepts tears first bmc pch size) first none ([], sym (append-nil first.notes.list)), stays_none first first refl none)
       (λ i old mid slot under bytes did. (did_recovers accepts tears first bmc pch size i old mid under bytes did, did_stays i old mid slot under bytes did))
       (λ mid here before behind p q. (recovers_then (R accepts tears first bmc pch size) first mid here behind.precedes p.0 q.0, stays_then mid here before behind p.0 q.0 p.1 q.1))
-      items new slots u held r in
+      items new (recursion_from_All HasKnownSlot items slots) u held r in
       both.1

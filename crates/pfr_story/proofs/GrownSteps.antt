@@ -10,10 +10,11 @@ use Rattle.pfr_engine.specs.Acceptance.{Acceptance}
 use Rattle.pfr_fuses.specs.Growth.{NeverGoesBack, KeepsProvision}
 use Rattle.pfr_script.specs.declared.event.Event.{Event}
 use Rattle.pfr_script.specs.declared.event.Event.TheVariants as event
+use Rattle.pfr_script.specs.Slots.{IsKnownSlot}
 use Rattle.pfr_story.specs.Course.{Follows}
 use Rattle.pfr_story.specs.JobPlans.{job_notes}
 use Rattle.pfr_story.specs.Plans.{store}
-use Rattle.pfr_story.specs.Promises.{AreOff, IsKnownSlot}
+use Rattle.pfr_story.specs.Promises.{AreOff}
 use Rattle.pfr_story.specs.Story.{Story}
 use Rattle.pfr_story.specs.Turn.{off_course, boot_course, ignored, is_idle, taken, begun, Turn}
 use Rattle.pfr_story.specs.World.{World, story_of}

@@ -4,8 +4,9 @@ use Rattle.pfr_flash.specs.FlashState.{size_of}
 use Rattle.pfr_engine.specs.Acceptance.{Acceptance}
 use Rattle.pfr_fuses.specs.Growth.{NeverGoesBack, KeepsProvision}
 use Rattle.pfr_script.specs.declared.event.Event.{Event}
+use Rattle.pfr_script.specs.Slots.{IsKnownSlot}
 use Rattle.pfr_story.specs.World.{World}
-use Rattle.pfr_story.specs.Promises.{AreOff, IsKnownSlot}
+use Rattle.pfr_story.specs.Promises.{AreOff}
 use Rattle.pfr_story.specs.Turn.{Turn}
 use Rattle.pfr_story.proofs.Bytes.{HaveBytes}
 use Rattle.pfr_story.proofs.GrownSteps.{Turn-grown}

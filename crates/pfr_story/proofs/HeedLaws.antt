@@ -30,7 +30,7 @@ use Rattle.pfr_report.specs.declared.note.What.TheVariants as what
 use Rattle.pfr_story.specs.Bringing.{IsCalm}
 use Rattle.pfr_story.specs.Causes.{IsResumable}
 use Rattle.pfr_story.specs.JobPlans.{job_notes, same_digest, judged_source, finished_job, worked, copied_over, by_first_pass, work_of, resumed_if, by_source, by_open}
-use Rattle.pfr_story.specs.JobPromises.{left_strokes, AddsSince, HeedsMarks, MarksAreHeeded}
+use Rattle.pfr_story.specs.JobPromises.{left_strokes, AddsSince, IsCutBehind, HeedsMarks, MarksAreHeeded}
 use Rattle.pfr_story.specs.Plans.{mine, store, asks, ready_of, judged_recovery, by_ready, brought_up, checked_then}
 use Rattle.pfr_story.specs.Promises.{AtCounts, count_at}
 use Rattle.pfr_story.specs.Story.{Past, Story, Move, Says, Asks, after, noted, past_at, device_of}
@@ -39,6 +39,7 @@ use Rattle.pfr_story.specs.World.{World, story_of, counts_in, state_at, added}
 use Rattle.pfr_story.proofs.BringRules.{ready_is}
 use Rattle.pfr_story.proofs.Bytes.{HaveBytes}
 use Rattle.pfr_story.proofs.Fronts.{Starts, Starting, says_first, asks_first, deeds_first}
+use Rattle.pfr_story.proofs.HeedCuts.{IsWhole, done_or_cut}
 use Rattle.pfr_story.proofs.JobRecoveryBegun.{same_spelled}
 use Rattle.pfr_story.proofs.JobSteps.{active_strokes, recovery_strokes}
 use Rattle.pfr_story.proofs.Made.{never_noted}
@@ -152,14 +153,14 @@ record Heeded (accepts : Acceptance) (which : Bank) (kind : JobKind) (new : Worl
   from : IsResumable kind which image nv accepts
   ops : List Operation
   since : AddsSince which at ops new
-  heeds : ((more : List Operation) × (ops ≡ left_strokes kind which image nv accepts from ++ more)) ⊎ IsPart image (left_strokes kind which image nv accepts from) ops
+  heeds : ((more : List Operation) × (ops ≡ left_strokes kind which image nv accepts from ++ more)) ⊎ (IsPart image (left_strokes kind which image nv accepts from) ops × IsCutBehind which (what.Resumed which kind) notes)
   whole : IsCalm which notes → (more : List Operation) × (ops ≡ left_strokes kind which image nv accepts from ++ more)
 
 -- what was done whole, or in part where it isn't calm
-module _ (Whole Part IsSo : Type 0) where
-  in_part : Whole ⊎ ((¬ IsSo) × Part) → Whole ⊎ Part
-  in_part (inl whole) = inl whole
-  in_part (inr (short, part)) = inr part
+module _ (Whole Part Cut IsSo : Type 0) where
+  in_part : Cut → Whole ⊎ ((¬ IsSo) × Part) → Whole ⊎ (Part × Cut)
+  in_part cut (inl whole) = inl whole
+  in_part cut (inr (short, part)) = inr (part, cut)
 
   in_whole : Whole ⊎ ((¬ IsSo) × Part) → IsSo → Whole
   in_whole (inl whole) so = whole
@@ -172,31 +173,49 @@ module _ (accepts : Acceptance) (first new : World) (have : HaveBytes new) (whic
   abbrev Calm : Type 0
   Calm = IsCalm which (added first new)
 
-  heeded : (at : Counts) → at ≡ counts_in c.at → (kind : JobKind) → IsResumable kind which (mine which there) (store there) accepts → Heeded accepts which kind new (added first new) at (mine which there) (store there)
-  heeded at e kind r =
-      let strokes : List Operation = left_strokes kind which (mine which there) (store there) accepts r in
-      let old : Past = past_at (device_of which) (story_of c.at) in
-      let s : Starts (¬ Calm) strokes old (past_at (device_of which) (after c.went.trace (story_of c.at))) = brought_left accepts which (¬ Calm) kind (story_of c.at) r c.went.trace c.went.front in
-      let same : mine which (story_of c.at) ≡ mine which there = sym (image_noted (device_of which) (what.Held which) (story_of c.at)) in
-      let Whole : Type 0 = (more : List Operation) × (s.ops ≡ strokes ++ more) in
-      record {
-        from = r;
-        ops = s.ops;
-        since = record {
-          before = old.ops;
-          few = count_in which c.at ∙ ap (λ (counts : Counts). count_at which counts) (sym e);
-          is = sym (ops_in which new) ∙ ap (λ (past : Past). past.ops) c.went.past ∙ s.is;
-        };
-        heeds = subst (λ (image : List ℕ). Whole ⊎ IsPart image strokes s.ops) same (in_part Whole (IsPart (mine which (story_of c.at)) strokes s.ops) Calm s.first);
-        whole = in_whole Whole (IsPart (mine which (story_of c.at)) strokes s.ops) Calm s.first;
-      }
+  module _ (at : Counts) (e : at ≡ counts_in c.at) (kind : JobKind) (r : IsResumable kind which (mine which (noted (what.Held which) (story_of c.at))) (store (noted (what.Held which) (story_of c.at))) accepts) where
+    abbrev strokes : List Operation
+    strokes = left_strokes kind which (mine which (noted (what.Held which) (story_of c.at))) (store (noted (what.Held which) (story_of c.at))) accepts r
+
+    abbrev past : Past
+    past = past_at (device_of which) (story_of c.at)
+
+    abbrev IsHeeded : Type 0
+    IsHeeded = Heeded accepts which kind new (added first new) at (mine which (noted (what.Held which) (story_of c.at))) (store (noted (what.Held which) (story_of c.at)))
+
+    adds : (ops : List Operation) → (past_at (device_of which) (story_of new)).ops ≡ (past_at (device_of which) (story_of c.at)).ops ++ ops → AddsSince which at ops new
+    adds ops is = record {
+      before = past.ops;
+      few = count_in which c.at ∙ ap (λ (counts : Counts). count_at which counts) (sym e);
+      is = sym (ops_in which new) ∙ is;
+    }
+
+    all_done : IsWhole accepts first new which c kind r → IsHeeded
+    all_done (more, is) = record { from = r; ops = strokes ++ more; since = adds (strokes ++ more) is; heeds = inl (more, refl); whole = λ calm. (more, refl) }
+
+    some_done : IsCutBehind which (what.Resumed which kind) (added first new) → IsHeeded
+    some_done cut =
+        let s : Starts (¬ Calm) strokes past (past_at (device_of which) (after c.went.trace (story_of c.at))) = brought_left accepts which (¬ Calm) kind (story_of c.at) r c.went.trace c.went.front in
+        let same : mine which (story_of c.at) ≡ mine which there = sym (image_noted (device_of which) (what.Held which) (story_of c.at)) in
+        let Whole : Type 0 = (more : List Operation) × (s.ops ≡ strokes ++ more) in
+        let Cut : Type 0 = IsCutBehind which (what.Resumed which kind) (added first new) in
+        record {
+          from = r;
+          ops = s.ops;
+          since = adds s.ops (ap (λ (p : Past). p.ops) c.went.past ∙ s.is);
+          heeds = subst (λ (image : List ℕ). Whole ⊎ (IsPart image strokes s.ops × Cut)) same (in_part Whole (IsPart (mine which (story_of c.at)) strokes s.ops) Cut Calm cut s.first);
+          whole = in_whole Whole (IsPart (mine which (story_of c.at)) strokes s.ops) Cut Calm s.first;
+        }
+
+    heeded : IsNoted (added first new) (what.Resumed which kind) → IsHeeded
+    heeded n = elim (done_or_cut accepts first new which c kind r n) [ inl whole ↦ all_done whole | inr cut ↦ some_done cut ]
 
   heeds_at : (at : Counts) → IsNoted (added first new) (what.Held which at) → (kind : JobKind) → IsNoted (added first new) (what.Resumed which kind) → HeedsMarks accepts which kind new (added first new) at
   heeds_at at h kind n =
       let r : AtCounts (λ image nv. IsResumable kind which image nv accepts) which at new = resumed_at accepts first new have which bank_size c at h kind n in
       let k : AtCounts (λ image nv. IsResumable kind which image nv accepts → Heeded accepts which kind new (added first new) at image nv) which at new =
       by_held accepts first new have which bank_size c (λ image nv. IsResumable kind which image nv accepts → Heeded accepts which kind new (added first new) at image nv) at h
-      (λ there_r. heeded at (held_at accepts first new have which bank_size c at h) kind there_r) in
+      (λ there_r. heeded at (held_at accepts first new have which bank_size c at h) kind there_r n) in
       let d = k r in
       record { from = d.from; ops = d.ops; since = d.since; heeds = d.heeds; whole = d.whole }
 

@@ -66,7 +66,7 @@ use Rattle.pfr_story.proofs.JobSafety.{IsJobless, holds_noted}
 use Rattle.pfr_story.proofs.JobSafetyLaws.{recovery_job_ends}
 use Rattle.pfr_story.proofs.JobTrust.{IsTrustedNow, KeepsTrust, trust_kept, jobs_trust, noted_trust, jobs_trust_told}
 use Rattle.pfr_story.proofs.Made.{Whichever}
-use Rattle.pfr_story.proofs.RecoveryUpdateLaws.{can_there}
+use Rattle.pfr_story.proofs.HeldLaws.{can_there}
 use Rattle.pfr_story.proofs.RenewedTrust.{trusted_renewed}
 use Rattle.pfr_story.proofs.StepTraces.{IsGoodStretch, AllowsFaults, tick_along, pass_noted, noted_by, provision_by, spi_by, smbus_by, failed_by, update_by, sized}
 use Rattle.pfr_story.proofs.StoreLaws.{judged_here}

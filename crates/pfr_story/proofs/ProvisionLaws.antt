@@ -23,6 +23,7 @@ use Rattle.pfr_fuses.proofs.BlankLemmas.{judged-ok}
 use Rattle.pfr_fuses.proofs.ProvisionLemmas.{provision-ok, provision-slot}
 use Rattle.pfr_script.specs.declared.event.Event.{Event}
 use Rattle.pfr_script.specs.declared.event.Event.TheVariants as event
+use Rattle.pfr_script.specs.Slots.{IsKnownSlot}
 use Rattle.pfr_report.specs.Texts.{IsNoted}
 use Rattle.pfr_report.specs.declared.note.LockWhy.TheVariants as why
 use Rattle.pfr_report.specs.declared.note.Note.{Note}
@@ -34,7 +35,7 @@ use Rattle.pfr_story.specs.Safety.{Rule, AllSafe}
 use Rattle.pfr_story.specs.Plans.{provisioned_in, refusal_of}
 use Rattle.pfr_story.specs.Course.{Steps, Follows as FollowsCourse}
 use Rattle.pfr_story.specs.Turn.{provision_stretch, provision_course, begun, Turn}
-use Rattle.pfr_story.specs.Promises.{AreOff, IsKnownSlot, IsUntroubled, sizes_judged, TriesProvision, ProvisionsSo}
+use Rattle.pfr_story.specs.Promises.{AreOff, IsUntroubled, sizes_judged, TriesProvision, ProvisionsSo}
 use Rattle.pfr_story.proofs.Sequence.{after-append}
 use Rattle.pfr_story.proofs.SafetyLaws.{AllSafe-append, with_all, past_called}
 use Rattle.pfr_story.proofs.Courses.{Turn-cases}

@@ -13,7 +13,6 @@ use Rattle.pfr_engine.specs.Acceptance.{Acceptance}
 use Rattle.pfr_fuses.specs.Changes.{raised}
 use Rattle.pfr_fuses.specs.FusesState.{FusesState}
 use Rattle.pfr_fuses.specs.RootSlot.{layout_of}
-use Rattle.pfr_fuses.specs.declared.profile.Profile.TheVariants.{Two}
 use Rattle.pfr_manifest.specs.declared.manifest.Manifest.{Manifest}
 use Rattle.pfr_capsule.specs.CapsuleState.{CapsuleState}
 use Rattle.pfr_capsule.specs.declared.fail.CapsuleFail.{CapsuleFail}
@@ -55,22 +54,24 @@ use Rattle.pfr_story.specs.Promises.{AtCounts, Runs, RunningHasNoJob}
 use Rattle.pfr_story.specs.Bringing.{IsCalm}
 use Rattle.pfr_story.specs.JobPromises.{HasStagedFor, IsCopiedFrom, UpdatesRecovery, RecoveryUpdates}
 use Rattle.pfr_story.proofs.Sequence.{after-append}
-use Rattle.pfr_story.proofs.SafetyLaws.{AllSafe-append, image_noted, kept_by}
+use Rattle.pfr_story.proofs.SafetyLaws.{AllSafe-append, kept_by}
 use Rattle.pfr_story.proofs.RestoreLaws.{stand_for, found_staged}
 use Rattle.pfr_story.proofs.BringAllowed.{IsSized}
 use Rattle.pfr_story.proofs.BringRules.{IsReady, ready_noted, ready_is, IsOwn, Walks, tail_safe, then_safe}
 use Rattle.pfr_story.proofs.Courses.{Turn-cases}
-use Rattle.pfr_story.proofs.Traces.{Precedes, precedes_moved, Saying, Traced-known, KnownBefore}
+use Rattle.pfr_story.proofs.Traces.{precedes_moved, Saying, Traced-known, KnownBefore}
 use Rattle.pfr_story.proofs.Made.{said, added_said, noted_first, noted_next}
-use Rattle.pfr_story.proofs.Bytes.{HaveBytes, images_then}
+use Rattle.pfr_story.proofs.Bytes.{HaveBytes}
 use Rattle.pfr_story.proofs.NoteLaws.{at_moment}
 use Rattle.pfr_story.proofs.Entry.{TrustedRunning, trusted_here, trusted_ready, sized_here, follows_moved, takes}
 use Rattle.pfr_story.proofs.Endings.{IsTrouble, IsBroken, Ending, single_ends, ended_trace, ended_is, ended_good, ends_whole, over_alone, ends_behind, ends_parts}
 use Rattle.pfr_story.proofs.FoundLaws.{found_begins}
+use Rattle.pfr_story.proofs.HeldLaws.{can_there}
 use Rattle.pfr_story.proofs.JobFront.{NoNote}
 use Rattle.pfr_story.proofs.JobLaws.{Still, same_pasts, same_counts, same_mine, IsOther}
 use Rattle.pfr_story.proofs.JobQuiet.{told_jobs}
 use Rattle.pfr_story.proofs.JobWalks.{job_allowed, store_sized}
+use Rattle.pfr_story.proofs.JudgedLaws.{Turn-judges}
 use Rattle.pfr_story.proofs.RecoveryTail.{Tame, IsStanding, tame_keeps, tail_tame}
 use Rattle.pfr_story.proofs.RecoveryTold.{IsCopying, copying}
 use Rattle.pfr_story.proofs.RefusalLaws.{refused_still, trusted_held}
@@ -448,8 +449,9 @@ module _ (accepts : Acceptance) (b : Bank) (fuses : FusesState) (first new : Wor
   abbrev IsSpentFor : Bool → List ℕ → List ℕ → Type 0
   IsSpentFor spent image nv = HasStagedFor true b image nv accepts × (is_spent nv b ≡ spent)
 
-  updates_recovery : IsTrusted (mine b (story_of first)) (store (story_of first)) b accepts → UpdatesRecovery accepts b new (added first new) (counts_in first)
-  updates_recovery t = record {
+  updates_recovery : IsTrusted (mine b (story_of first)) (store (story_of first)) b accepts → ((cause : ActiveFail) → ¬ IsNoted (added first new) (what.Untrusted b cause))
+      → UpdatesRecovery accepts b new (added first new) (counts_in first)
+  updates_recovery t none = record {
     held = make_noted (ended_trace b (Unit {0}) (todo found) there (story_of new) behind) (ended_is b (Unit {0}) (todo found) there (story_of new) behind) (what.Held b (counts_in first)) (inl refl);
     bad = λ cause n. by_counts (λ image nv. HasBadStaging cause b image nv accepts) (record { fuses = fuses; provisioned = can.provisioned; judged = (known (what.Refused b (refusing.Capsule cause)) n).1 });
     refuses_bad = λ cause calm. by_counts (λ image nv. HasBadStaging cause b image nv accepts → IsNoted (added first new) (what.Refused b (refusing.Capsule cause))) (λ h. refuses_bad cause calm (found_bad cause h));
@@ -460,7 +462,7 @@ module _ (accepts : Acceptance) (b : Bank) (fuses : FusesState) (first new : Wor
     refuses_spent = λ calm. by_counts (λ image nv. IsSpentFor true image nv → IsNoted (added first new) (what.Refused b refusing.JobsSpent))
         (λ h. refuses_spent h.0.staged.good.capsule calm (staged_for true h.0) h.1);
     updated = λ svn n. by_counts (IsUpdatedFrom svn) (updated_from svn n);
-    replaced = λ svn n none. by_counts (λ image nv. IsCopiedFrom b image nv accepts (now (state_at (device_of b) new))) (replaced_from svn n none);
+    replaced = λ svn n. by_counts (λ image nv. IsCopiedFrom b image nv accepts (now (state_at (device_of b) new))) (replaced_from svn n none);
     updates = λ calm. by_counts (λ image nv. (h : IsSpentFor false image nv) → IsNoted (added first new) (what.RecoveryUpdated b h.0.staged.good.capsule.manifest.svn))
         (λ h. updates_so h.0.staged.good.capsule calm (staged_for true h.0) h.1);
     writes_nothing = λ why n. writes_nothing t why n;
@@ -470,39 +472,20 @@ module _ (accepts : Acceptance) (b : Bank) (fuses : FusesState) (first new : Wor
   gives_none_up : (c : Bank) → ¬ IsNoted (added first new) (what.Abandoned c)
   gives_none_up c n = (known (what.Abandoned c) n).1
 
--- ---- where it is held behind the begin of a step, the work can be done
-module _ (accepts : Acceptance) (b : Bank) (first new : World) where
-  abbrev pub there_held : Story
-  there_held = noted (what.Held b) (story_of first)
-
-  pub can_there : (t : IsTrusted (mine b (story_of first)) (store (story_of first)) b accepts) → AllMoved first new → HaveBytes new → IsBankSize (length (mine b (story_of first))) → IsSized (story_of first)
-      → IsSettled (store (story_of first)) → CanWork b t.fuses there_held
-  can_there t moved have size sized settled =
-      let p = precedes_moved first new moved in
-      let precedes : Precedes there_held (story_of new) = record { bmc = p.bmc; pch = p.pch; nv = p.nv } in
-      let ready : IsReady b t.fuses there_held = ready_noted b t.fuses (what.Held b) (story_of first) (trusted_ready accepts b (story_of first) t) in
-      record {
-        provisioned = ready.provisioned;
-        two = subst (λ (f : FusesState). f.profile ≡ Two) (fuses_one (store (story_of first)) settled.fuses t.fuses settled.provisioned t.provisioned) settled.two;
-        layout = ready.layout;
-        size = subst (λ (image : List ℕ). IsBankSize (length image)) (sym (image_noted (device_of b) (what.Held b) (story_of first))) size;
-        bytes = images_then there_held new precedes have (device_of b);
-        store_size = sized;
-      }
-
 -- ---- a whole step
 module _ (accepts : Acceptance) (b : Bank) (old new : World) where
   abbrev first : World
   first = begun (event.Update b intent.Recovery) old
 
   updates_by : HaveBytes new → IsBankSize (length (mine b (story_of first))) → IsSized (story_of first) → IsTrusted (mine b (story_of first)) (store (story_of first)) b accepts
-      → open_job (store (story_of first)) b ≡ job.None → IsSettled (store (story_of first)) → Follows (update_course accepts b intent.Recovery) first new → UpdatesRecovery accepts b new (added old new) (counts_in old) × ((c : Bank) → ¬ IsNoted (added old new) (what.Abandoned c))
-  updates_by have size sized t idle settled f =
+      → open_job (store (story_of first)) b ≡ job.None → IsSettled (store (story_of first)) → Follows (update_course accepts b intent.Recovery) first new → ((cause : ActiveFail) → ¬ IsNoted (added old new) (what.Untrusted b cause))
+      → UpdatesRecovery accepts b new (added old new) (counts_in old) × ((c : Bank) → ¬ IsNoted (added old new) (what.Abandoned c))
+  updates_by have size sized t idle settled f none =
       let moved : AllMoved first new = follows_moved (update_course accepts b intent.Recovery) first new f in
       let ending = single_ends (update_stretch accepts b intent.Recovery) b (Unit {0}) (λ d. refl) tt first new f in
       let ready : IsReady b t.fuses (noted (what.Held b) (story_of first)) = ready_noted b t.fuses (what.Held b) (story_of first) (trusted_ready accepts b (story_of first) t) in
       let can : CanWork b t.fuses (noted (what.Held b) (story_of first)) = can_there accepts b first new t moved have size sized settled in
-      (updates_recovery accepts b t.fuses first new ready can idle ending moved t, gives_none_up accepts b t.fuses first new ready can idle ending moved)
+      (updates_recovery accepts b t.fuses first new ready can idle ending moved t none, gives_none_up accepts b t.fuses first new ready can idle ending moved)
 
   update_turn : Turn accepts (event.Update b intent.Recovery) old new → HaveBytes new → IsBankSize (size_of old.bmc) → IsBankSize (size_of old.pch) → size_of old.nv ≡ 32768
       → TrustedRunning accepts old → RunningHasNoJob old → ((which : Bank) → Runs which old → IsSettled (now old.nv)) → Runs b old → UpdatesRecovery accepts b new (added old new) (counts_in old) × ((c : Bank) → ¬ IsNoted (added old new) (what.Abandoned c))
@@ -511,6 +494,7 @@ module _ (accepts : Acceptance) (b : Bank) (old new : World) where
       elim (Turn-cases accepts e old new t) [
         | inl none ↦ absurd (takes (standing_of b old.notes.list) runs none.0)
         | inr on ↦ updates_by have (sized_here e old bmc pch b) (length-play old.nv.start old.nv.ops ∙ nv) (trusted_here accepts e old trusted b runs) (idle b runs) (settled b runs) on.1
+            ((Turn-judges accepts e old new t have bmc pch nv trusted idle settled (λ power. power) (λ cert. cert)).trusted b)
       ]
 
 -- An update of the recovery area of a bank that runs is judged before anything is written.

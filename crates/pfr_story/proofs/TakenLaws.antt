@@ -18,6 +18,7 @@ use Rattle.pfr_report.specs.declared.note.LockWhy.{LockWhy}
 use Rattle.pfr_report.specs.declared.note.Note.{Note}
 use Rattle.pfr_report.specs.declared.note.What.{What}
 use Rattle.pfr_report.specs.declared.note.What.TheVariants as what
+use Rattle.pfr_story.specs.Bringing.{IsWorkedFrom}
 use Rattle.pfr_story.specs.Causes.{HasOpenJob}
 use Rattle.pfr_story.specs.JobContents.{CanWork}
 use Rattle.pfr_story.specs.JobPlans.{job_notes, same_digest, judged_source, abandoned, work_of, resumed_if, by_source, by_open, resumed}
@@ -83,6 +84,18 @@ module _ (accepts : Acceptance) (b : Bank) where
   closed_by : (r : Result FusesState LockWhy) (story : Story) → CanTake b story → ready_of b story ≡ r → ¬ HasOpenJob b (mine b (after (taken_by r story) story)) (store (after (taken_by r story) story))
   closed_by (Ok fuses) story can e h = h.opened (resumed_ends (job_notes b) accepts b fuses story (can_work fuses story can e)).opened
   closed_by (Err why) story can e h = absurd (let never : Err why ≡ Ok h.fuses = sym e ∙ ready_is b h.fuses story h.provisioned h.layout in cc)
+
+  -- the bank holds what the work on its job makes of it then
+  worked_by : (r : Result FusesState LockWhy) (story : Story) → CanTake b story → ready_of b story ≡ r → HasOpenJob b (mine b story) (store story)
+      → IsWorkedFrom accepts b (mine b story) (store story) (mine b (after (taken_by r story) story)) (store (after (taken_by r story) story))
+  worked_by (Ok fuses) story can e h =
+      let k = can_work fuses story can e in
+      let d = resumed_ends (job_notes b) accepts b fuses story k in
+      record { fuses = fuses; provisioned = k.provisioned; holds = d.bank; says = d.says }
+  worked_by (Err why) story can e h = absurd (let never : Err why ≡ Ok h.fuses = sym e ∙ ready_is b h.fuses story h.provisioned h.layout in cc)
+
+  pub checked_worked : (story : Story) → CanTake b story → HasOpenJob b (mine b story) (store story) → IsWorkedFrom accepts b (mine b story) (store story) (mine b (checked_at story)) (store (checked_at story))
+  checked_worked story can h = worked_by (ready_of b story) story can refl h
 
   pub checked_closed : (story : Story) → CanTake b story → ¬ HasOpenJob b (mine b (checked_at story)) (store (checked_at story))
   checked_closed story can = closed_by (ready_of b story) story can refl

@@ -1,8 +1,7 @@
 -- Laws of whole runs that begin with no note: a bank that runs where an item begins is trusted there.
 use Rattle.std.proofs.Common.{◌≡◌, ◌∙◌, ℕ, ◌+◌, List, [], ◌∷◌, length, sym, ap, subst}
-use Rattle.std.specs.List.{All}
+use Rattle.std.specs.List.{AllByRecursion}
 use Rattle.std.specs.Prelude.{slice_index_or}
-use Rattle.std.proofs.lemmas.List.Elements.{All-head, All-tail}
 use Rattle.pfr_flash.specs.FlashState.{size_of}
 use Rattle.pfr_flash.specs.Layout.{IsBankSize}
 use Rattle.pfr_flash.specs.declared.names.Bank.{Bank}
@@ -68,15 +67,12 @@ module _ (accepts : Acceptance) (tears : List (List ℕ)) where
           (subst (λ (start : List ℕ). IsBankSize (length start)) (sym u.later.precedes.pch.start) pch) (ap (λ (start : List ℕ). length start) u.later.precedes.nv.start ∙ size) did u.trusted;
     }
 
-    -- What holds besides of each item that fits holds of it in the run, where all fit and the devices had bytes.
-    pub Reached-with : (Fits : Item → Type 0) (Q : Item → World → World → Type 0)
-        → ((i : Item) (old new : World) → Fits i → IsUnderway accepts first old → HaveBytes new → Did accepts tears i old new → Q i old new)
-        → (items : List Item) (old new : World) → All Fits items → IsUnderway accepts first old → HaveBytes new → Reached (Did accepts tears) items old new
+    -- What holds of each item besides, by what P says of it, holds of it in the run, where the devices had bytes.
+    pub Reached-with : (P : Item → Type 0) (Q : Item → World → World → Type 0)
+        → ((i : Item) (old new : World) → P i → IsUnderway accepts first old → HaveBytes new → Did accepts tears i old new → Q i old new)
+        → (items : List Item) (old new : World) → AllByRecursion P items → IsUnderway accepts first old → HaveBytes new → Reached (Did accepts tears) items old new
         → Reached (λ i a b. Did accepts tears i a b × Q i a b) items old new
-    Reached-with Fits Q holds [] old new fit u held r = r
-    Reached-with Fits Q holds (i ∷ items) old new fit u held (mid, did, r) =
-        let bytes = have_before mid new (Reached-later accepts tears items mid new r).precedes held in (
-          mid,
-          (did, holds i old mid (All-head Fits i items fit) u bytes did),
-          Reached-with Fits Q holds items mid new (All-tail Fits i items fit) (did_underway i old mid bytes did u) held r,
-        )
+    Reached-with P Q holds [] old new known u held r = r
+    Reached-with P Q holds (i ∷ items) old new known u held (mid, did, r) =
+        let bytes = have_before mid new (Reached-later accepts tears items mid new r).precedes held in
+        (mid, (did, holds i old mid known.0 u bytes did), Reached-with P Q holds items mid new known.1 (did_underway i old mid bytes did u) held r)

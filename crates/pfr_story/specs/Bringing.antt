@@ -1,11 +1,13 @@
 -- What a power-on promises of each bank, where no call fails while the bank is in work.
-use Rattle.std.specs.Prelude.{◌≡◌, ◌⊎◌, ℕ, ◌+◌, ◌*◌, ◌/◌, ◌≤◌, List, ◌∷◌, ◌++◌, Option}
+use Rattle.std.specs.Prelude.{◌≡◌, ◌⊎◌, ℕ, ◌+◌, ◌*◌, ◌/◌, ◌≤◌, List, ◌∷◌, ◌++◌, Option, Ok}
 use Rattle.pfr_flash.specs.FlashState.{size_of}
 use Rattle.pfr_flash.specs.declared.names.Bank.{Bank}
 use Rattle.pfr_flash.specs.declared.names.Bank.TheVariants as bank
 use Rattle.pfr_flash.specs.declared.names.Counts.{Counts}
 use Rattle.pfr_flash.specs.declared.names.Device.{Device}
 use Rattle.pfr_engine.specs.Acceptance.{Acceptance}
+use Rattle.pfr_fuses.specs.FusesOf.{fuses_of}
+use Rattle.pfr_fuses.specs.FusesState.{FusesState}
 use Rattle.pfr_auth.specs.Trusted.{IsTrusted}
 use Rattle.pfr_auth.specs.declared.fail.ActiveFail.{ActiveFail}
 use Rattle.pfr_jobs.specs.declared.job.JobKind.TheVariants.{ActiveFromRecovery}
@@ -20,9 +22,10 @@ use Rattle.pfr_report.specs.declared.note.What.TheVariants.{Held, Released, Lock
 use Rattle.pfr_story.specs.Story.{device_of}
 use Rattle.pfr_story.specs.World.{World, state_at, added}
 use Rattle.pfr_story.specs.Causes.{IsTrustedWith, IsAgainst, IsDue, IsRestorable, HasOpenJob}
+use Rattle.pfr_story.specs.JobContents.{image_resumed, fuses_resumed}
 use Rattle.pfr_story.specs.Promises.{count_at, AtCounts, NotBefore}
 
--- the work on the bank was over: on the BMC's it was where the PCH is held behind it
+-- The work on the BMC's bank was over where the PCH's is noted to be held. That on the PCH's is over only with the event.
 abbrev pub IsOver : Bank → List Note → Type 0
 IsOver bank.Bmc notes = (at : Counts) × IsNoted notes (Held bank.Pch at)
 IsOver bank.Pch notes = ⊥
@@ -50,16 +53,8 @@ pub record ReleasedSoon (which : Bank) (at : Counts) (most : ℕ) (notes : List 
   pub forth : count_at which at ≤ count_at which then
   pub few : count_at which then ≤ count_at which at + most
 
--- What is noted of a bank that is held at the first of these counts, and checked at the second, by the contents then. Between these
--- an open job is done or given up.
-pub record BringsUp (accepts : Acceptance) (which : Bank) (w : World) (notes : List Note) (at from : Counts) : Type 0 where
-  -- It is held at these counts alone.
-  pub held : IsNoted notes (Held which at)
-  pub once : (again : Counts) → IsNoted notes (Held which again) → again ≡ at
-  -- Where no job is open it is checked as it is held, and where it is checked none is open.
-  pub forth : NotBefore at from
-  pub plain : ¬ AtCounts (λ image nv. HasOpenJob which image nv) which at w → from ≡ at
-  pub done : ¬ AtCounts (λ image nv. HasOpenJob which image nv) which from w
+-- What is noted of a bank that is checked at these counts, by the contents then.
+pub record Checks (accepts : Acceptance) (which : Bank) (w : World) (notes : List Note) (from : Counts) : Type 0 where
   -- It is released where its image is trusted, and else only behind a restore.
   pub trusted : (t : AtCounts (λ image nv. IsTrusted image nv which accepts) which from w) → IsNoted notes (Released which t.manifest.svn from)
   pub released : (svn : ℕ) (then : Counts) → IsNoted notes (Released which svn then)
@@ -77,13 +72,33 @@ pub record BringsUp (accepts : Acceptance) (which : Bank) (w : World) (notes : L
       → IsNoted notes (Resumed which (ActiveFromRecovery level)) ⊎ ((level ≡ 1) × AtCounts (λ image nv. IsRestorable which image nv accepts) which from w)
   pub restorable : AtCounts (λ image nv. IsRestorable which image nv accepts) which from w → IsNoted notes (Restored which 1)
 
+-- these bytes of a bank and of the store are what the work on its open job, which is done or given up, makes of those before
+pub record IsWorkedFrom (accepts : Acceptance) (which : Bank) (image nv then nv_then : List ℕ) : Type 0 where
+  pub fuses : FusesState
+  pub provisioned : fuses_of nv ≡ Ok fuses
+  pub holds : then ≡ image_resumed accepts which image nv fuses
+  pub says : fuses_of nv_then ≡ Ok (fuses_resumed accepts which image nv fuses)
+
+-- What comes of a bank that is held at the first of these counts, and checked at the second. Between these an open job is done or given
+-- up.
+pub record BringsUp (accepts : Acceptance) (which : Bank) (w : World) (notes : List Note) (at from : Counts) : Type 0 where
+  -- It is held at these counts alone.
+  pub held : IsNoted notes (Held which at)
+  pub once : (again : Counts) → IsNoted notes (Held which again) → again ≡ at
+  -- Where no job is open it is checked as it is held, and where one is, as the work on that leaves it: then none is open.
+  pub forth : NotBefore at from
+  pub plain : ¬ AtCounts (λ image nv. HasOpenJob which image nv) which at w → from ≡ at
+  pub worked : AtCounts (λ image nv. HasOpenJob which image nv → AtCounts (λ then nv_then. IsWorkedFrom accepts which image nv then nv_then) which from w) which at w
+  pub done : ¬ AtCounts (λ image nv. HasOpenJob which image nv) which from w
+  pub checks : Checks accepts which w notes from
+
 -- A power-on brings each bank up.
 abbrev pub BringsUpCalm : Event → Acceptance → World → World → Type 0
 BringsUpCalm event.Power accepts old new = (which : Bank) → IsCalm which (added old new) → (at from : Counts) × BringsUp accepts which new (added old new) at from
 BringsUpCalm e accepts old new = Unit {0}
 
--- A bank that can be recovered, by what R says of its bytes and the store's where it is held, ends a power-on released, after at
--- most 34 operations for each of its pages.
+-- In a power-on a bank that can be recovered, by what R says of its bytes and the store's where it is held, is released behind that, after
+-- at most 34 operations for each of its pages, unless a call failed while it was in work.
 abbrev pub PowerReleases : (Bank → List ℕ → List ℕ → Type 0) → Event → World → World → Type 0
 PowerReleases R event.Power old new = (which : Bank) (at : Counts) → IsCalm which (added old new) → IsNoted (added old new) (Held which at)
     → AtCounts (R which) which at new → ReleasedSoon which at (34 * (size_of (state_at (device_of which) new) / 4096)) (added old new)

@@ -16,7 +16,6 @@ use Rattle.pfr_capsule.specs.Good.{IsGood}
 use Rattle.pfr_auth.specs.Areas.{judge_area}
 use Rattle.pfr_auth.specs.Judge.{judge_active}
 use Rattle.pfr_auth.specs.declared.areas.Area.TheVariants as Area
-use Rattle.pfr_auth.specs.declared.fail.ActiveFail.{ActiveFail}
 use Rattle.pfr_cert.specs.Applying.{judge_apply}
 use Rattle.pfr_cert.specs.Judge.{judge_cert}
 use Rattle.pfr_cert.specs.declared.cert.Cert.{Cert}
@@ -35,17 +34,18 @@ use Rattle.pfr_script.specs.declared.event.Event.{Event}
 use Rattle.pfr_script.specs.declared.event.Event.TheVariants as event
 use Rattle.pfr_script.specs.declared.event.Intent.TheVariants.{Recovery, Cert as CertIntent}
 use Rattle.pfr_report.specs.Texts.{IsNoted}
+use Rattle.pfr_report.specs.declared.note.LockWhy.TheVariants as why
 use Rattle.pfr_report.specs.declared.note.Note.{Note}
 use Rattle.pfr_report.specs.declared.note.Refusal.{Refusal}
 use Rattle.pfr_report.specs.declared.note.Refusal.TheVariants as refusing
 use Rattle.pfr_report.specs.declared.note.What.{What}
-use Rattle.pfr_report.specs.declared.note.What.TheVariants.{Held, Resumed, Abandoned, Restored, Updated, RecoveryUpdated, Cancelled, Refused, Released, Untrusted}
+use Rattle.pfr_report.specs.declared.note.What.TheVariants.{Held, Locked, Lost, Resumed, Abandoned, Restored, Updated, RecoveryUpdated, Cancelled, Refused}
 use Rattle.pfr_story.specs.Story.{device_of}
 use Rattle.pfr_story.specs.World.{World, state_at, counts_in, added}
 use Rattle.pfr_story.specs.Causes.{HasBadStaging, HasGoodStaging, IsResumable, IsGivenUp}
-use Rattle.pfr_story.specs.Bringing.{IsCalm, IsNotedBehind}
+use Rattle.pfr_story.specs.Bringing.{IsCalm, IsNotedBehind, Checks}
 use Rattle.pfr_story.specs.UpdatePlans.{has_manifest, standing_capsule}
-use Rattle.pfr_story.specs.Promises.{AtCounts, Runs, count_at}
+use Rattle.pfr_story.specs.Promises.{AtCounts, NotBefore, Runs, count_at}
 use Rattle.pfr_story.specs.Recovery.{moments_of}
 
 -- ---- jobs that are open at a power-on
@@ -98,14 +98,30 @@ pub record AddsSince (which : Bank) (at : Counts) (ops : List Operation) (w : Wo
   pub few : length before ≡ count_at which at
   pub is : (state_at (device_of which) w).ops ≡ before ++ ops
 
--- A job that is resumed begins with the strokes of the pages that were left, or where a call failed did a front of them, the last perhaps
--- torn.
+-- a note of a call that failed in the work on this bank
+abbrev pub IsFailure : Bank → What → Type 0
+IsFailure which (Locked b why.FlashFault at) = b ≡ which
+IsFailure which (Locked b why.StoreFault at) = b ≡ which
+IsFailure which (Lost device at) = Unit {0}
+IsFailure which that = ⊥
+
+-- behind this was noted that a call failed in the work on the bank, before anything else was noted
+pub record IsCutBehind (which : Bank) (this : What) (notes : List Note) : Type 0 where
+  pub before : List Note
+  pub item : ℕ
+  pub next : Note
+  pub behind : List Note
+  pub is : notes ≡ before ++ record { item = item; what = this } ∷ next ∷ behind
+  pub failed : IsFailure which next.what
+
+-- A job that is resumed begins with the strokes of the pages that were left. Unless all of these are done, no more than a front of them
+-- is, the last perhaps torn, and a call failed before anything else was noted.
 pub record HeedsMarks (accepts : Acceptance) (which : Bank) (kind : JobKind) (new : World) (notes : List Note) (at : Counts) : Type 0 where
   pub from : AtCounts (λ image nv. IsResumable kind which image nv accepts) which at new
   pub ops : List Operation
   pub since : AddsSince which at ops new
   pub heeds : ((more : List Operation) × (ops ≡ left_strokes kind which _ _ accepts from ++ more))
-      ⊎ IsPart (upto (state_at (device_of which) new) (count_at which at)) (left_strokes kind which _ _ accepts from) ops
+      ⊎ (IsPart (upto (state_at (device_of which) new) (count_at which at)) (left_strokes kind which _ _ accepts from) ops × IsCutBehind which (Resumed which kind) notes)
   -- Where no call failed while the bank was in work, all of these were done.
   pub whole : IsCalm which notes → (more : List Operation) × (ops ≡ left_strokes kind which _ _ accepts from ++ more)
 
@@ -159,9 +175,8 @@ pub record UpdatesRecovery (accepts : Acceptance) (which : Bank) (new : World) (
   pub updated : (svn : ℕ) → IsNoted notes (RecoveryUpdated which svn) → (s : AtCounts (λ image nv. HasStagedFor true which image nv accepts) which at new)
       × (svn ≡ s.staged.good.capsule.manifest.svn)
       × (r : HasGoodRecovery which (now (state_at (device_of which) new)) (now new.nv) accepts) × (r.good.capsule.digest ≡ s.staged.good.capsule.digest)
-  -- The rest of the bank is as before, unless the image is called untrusted behind that.
-  pub replaced : (svn : ℕ) → IsNoted notes (RecoveryUpdated which svn) → ((cause : ActiveFail) → ¬ IsNoted notes (Untrusted which cause))
-      → AtCounts (λ image nv. IsCopiedFrom which image nv accepts (now (state_at (device_of which) new))) which at new
+  -- The rest of the bank is as before.
+  pub replaced : (svn : ℕ) → IsNoted notes (RecoveryUpdated which svn) → AtCounts (λ image nv. IsCopiedFrom which image nv accepts (now (state_at (device_of which) new))) which at new
   pub updates : IsCalm which notes → (s : AtCounts (λ image nv. HasStagedFor true which image nv accepts × (is_spent nv which ≡ false)) which at new)
       → IsNoted notes (RecoveryUpdated which s.0.staged.good.capsule.manifest.svn)
   -- One that is refused writes nothing.
@@ -191,6 +206,13 @@ pub record HasBadCert (cause : CertFail) (which : Bank) (image nv : List ℕ) (a
   pub provisioned : fuses_of nv ≡ Ok fuses
   pub judged : (judge_cert which image fuses accepts ≡ Err cause) ⊎ ((cert : Cert) × (judge_cert which image fuses accepts ≡ Ok cert) × (use_of which image fuses accepts cert ≡ Err cause))
 
+-- The bank is checked as it stands where it was held at these counts, by the store as it is then.
+pub record IsCheckedAnew (accepts : Acceptance) (which : Bank) (new : World) (notes : List Note) (at : Counts) : Type 0 where
+  pub from : Counts
+  pub forth : NotBefore at from
+  pub still : (bank : Bank) → count_at bank from ≡ count_at bank at
+  pub checks : Checks accepts which new notes from
+
 -- What an update by a certificate comes to, of a bank that is held at these counts.
 pub record CancelsKey (accepts : Acceptance) (which : Bank) (new : World) (notes : List Note) (at : Counts) : Type 0 where
   pub held : IsNoted notes (Held which at)
@@ -200,6 +222,8 @@ pub record CancelsKey (accepts : Acceptance) (which : Bank) (new : World) (notes
   -- Else the key of the certificate is cancelled.
   pub cancelled : (type : ContentType) (id : ℕ) → IsNoted notes (Cancelled type id) → AtCounts (λ image nv. HasCert (record { ty = type; id = id }) which image nv accepts) which at new
   pub cancels : (cert : Cert) → IsCalm which notes → AtCounts (λ image nv. HasCert cert which image nv accepts) which at new → IsNoted notes (Cancelled cert.ty cert.id)
+  -- Behind that the bank is checked as at a power-on.
+  pub tail : (type : ContentType) (id : ℕ) → IsCalm which notes → IsNoted notes (Cancelled type id) → IsCheckedAnew accepts which new notes at
   -- One that is refused writes nothing.
   pub writes_nothing : (why : Refusal) → IsNoted notes (Refused which why) → counts_in new ≡ at
 

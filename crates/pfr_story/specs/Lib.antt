@@ -25,8 +25,13 @@ pub mod Recovery
 pub mod Whole
 pub mod FaultCount
 pub mod Scripted
+pub mod Apart
+pub mod EachFault
+pub mod OneSlot
+pub mod InWork
 pub mod CalmRun
 pub mod JobPromises
 pub mod Contents
 pub mod JobContents
 pub mod SafePlans
+pub mod EventPromises

@@ -6,7 +6,7 @@ use Rattle.pfr_flash.specs.declared.names.Bank.TheVariants as bank
 use Rattle.pfr_flash.specs.declared.names.Counts.{Counts}
 use Rattle.pfr_flash.specs.declared.names.Device.{Device}
 use Rattle.pfr_engine.specs.Acceptance.{Acceptance}
-use Rattle.pfr_fuses.specs.RootSlot.{IsSlot, provision_in}
+use Rattle.pfr_fuses.specs.RootSlot.{provision_in}
 use Rattle.pfr_fuses.specs.Slots.{IsProvisionedBy, slot_at}
 use Rattle.pfr_fuses.specs.Provisioning.{judge_provision}
 use Rattle.pfr_fuses.specs.declared.fuse_fail.FuseFail.{FuseFail}
@@ -201,11 +201,6 @@ HasPower w = ¬ AreOff w → IsOn w
 abbrev pub IsProvision : Event → Type 0
 IsProvision (event.Provision what) = Unit {0}
 IsProvision e = ⊥
-
--- what a script provisions is a slot
-abbrev pub IsKnownSlot : Event → Type 0
-IsKnownSlot (event.Provision what) = IsSlot what
-IsKnownSlot e = Unit {0}
 
 abbrev pub IsSpi : Bank → Event → Type 0
 IsSpi which (event.Spi b frame) = b ≡ which

@@ -6,6 +6,7 @@ use Rattle.pfr_copy.proofs.AreaLaw.{area_by}
 use Rattle.pfr_copy.proofs.ClauseLaw.{active_is, active_same, marks_by, passes_by, rebuilt_by, resumes_by, strokes_by}
 use Rattle.pfr_copy.proofs.JobLaw.{active_can}
 use Rattle.pfr_copy.proofs.LogLaw.{active_marks, logged_by, opened_by}
+use Rattle.pfr_copy.proofs.StoppedLaw.{some_marks_by}
 use Rattle.pfr_strokes.specs.Deeds.{Deed}
 use Rattle.pfr_strokes.specs.Passes.{Passes}
 use Rattle.pfr_copy.proofs.applying.apply.Goals as goal
@@ -39,6 +40,12 @@ returns-clause-marked g c =
     let d = g.F.Flash.device c.args.held.now.flash in
     let nv = g.F.Flash.device c.args.nv.now in
     marks_by c.args.kind c.args.capsule.now c.args.layout.now c.args.held.now.bank (record { bank = d; store = nv }) (record { bank = g.F.Flash.device c.copy.new.flash; store = g.F.Flash.device c.copy.new.nv }) (active_page (now d) c.args.capsule.now c.args.layout.now) (is_active_page c.args.kind (now d) c.args.capsule.now c.args.layout.now) (active_pages c.args.kind (now d) c.args.capsule.now c.args.layout.now) (active_is c.args.kind c.requires.kind (now d) c.args.capsule.now c.args.layout.now) c.copy.result c.args.marks c.args.jobs.now _ (length (now d) / 4096) c.requires.log (rw c.flash.ensures.value at c.copy.ensures.marked)
+
+pub returns-clause-stopped : goal.returns-clause-stopped
+returns-clause-stopped g c =
+    let d = g.F.Flash.device c.args.held.now.flash in
+    let nv = g.F.Flash.device c.args.nv.now in
+    some_marks_by c.args.kind c.args.capsule.now c.args.layout.now c.args.held.now.bank (record { bank = d; store = nv }) (record { bank = g.F.Flash.device c.copy.new.flash; store = g.F.Flash.device c.copy.new.nv }) (active_page (now d) c.args.capsule.now c.args.layout.now) (is_active_page c.args.kind (now d) c.args.capsule.now c.args.layout.now) (active_pages c.args.kind (now d) c.args.capsule.now c.args.layout.now) (active_is c.args.kind c.requires.kind (now d) c.args.capsule.now c.args.layout.now) c.copy.result c.args.marks c.args.jobs.now _ (length (now d) / 4096) c.requires.log (rw c.flash.ensures.value at c.copy.ensures.stopped)
 
 pub returns-clause-resumes : goal.returns-clause-resumes
 returns-clause-resumes g c =

@@ -9,6 +9,7 @@ use Rattle.pfr_jobs.specs.LogState.{LogState, is_marked, log_of}
 use Rattle.pfr_strokes.specs.declared.side.CopyFail.{CopyFail}
 use Rattle.pfr_copy.proofs.HeedLemmas.{bank_size, heeded_all, heeded_none, kept_past, heeded_same, kept_on, kept_stop, store_size}
 use Rattle.pfr_copy.proofs.ResumeLaw.{one_done, one_failed}
+use Rattle.pfr_copy.proofs.StoppedLaw.{front_stopped}
 use Rattle.pfr_copy.proofs.heeding.replace_heeding.Goals as goal
 use Rattle.pfr_copy.proofs.heeding.replace_heeding.Goals.{then-not-marked+in_ok-replace_group, else-not-marked}
 
@@ -77,3 +78,12 @@ returns-in_err-replace_group-clause-one g c =
 pub returns-clause-one : goal.returns-clause-one
 returns-clause-one g c =
     one_done c.args.kind c.args.capsule.now c.args.layout.now c.args.jobs.now.bank (record { bank = g.F.Flash.device c.args.flash.now; store = g.F.Flash.device c.args.nv.now }) c.requires.can (now_bytes (g.F.Flash.device c.args.flash.now) (g.met.F.Flash.holds_bytes c.args.flash.now)) (record { bank = g.F.Flash.device c.loop-group.flash; store = g.F.Flash.device c.loop-group.nv }) c.loop-group.group c.loop-group.invariant.heeded
+
+pub returns-in_err-replace_group-clause-stopped : goal.returns-in_err-replace_group-clause-stopped
+returns-in_err-replace_group-clause-stopped g c =
+    let stands = c.loop-group.invariant.stands in
+    let marks : is_cleared c.loop-group.jobs.marks c.loop-group.group ≡ is_marked (now (g.F.Flash.device c.loop-group.nv)) c.args.jobs.now.bank c.loop-group.group = ap (λ (l : LogState). is_cleared l.marks c.loop-group.group) stands in
+    let first : is_marked (now (g.F.Flash.device c.args.nv.now)) c.args.jobs.now.bank c.loop-group.group ≡ c.marked.result = sym (c.loop-group.invariant.heeded.log.ahead c.loop-group.group (omega arith)) ∙ sym marks ∙ sym c.marked.ensures in
+    let p = err_from_is_err_and c.from_residual.result c.from_residual.ensures.1 in
+    rw p.1 (front_stopped c.args.kind c.args.capsule.now c.args.layout.now c.args.jobs.now.bank (record { bank = g.F.Flash.device c.args.flash.now; store = g.F.Flash.device c.args.nv.now }) (record { bank = g.F.Flash.device c.loop-group.flash; store = g.F.Flash.device c.loop-group.nv }) c.loop-group.group c.loop-group.invariant.heeded c.requires.can (now_bytes (g.F.Flash.device c.args.flash.now) (g.met.F.Flash.holds_bytes c.args.flash.now))
+    (first ∙ c.if-not-marked.true) c.loop-group.jobs.bank (ap (λ (l : LogState). l.bank) stands) (g.F.Flash.device c.replace_group.new.nv) c.replace_group.ensures.others c.in_err-replace_group.ensures.early)

@@ -5,6 +5,7 @@ use Rattle.pfr_jobs.specs.declared.job.JobKind.TheVariants as kinds
 use Rattle.pfr_rebuilt.specs.Copying.{holds_text, recovery_page, recovery_pages}
 use Rattle.pfr_copy.proofs.ClauseLaw.{again_by, marks_by, passes_by, rebuilt_by, recovery_is, recovery_same, resumes_by, strokes_by}
 use Rattle.pfr_copy.proofs.LogLaw.{logged_by, opened_by, recovery_marks}
+use Rattle.pfr_copy.proofs.StoppedLaw.{some_marks_by}
 use Rattle.pfr_copy.proofs.RecoverLaw.{recoverable_by}
 use Rattle.pfr_strokes.specs.Deeds.{Deed}
 use Rattle.pfr_strokes.specs.Passes.{Passes}
@@ -47,6 +48,12 @@ returns-clause-marked g c =
     let d = g.F.Flash.device c.args.held.now.flash in
     let nv = g.F.Flash.device c.args.nv.now in
     marks_by kinds.RecoveryFromStaging c.args.capsule.now c.args.layout.now c.args.held.now.bank (record { bank = d; store = nv }) (record { bank = g.F.Flash.device c.copy.new.flash; store = g.F.Flash.device c.copy.new.nv }) (recovery_page (now d) c.args.layout.now.staging_at c.args.capsule.now.length c.args.layout.now) (holds_text c.args.layout.now.recovery_at c.args.capsule.now.length) (recovery_pages c.args.layout.now c.args.capsule.now.length (length (now d))) (recovery_is (now d) c.args.capsule.now c.args.layout.now) c.copy.result c.args.marks c.args.jobs.now _ (length (now d) / 4096) c.requires.log (rw c.flash.ensures.value at c.copy.ensures.marked)
+
+pub returns-clause-stopped : goal.returns-clause-stopped
+returns-clause-stopped g c =
+    let d = g.F.Flash.device c.args.held.now.flash in
+    let nv = g.F.Flash.device c.args.nv.now in
+    some_marks_by kinds.RecoveryFromStaging c.args.capsule.now c.args.layout.now c.args.held.now.bank (record { bank = d; store = nv }) (record { bank = g.F.Flash.device c.copy.new.flash; store = g.F.Flash.device c.copy.new.nv }) (recovery_page (now d) c.args.layout.now.staging_at c.args.capsule.now.length c.args.layout.now) (holds_text c.args.layout.now.recovery_at c.args.capsule.now.length) (recovery_pages c.args.layout.now c.args.capsule.now.length (length (now d))) (recovery_is (now d) c.args.capsule.now c.args.layout.now) c.copy.result c.args.marks c.args.jobs.now _ (length (now d) / 4096) c.requires.log (rw c.flash.ensures.value at c.copy.ensures.stopped)
 
 pub returns-clause-resumes : goal.returns-clause-resumes
 returns-clause-resumes g c =
