@@ -16,7 +16,7 @@ use Rattle.pfr_engine.specs.Acceptance.{Acceptance}
 use Rattle.pfr_fuses.specs.FuseMap.{IsCancelled}
 use Rattle.pfr_fuses.specs.Growth.{Grows, NeverGoesBack, KeepsProvision}
 use Rattle.pfr_fuses.proofs.GrowthLemmas.{NeverGoesBack-trans, KeepsProvision-none, KeepsProvision-trans}
-use Rattle.pfr_script.specs.Slots.{HasKnownSlot, KnownSlots}
+use Rattle.pfr_script.specs.Slots.{HasKnownSlot}
 use Rattle.pfr_script.specs.declared.item.Item.{Item}
 use Rattle.pfr_script.specs.declared.item.Item.TheVariants as item
 use Rattle.pfr_report.specs.Texts.{IsNoted}
@@ -117,7 +117,7 @@ module _ (P : List ℕ → Type 0) (that : What) (b c : World) (later : IsLater 
 
 -- ---- of a run
 -- no fuse is taken back, and what provisions the platform stays
-pub record StoreStays (old new : World) : Type 0 where
+pub record KeepsStore (old new : World) : Type 0 where
   pub grows : NeverGoesBack old.nv new.nv
   pub keeps : KeepsProvision old.nv new.nv
   pub changes : ChangesFuses old new
@@ -131,7 +131,7 @@ module _ (accepts : Acceptance) (tears : List (List ℕ)) (first : World) (bmc :
   grows_refl : (old new : List ℕ) → old ≡ new → Grows old new
   grows_refl old new e = subst (λ (bytes : List ℕ). Grows old bytes) e (record { floors = λ bank k h. h; cancels = λ type id h. h })
 
-  stays_none : (old new : World) → new.nv.ops ≡ old.nv.ops → added old new ≡ [] → StoreStays old new
+  stays_none : (old new : World) → new.nv.ops ≡ old.nv.ops → added old new ≡ [] → KeepsStore old new
   stays_none old new same none = record {
     grows = record {
       grows = λ m n low order high.
@@ -145,16 +145,16 @@ module _ (accepts : Acceptance) (tears : List (List ℕ)) (first : World) (bmc :
     };
   }
 
-  did_stays : (i : Item) (old new : World) → HasKnownSlot i → IsUnderway accepts first old → HaveBytes new → Did accepts tears i old new → StoreStays old new
-  did_stays (item.Event e) old new slot u held t =
+  did_keeps : (i : Item) (old new : World) → HasKnownSlot i → IsUnderway accepts first old → HaveBytes new → Did accepts tears i old new → KeepsStore old new
+  did_keeps (item.Event e) old new slot u held t =
       let here = sized_later first old u.later bmc pch size in
       let grown = Turn-grown accepts old new e here.nv held (λ on. slot) t in
       record { grows = grown.0; keeps = grown.1; changes = Turn-changes accepts e old new t held here.bmc here.pch here.nv (λ on. slot) u.trusted }
-  did_stays (item.Arm arm) old new slot u held is =
+  did_keeps (item.Arm arm) old new slot u held is =
       let same : story_of new ≡ record (story_of old) { item = old.item + 1 } = ap story_of is ∙ armed_story arm (slice_index_or tears arm.tear []) old in
       stays_none old new (ap (λ (s : Story). s.nv.ops) same) (nothing_added old new (ap (λ (s : Story). s.notes) same))
 
-  stays_then : (b c : World) → IsLater first b → IsLater b c → Rises first b → Rises b c → StoreStays first b → StoreStays b c → StoreStays first c
+  stays_then : (b c : World) → IsLater first b → IsLater b c → Rises first b → Rises b c → KeepsStore first b → KeepsStore b c → KeepsStore first c
   stays_then b c before later p q s t = record {
     grows = NeverGoesBack-trans first.nv b.nv c.nv later.precedes.nv.start more s.grows t.grows;
     keeps = KeepsProvision-trans first.nv b.nv c.nv later.precedes.nv.start more s.keeps t.keeps;
@@ -185,12 +185,12 @@ module _ (accepts : Acceptance) (tears : List (List ℕ)) (first : World) (bmc :
           (holds_then P that b c later stays (added first b) (added b c) (counts_in first) p.counted q.counted early_part late_part (subst (λ (notes : List Note). IsNoted notes that) whole n))
 
   -- No run takes a fuse back or loses a provision, where all that is provisioned are slots.
-  pub Reached-stays : (items : List Item) (new : World) → KnownSlots items → IsUnderway accepts first first → HaveBytes new → Reached (Did accepts tears) items first new → StoreStays first new
-  Reached-stays items new slots u held r =
+  pub Reached-keeps : (items : List Item) (new : World) → AllByRecursion HasKnownSlot items → IsUnderway accepts first first → HaveBytes new → Reached (Did accepts tears) items first new → KeepsStore first new
+  Reached-keeps items new slots u held r =
       let none : added first first ≡ [] = nothing_added first first refl in
-      let both = Reached-along accepts tears first bmc pch size HasKnownSlot (λ old here. Rises old here × StoreStays old here)
+      let both = Reached-along accepts tears first bmc pch size HasKnownSlot (λ old here. Rises old here × KeepsStore old here)
       (recovers_refl (R accepts tears first bmc pch size) first none ([], sym (append-nil first.notes.list)), stays_none first first refl none)
-      (λ i old mid slot under bytes did. (did_recovers accepts tears first bmc pch size i old mid under bytes did, did_stays i old mid slot under bytes did))
+      (λ i old mid slot under bytes did. (did_recovers accepts tears first bmc pch size i old mid under bytes did, did_keeps i old mid slot under bytes did))
       (λ mid here before behind p q. (recovers_then (R accepts tears first bmc pch size) first mid here behind.precedes p.0 q.0, stays_then mid here before behind p.0 q.0 p.1 q.1))
-      items new (recursion_from_All HasKnownSlot items slots) u held r in
+      items new slots u held r in
       both.1
