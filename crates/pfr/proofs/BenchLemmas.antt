@@ -1,5 +1,6 @@
 -- What a bench promises, by the laws of whole runs.
 use Rattle.std.proofs.Common.{◌≡◌, ◌∙◌, ap, sym, refl, subst, ℕ, List, [], length, take, Option, Some, None}
+use Rattle.std.specs.List.{AllByRecursion}
 use Rattle.std.specs.Prelude.{IfSome, slice_index_or}
 use Rattle.pfr_flash.specs.FlashState.{FlashState, Rose}
 use Rattle.pfr_flash.specs.Holding.{HoldsBytes}
@@ -42,6 +43,7 @@ use Rattle.pfr_story.proofs.RiseLaws.{Turn-counted}
 use Rattle.pfr_story.proofs.UpdateLaws.{Turn-updates}
 use Rattle.pfr_story.proofs.RunLaws.{IsFresh, IsLater, Reached-spans, Reached-releases, Reached-causes, Reached-faults, Reached-told, armed_story, failed_armed}
 use Rattle.pfr_story.proofs.TrustedRunLaws.{IsUnderway, fresh_underway, underway_trusted, Reached-with}
+use Rattle.pfr_story.proofs.WholeLaws.{AnyItem, any_items}
 use Rattle.pfr_machine.specs.Inside.{HasSizes}
 use Rattle.pfr.specs.Benches.{fresh_of, end_of, StandsAs, HasRun, IsRun}
 use Rattle.pfr.specs.Promises.{TellsOfFaults, TellsIn, IsUnheard, IsRunWith, HasReleasedSpans, ReleasesTrustedBanks, HasDueLocks, BringsBanksUp, BringsUpIn, KeepsFuses, StaysProvisioned}
@@ -121,16 +123,21 @@ has_grown bench has = has.grown
 has_provision : (bench : Bench) → HasRun bench → StaysProvisioned bench
 has_provision bench has = has.kept
 
--- of each item of a run what its step did says this
-run_with : (bench : Bench) (has : HasRun bench) (Goes : Item → World → World → Type 0)
-    → ((i : Item) (old new : World) → IsUnderway (acceptance bench.engine) (fresh_of bench) old → HaveBytes new → Did (acceptance bench.engine) bench.script.tears i old new → Goes i old new)
-    → (items : List Item) → IsRun items bench → IsRunWith Goes items bench
-run_with bench has Goes did items run = record {
+-- of each item of a run that fits what its step did says this, where all fit
+run_where : (bench : Bench) (has : HasRun bench) (Fits : Item → Type 0) (Goes : Item → World → World → Type 0)
+    → ((i : Item) (old new : World) → Fits i → IsUnderway (acceptance bench.engine) (fresh_of bench) old → HaveBytes new → Did (acceptance bench.engine) bench.script.tears i old new → Goes i old new)
+    → (items : List Item) → AllByRecursion Fits items → IsRun items bench → IsRunWith Goes items bench
+run_where bench has Fits Goes did items fit run = record {
   end = run.end;
-  reached = Reached-with (acceptance bench.engine) bench.script.tears Goes (fresh_of bench) has.sizes.bmc has.sizes.pch has.sizes.nv did items (fresh_of bench) run.end
+  reached = Reached-with (acceptance bench.engine) bench.script.tears (fresh_of bench) has.sizes.bmc has.sizes.pch has.sizes.nv Fits Goes did items (fresh_of bench) run.end fit
       (fresh_underway (acceptance bench.engine) (fresh_of bench) (fresh_start bench has)) (held_at bench run.end run.left) run.reached;
   left = run.left;
 }
+
+run_with : (bench : Bench) (has : HasRun bench) (Goes : Item → World → World → Type 0)
+    → ((i : Item) (old new : World) → IsUnderway (acceptance bench.engine) (fresh_of bench) old → HaveBytes new → Did (acceptance bench.engine) bench.script.tears i old new → Goes i old new)
+    → (items : List Item) → IsRun items bench → IsRunWith Goes items bench
+run_with bench has Goes did items run = run_where bench has AnyItem Goes (λ i old new any under held done. did i old new under held done) items (any_items items) run
 
 did_tells : (accepts : Acceptance) (tears : List (List ℕ)) (i : Item) (old new : World) → Did accepts tears i old new → TellsIn i old new
 did_tells accepts tears (item.Event e) old new t = Turn-told accepts e old new t

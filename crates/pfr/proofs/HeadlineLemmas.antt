@@ -7,14 +7,15 @@ use Rattle.pfr_flash.specs.declared.names.Counts.{Counts}
 use Rattle.pfr_engine.specs.Accepting.{acceptance}
 use Rattle.pfr_recoverable.specs.Recoverable.{IsRecoverable}
 use Rattle.pfr_script.specs.declared.item.Item.{Item}
-use Rattle.pfr_story.specs.World.{World}
+use Rattle.pfr_story.specs.World.{World, story_of}
 use Rattle.pfr_story.specs.Recovery.{CountsRise, StaysRecoverable}
-use Rattle.pfr_story.specs.Whole.{PowerOnsRelease}
+use Rattle.pfr_story.specs.Whole.{PowerOnsRelease, RunsJobless}
 use Rattle.pfr_story.specs.Guards.{Guards}
 use Rattle.pfr_story.proofs.TrustedRunLaws.{fresh_underway}
+use Rattle.pfr_story.proofs.JoblessLaws.{Reached-jobless}
 use Rattle.pfr_story.proofs.PowerRunLaws.{PowersSoFar, Reached-powers, powers_fresh, powers_all}
 use Rattle.pfr.specs.Benches.{fresh_of, end_of, HasRun}
-use Rattle.pfr.specs.Headline.{CountsNeverFall, RecoversThroughout, PowerOnsReleaseIn}
+use Rattle.pfr.specs.Headline.{CountsNeverFall, RecoversThroughout, PowerOnsReleaseIn, RunsWithoutJobs}
 use Rattle.pfr.specs.declared.finished.Bench.{Bench}
 use Rattle.pfr.proofs.BenchLemmas.{as_if, held_at, fresh_start, of_end, of_each}
 
@@ -63,6 +64,13 @@ has_powers bench has = all
     all place e bank.Bmc at calm n r = at_end place e bank.Bmc at calm n r
     all place e bank.Pch at calm n r = at_end place e bank.Pch at calm n r
 
+has_jobless : (bench : Bench) → HasRun bench → RunsWithoutJobs bench
+has_jobless bench has which =
+    let accepts = acceptance bench.engine in
+    of_end (λ (w : World). RunsJobless which (story_of w)) bench has
+    (Reached-jobless accepts bench.script.tears (fresh_of bench) has.sizes.bmc has.sizes.pch has.sizes.nv (take has.count bench.script.items) has.run.end
+    (fresh_underway accepts (fresh_of bench) (fresh_start bench has)) (held_at bench has.run.end has.run.left) has.run.reached refl which)
+
 -- ---- of each bench
 pub each_counted : (option : Option Bench) → IfSome option HasRun → IfSome option CountsNeverFall
 each_counted option has = of_each CountsNeverFall has_counted option has
@@ -72,3 +80,6 @@ each_recoverable option has = of_each RecoversThroughout has_recoverable option 
 
 pub each_powers : (option : Option Bench) → IfSome option HasRun → IfSome option PowerOnsReleaseIn
 each_powers option has = of_each PowerOnsReleaseIn has_powers option has
+
+pub each_jobless : (option : Option Bench) → IfSome option HasRun → IfSome option RunsWithoutJobs
+each_jobless option has = of_each RunsWithoutJobs has_jobless option has

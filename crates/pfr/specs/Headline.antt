@@ -1,5 +1,5 @@
 -- What a bench promises of its whole run, over its devices, its notes and its script's items.
-use Rattle.std.specs.Prelude.{◌≡◌, ℕ, ◌+◌, ◌*◌, ◌/◌, List, [], ◌∷◌, ◌++◌, slice_get, Some}
+use Rattle.std.specs.Prelude.{◌≡◌, ℕ, ◌+◌, ◌*◌, ◌/◌, List, [], ◌∷◌, ◌++◌, All, slice_get, Some}
 use Rattle.pfr_flash.specs.FlashState.{FlashState, upto, size_of, op_count_of}
 use Rattle.pfr_flash.specs.declared.names.Bank.{Bank}
 use Rattle.pfr_flash.specs.declared.names.Bank.TheVariants.{Bmc, Pch}
@@ -13,7 +13,9 @@ use Rattle.pfr_report.specs.declared.note.What.TheVariants.{Held}
 use Rattle.pfr_story.specs.Bringing.{IsCalm, ReleasedSoon}
 use Rattle.pfr_story.specs.Promises.{count_at}
 use Rattle.pfr_story.specs.Recovery.{moments_of, Rise, StaysAlong}
-use Rattle.pfr_story.specs.Whole.{notes_of}
+use Rattle.pfr_story.specs.Spans.{spans_of}
+use Rattle.pfr_story.specs.Whole.{notes_of, IsJobless}
+use Rattle.pfr_story.specs.World.{past_of}
 use Rattle.pfr.specs.declared.finished.Bench.{Bench}
 
 abbrev pub device_in : Bank → Bench → FlashState
@@ -46,3 +48,7 @@ abbrev pub PowerOnsReleaseIn : Bench → Type 0
 PowerOnsReleaseIn bench = (place : ℕ) → slice_get bench.script.items place ≡ Some (Event Power) → (which : Bank) (at : Counts)
     → IsCalm which (notes_of (place + 1) bench.notes.list) → IsNoted (notes_of (place + 1) bench.notes.list) (Held which at) → CouldRecover bench which at
     → ReleasedSoon which at (34 * (size_of (device_in which bench) / 4096)) (notes_of (place + 1) bench.notes.list)
+
+-- While a bank stands released no job of it is open, at any count of the store.
+abbrev pub RunsWithoutJobs : Bench → Type 0
+RunsWithoutJobs bench = (which : Bank) → All (λ span. IsJobless which (past_of bench.nv.device) span.0 span.1) (spans_of which bench.notes.list (last_counts bench))

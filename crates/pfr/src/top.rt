@@ -5,7 +5,7 @@ ghost use Rattle.pfr_flash.specs.FlashState.{Rose};
 ghost use Rattle.pfr.specs.Benches.{HasRun};
 ghost use Rattle.pfr.specs.Checks.{CheckAnswers};
 ghost use Rattle.pfr.specs.Faults.{IsFaultless};
-ghost use Rattle.pfr.specs.Headline.{CountsNeverFall, PowerOnsReleaseIn, RecoversThroughout};
+ghost use Rattle.pfr.specs.Headline.{CountsNeverFall, PowerOnsReleaseIn, RecoversThroughout, RunsWithoutJobs};
 ghost use Rattle.pfr.specs.Judging.{Keeps, Breaks, verdict};
 ghost use Rattle.pfr.specs.Promises.{HasReleasedSpans, ReleasesTrustedBanks, HasDueLocks, BringsBanksUp, KeepsFuses, StaysProvisioned, TellsOfFaults};
 ghost use Rattle.pfr.specs.Makes.{KeepsAllBut, MakingAnswers};
@@ -133,6 +133,9 @@ pub fn pfr<S: Shelf, K: Sink>(
     ensures counted { IfSome result.bench CountsNeverFall }
     ensures recoverable { IfSome result.bench RecoversThroughout }
     ensures powers { IfSome result.bench PowerOnsReleaseIn }
+
+    // While a bank stands released no job of it is open.
+    ensures no_job { IfSome result.bench RunsWithoutJobs }
 
     // No note's cause is a failed device.
     ensures texts { IfSome result.bench (λ bench. AllText bench.notes.list) }

@@ -48,7 +48,7 @@ abbrev first_what : What → List Note → What
 first_what other [] = other
 first_what other (note ∷ notes) = note.what
 
-abbrev rest_of : List Note → List Note
+abbrev pub rest_of : List Note → List Note
 rest_of [] = []
 rest_of (note ∷ notes) = notes
 
@@ -56,7 +56,7 @@ ended_by : (trace : List Move) (story last : Story) → last ≡ after trace sto
 ended_by trace story last is = subst (λ (s : Story). Precedes story s) (sym is) (Precedes-after story story trace (Precedes-refl story))
 
 -- what is true of the store at a count of its operations is so at each later one, from this count on
-abbrev StaysFrom : (List ℕ → Type 0) → ℕ → World → Type 0
+abbrev pub StaysFrom : (List ℕ → Type 0) → ℕ → World → Type 0
 StaysFrom P from new = (m n : ℕ) → from ≤ m → m ≤ n → n ≤ length new.nv.ops → P (upto new.nv m) → P (upto new.nv n)
 
 module _ (P : List ℕ → Type 0) (that : What) (tells : (story : Story) → Changed that story → P (store story)) (new : World) (from : ℕ) (stays : StaysFrom P from new) where

@@ -28,16 +28,17 @@ use Rattle.pfr_story.specs.Story.{Story, Says, Does, Asks, noted, operated, coun
 use Rattle.pfr_story.proofs.Carried.{Carrying}
 use Rattle.pfr_story.proofs.LossLaws.{standing_push}
 use Rattle.pfr_story.proofs.SafetyLaws.{image_operated}
+use Rattle.pfr_story.proofs.Traces.{IsStamped}
 
 -- ---- the rule
--- the bank is released only where no job of it is open
+-- a note that carries counts carries those of its story, and the bank is released only where no job of it is open
 abbrev pub IsIdleWhere : Bank → What → List ℕ → Type 0
 IsIdleWhere which (what.Released b svn counts) nv = same_bank which b ≡ true → open_job nv which ≡ job.None
 IsIdleWhere which that nv = Unit {0}
 
 -- and while it runs none is opened
 abbrev pub KeepsIdle : Bank → Rule
-KeepsIdle which (Says w) story = IsIdleWhere which (w (counts_of story)) (store story)
+KeepsIdle which (Says w) story = IsStamped (w (counts_of story)) (counts_of story) × IsIdleWhere which (w (counts_of story)) (store story)
 KeepsIdle which (Does device.Bmc op) story = Unit {0}
 KeepsIdle which (Does device.Pch op) story = Unit {0}
 KeepsIdle which (Does device.Nv op) story = length (store story) ≡ 32768 → standing_of which story.notes ≡ Running → open_job (store story) which ≡ job.None → open_job (applied (store story) op) which ≡ job.None
@@ -70,7 +71,7 @@ module _ (which : Bank) (nv : List ℕ) (s : Standing) (none : s ≡ Running →
 pub idle_moves : (which : Bank) → Keeps (KeepsIdle which) (IsIdle which)
 idle_moves which (Says w) story g p = record {
   size = p.size;
-  none = λ runs. idle_note which (store story) (standing_of which story.notes) p.none (w (counts_of story)) g (sym (standing_told which w story) ∙ runs);
+  none = λ runs. idle_note which (store story) (standing_of which story.notes) p.none (w (counts_of story)) g.1 (sym (standing_told which w story) ∙ runs);
 }
 idle_moves which (Does device.Bmc op) story g p = record { size = p.size; none = p.none }
 idle_moves which (Does device.Pch op) story g p = record { size = p.size; none = p.none }

@@ -21,7 +21,7 @@ use Rattle.pfr_story.specs.Standing.{Standing, standing_after, standing_of}
 use Rattle.pfr_story.specs.Story.{Story, Move, Says, Does, moved_by, noted, operated, device_of, other_bank}
 use Rattle.pfr_story.specs.UpdatePlans.{updating}
 use Rattle.pfr_story.proofs.BringRules.{level_at}
-use Rattle.pfr_story.proofs.IdleRules.{KeepsIdle, IsIdleWhere, IsStopped, stopped_held, stopped_told, own_idle, out_keeps}
+use Rattle.pfr_story.proofs.IdleRules.{KeepsIdle, IsStopped, stopped_held, stopped_told, own_idle, out_keeps}
 use Rattle.pfr_story.proofs.JobGrowth.{floor_in_sector}
 use Rattle.pfr_story.proofs.JobLeaves.{other_one}
 use Rattle.pfr_story.proofs.JobRules.{IsInLog}
@@ -52,7 +52,7 @@ module _ (accepts : Acceptance) (which b : Bank) where
       by_same true e = absurd (i e runs)
       by_same false e = subst (λ (w : Bank). KeepsIdle w (Does device.Nv op) story) (other_one which b e) (out_keeps (other_bank b) op story (logs_apart b op own)) size runs none
 
-  aside : (that : What) (story : Story) → IsIdleWhere which that (store story) → ((s : Standing) → standing_after which that s ≡ s) → IsStill story → KeepsIdle which (Says (λ _. that)) story × IsStill (noted (λ _. that) story)
+  aside : (that : What) (story : Story) → KeepsIdle which (Says (λ _. that)) story → ((s : Standing) → standing_after which that s ≡ s) → IsStill story → KeepsIdle which (Says (λ _. that)) story × IsStill (noted (λ _. that) story)
   aside that story idle still i = (idle, λ one. stopped_told which that story still (i one))
 
   goes : (task : Task) (move : Move) (story : Story) → Going b task IsOne story move → (IsOne → (c : Bank) → KeepsRecoverable accepts c move story) → IsStill story → KeepsIdle which move story × IsStill (moved_by move story)
@@ -61,21 +61,21 @@ module _ (accepts : Acceptance) (which b : Bank) where
   goes task _ story (raised op raise) keeps i = (out_keeps which op story (inr (omega (arith, raise.within.low, (floor_in_sector b).0, log_high which))), still_did device.Nv op story i)
   goes task _ story (cleared cancels type op own clear) keeps i =
       (out_keeps which op story (inr (omega (arith, clear.within.low, (row_in_sector type (own_signs b type own)).0, log_high which))), still_did device.Nv op story i)
-  goes task _ story (untrusted checks cause) keeps i = aside (what.Untrusted b cause) story tt (λ s. refl) i
-  goes task _ story (refused cause may) keeps i = aside (what.Refused b cause) story tt (λ s. refl) i
-  goes task _ story (resumed resumes kind) keeps i = aside (what.Resumed b kind) story tt (λ s. refl) i
-  goes task _ story (given_up copies) keeps i = aside (what.Abandoned b) story tt (λ s. refl) i
-  goes task _ story (restored level) keeps i = aside (what.Restored b level) story tt (λ s. refl) i
-  goes task _ story (updated dynamic replaces svn) keeps i = aside (what.Updated b dynamic svn) story tt (λ s. refl) i
-  goes task _ story (recovery_updated copies svn floor) keeps i = aside (what.RecoveryUpdated b svn) story tt (λ s. refl) i
-  goes task _ story (cancelled cancels type id clear) keeps i = aside (what.Cancelled type id) story tt (λ s. refl) i
+  goes task _ story (untrusted checks cause) keeps i = aside (what.Untrusted b cause) story (tt, tt) (λ s. refl) i
+  goes task _ story (refused cause may) keeps i = aside (what.Refused b cause) story (tt, tt) (λ s. refl) i
+  goes task _ story (resumed resumes kind) keeps i = aside (what.Resumed b kind) story (tt, tt) (λ s. refl) i
+  goes task _ story (given_up copies) keeps i = aside (what.Abandoned b) story (tt, tt) (λ s. refl) i
+  goes task _ story (restored level) keeps i = aside (what.Restored b level) story (tt, tt) (λ s. refl) i
+  goes task _ story (updated dynamic replaces svn) keeps i = aside (what.Updated b dynamic svn) story (tt, tt) (λ s. refl) i
+  goes task _ story (recovery_updated copies svn floor) keeps i = aside (what.RecoveryUpdated b svn) story (tt, tt) (λ s. refl) i
+  goes task _ story (cancelled cancels type id clear) keeps i = aside (what.Cancelled type id) story (tt, tt) (λ s. refl) i
 
   ends : (task : Task) (move : Move) (story : Story) → Ended accepts b task IsOne story move → IsStill story → KeepsIdle which move story
-  ends task _ story (released fuses m ready j known) i = λ one. subst (λ (w : Bank). open_job (store story) w ≡ job.None) (same_one which b one) (known one).none
-  ends task _ story (unready cause e) i = tt
-  ends task _ story (no_image fuses cause other ready j known) i = tt
-  ends task _ story (no_recovery expires fuses cause ready j known) i = tt
-  ends task _ story (spent expires) i = tt
+  ends task _ story (released fuses m ready j known) i = (refl, λ one. subst (λ (w : Bank). open_job (store story) w ≡ job.None) (same_one which b one) (known one).none)
+  ends task _ story (unready cause e) i = (refl, tt)
+  ends task _ story (no_image fuses cause other ready j known) i = (refl, tt)
+  ends task _ story (no_recovery expires fuses cause ready j known) i = (refl, tt)
+  ends task _ story (spent expires) i = (refl, tt)
 
   idle_table : (task : Task) → Table (KeepsIdle which) IsStill accepts b task IsOne
   idle_table task = record { asks = λ d story own. tt; goes = goes task; ends = ends task }
@@ -85,10 +85,10 @@ module _ (accepts : Acceptance) (which b : Bank) where
 
   module _ (story : Story) (size : length (store story) ≡ 32768) where
     pub brought_idle : (IsOne → CanBeWorked b (noted (what.Held b) story)) → AllSafe (KeepsIdle which) (brought_up accepts b story) story
-    brought_idle known = brought_worked (KeepsIdle which) IsStill accepts b IsOne (idle_table Brings) story size known tt (held_still story)
+    brought_idle known = brought_worked (KeepsIdle which) IsStill accepts b IsOne (idle_table Brings) story size known (refl, tt) (held_still story)
 
     pub expired_idle : (IsOne → IsClosed b (noted (what.Held b) (noted (λ _. what.Expired b (level_at b story)) story))) → AllSafe (KeepsIdle which) (expired accepts b story) story
-    expired_idle known = expired_worked (KeepsIdle which) IsStill accepts b IsOne (idle_table Expires) story size known tt tt (held_still (noted (λ _. what.Expired b (level_at b story)) story))
+    expired_idle known = expired_worked (KeepsIdle which) IsStill accepts b IsOne (idle_table Expires) story size known (tt, tt) (refl, tt) (held_still (noted (λ _. what.Expired b (level_at b story)) story))
 
     pub updating_idle : (intent : Intent) → (IsOne → IsClosed b (noted (what.Held b) story)) → AllSafe (KeepsIdle which) (updating accepts b intent story) story
-    updating_idle intent known = updating_worked (KeepsIdle which) IsStill accepts b IsOne intent (idle_table (Updates intent)) story size known tt (held_still story)
+    updating_idle intent known = updating_worked (KeepsIdle which) IsStill accepts b IsOne intent (idle_table (Updates intent)) story size known (refl, tt) (held_still story)

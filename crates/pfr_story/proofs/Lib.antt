@@ -124,6 +124,8 @@ pub mod CheckLaws
 pub mod SafePlanLaws
 pub mod WholeLaws
 pub mod PowerRunLaws
+pub mod JoblessLaws
+pub mod ChangeRunLaws
 pub mod ScriptFaultLaws
 pub mod ApartLaws
 pub mod EachFaultLaws

@@ -97,7 +97,7 @@ open_both : (P Q R : Counts → Type 0) → ((begin : Counts) → P begin → Q 
 open_both P Q R f [] p q = tt
 open_both P Q R f (begin ∷ begins) p q = (f begin p.0 q.0, open_both P Q R f begins p.1 q.1)
 
-ended_map : (P Q : Counts → Counts → Type 0) → ((begin end : Counts) → P begin end → Q begin end) → (spans : List (Counts × Counts)) → AllEnded P spans → AllEnded Q spans
+pub ended_map : (P Q : Counts → Counts → Type 0) → ((begin end : Counts) → P begin end → Q begin end) → (spans : List (Counts × Counts)) → AllEnded P spans → AllEnded Q spans
 ended_map P Q f [] p = tt
 ended_map P Q f (span ∷ spans) p = (f span.0 span.1 p.0, ended_map P Q f spans p.1)
 
@@ -105,7 +105,7 @@ pub ended_append : (P : Counts → Counts → Type 0) (spans more : List (Counts
 ended_append P [] more p q = q
 ended_append P (span ∷ spans) more p q = (p.0, ended_append P spans more p.1 q)
 
-ended_closes : (P : Counts → Counts → Type 0) (end : Counts) (opens : List Counts) → AllOpen (λ begin. P begin end) opens → AllEnded P (closes end opens)
+pub ended_closes : (P : Counts → Counts → Type 0) (end : Counts) (opens : List Counts) → AllOpen (λ begin. P begin end) opens → AllEnded P (closes end opens)
 ended_closes P end [] p = tt
 ended_closes P end (begin ∷ begins) p = (p.0, ended_closes P end begins p.1)
 
@@ -119,7 +119,7 @@ pub opens_push : (which : Bank) (opens : List Counts) (notes : List Note) (note 
 opens_push which opens [] note = refl
 opens_push which opens (n ∷ notes) note = opens_push which (opens_after which n.what opens) notes note
 
-ended_push : (which : Bank) (opens : List Counts) (notes : List Note) (note : Note)
+pub ended_push : (which : Bank) (opens : List Counts) (notes : List Note) (note : Note)
     → ended_from which opens (notes ++ note ∷ []) ≡ ended_from which opens notes ++ ended which note.what (opens_from which opens notes)
 ended_push which opens [] note = append-nil (ended which note.what opens)
 ended_push which opens (n ∷ notes) note =
@@ -136,6 +136,15 @@ same_one bank.Pch bank.Pch e = refl
 abbrev pub IsSettledWhere : Bank → What → List ℕ → Type 0
 IsSettledWhere which (what.Released b svn counts) nv = same_bank which b ≡ true → IsSettled nv
 IsSettledWhere which that nv = Unit {0}
+
+-- the bank is released by this note
+abbrev pub IsReleaseOf : Bank → What → Type 0
+IsReleaseOf which (what.Released b svn counts) = same_bank which b ≡ true
+IsReleaseOf which that = ⊥
+
+settled_where : (which : Bank) (w : What) (nv : List ℕ) → IsSettledWhere which w nv → IsReleaseOf which w → IsSettled nv
+settled_where which (what.Released b svn counts) nv s r = s r
+settled_where which _ nv s r = absurd r
 
 -- P holds of spans that ended, and Q of those that are open here
 module _ (which : Bank) (P : Counts → Counts → Type 0) (Q : Counts → Type 0) (here : Counts) (ends : (begin : Counts) → Q begin → P begin here) where
@@ -160,13 +169,13 @@ module _ (which : Bank) (P : Counts → Counts → Type 0) (Q : Counts → Type 
   opening_if true counts spans opens e q p = ((staying spans opens p).0, (subst Q (sym e) (q refl), p.1))
   opening_if false counts spans opens e q p = staying spans opens p
 
-  noted_all : (w : What) (nv : List ℕ) → IsStamped w here → IsSettledWhere which w nv → (IsSettled nv → Q here) → (spans : List (Counts × Counts)) (opens : List Counts) → AreAll spans opens
+  pub noted_all : (w : What) → IsStamped w here → (IsReleaseOf which w → Q here) → (spans : List (Counts × Counts)) (opens : List Counts) → AreAll spans opens
       → AreAll (spans ++ ended which w opens) (opens_after which w opens)
-  noted_all (what.Held b counts) nv e s q spans opens p = closing_if (same_bank which b) counts spans opens e p
-  noted_all (what.Locked b cause counts) nv e s q spans opens p = closing_if (same_bank which b) counts spans opens e p
-  noted_all (what.Lost which counts) nv e s q spans opens p = closing counts spans opens e p
-  noted_all (what.Released b svn counts) nv e s q spans opens p = opening_if (same_bank which b) counts spans opens e (λ same. q (s same)) p
-  noted_all _ nv e s q spans opens p = staying spans opens p
+  noted_all (what.Held b counts) e q spans opens p = closing_if (same_bank which b) counts spans opens e p
+  noted_all (what.Locked b cause counts) e q spans opens p = closing_if (same_bank which b) counts spans opens e p
+  noted_all (what.Lost which counts) e q spans opens p = closing counts spans opens e p
+  noted_all (what.Released b svn counts) e q spans opens p = opening_if (same_bank which b) counts spans opens e q p
+  noted_all _ e q spans opens p = staying spans opens p
 
 -- where a span begins a release is noted
 module _ (which : Bank) (P : Counts → Type 0) where
@@ -424,8 +433,8 @@ module _ (accepts : Acceptance) where
       let here : Counts = counts_of story in
       let mine : Past = past_at (device_of which) story in
       let note : Note = record { item = story.item; what = w here } in
-      let q = noted_all which (IsKept accepts which mine story.nv) (IsOpen accepts which story) here (λ begin o. o.kept) (w here) (image_at device.Nv story) g.0 g.1
-      (λ settled. record { kept = begins_now accepts which mine story.nv here same refl; settled = settled })
+      let q = noted_all which (IsKept accepts which mine story.nv) (IsOpen accepts which story) here (λ begin o. o.kept) (w here) g.0
+      (λ release. record { kept = begins_now accepts which mine story.nv here same refl; settled = settled_where which (w here) (image_at device.Nv story) g.1 release })
       (ended_from which [] story.notes) (opens_from which [] story.notes) (k.closed, k.opened) in
       rw (ended_push which [] story.notes note, opens_push which [] story.notes note) q
 

@@ -1,7 +1,7 @@
 use Rattle.pfr.specs.Runs.{outside}
 use Rattle.pfr.specs.Top.{asked}
 use Rattle.pfr.proofs.BenchLemmas.{each_spans, each_releases, each_locks, each_brings_up, each_told, each_grows, each_provision}
-use Rattle.pfr.proofs.HeadlineLemmas.{each_counted, each_recoverable, each_powers}
+use Rattle.pfr.proofs.HeadlineLemmas.{each_counted, each_recoverable, each_powers, each_jobless}
 use Rattle.pfr.proofs.CommandLemmas.{breach, complete}
 use Rattle.pfr.proofs.TopLemmas.{files_spare, files_stay, others_kept, output_and_line}
 use Rattle.pfr.proofs.WorthLemmas.{worth_of}
@@ -100,3 +100,6 @@ returns-clause-recoverable g c = each_recoverable c.serve-finished.result.bench 
 
 pub returns-clause-powers : goal.returns-clause-powers
 returns-clause-powers g c = each_powers c.serve-finished.result.bench c.serve-finished.ensures.bench
+
+pub returns-clause-no_job : goal.returns-clause-no_job
+returns-clause-no_job g c = each_jobless c.serve-finished.result.bench c.serve-finished.ensures.bench
