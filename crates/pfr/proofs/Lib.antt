@@ -1,4 +1,3 @@
-pub mod GrowLemmas
 pub mod LoadLemmas
 pub mod StoreLemmas
 pub mod SourceLemmas
@@ -12,6 +11,7 @@ pub mod RunLemmas
 pub mod WordLemmas
 pub mod BenchLemmas
 pub mod HeadlineLemmas
+pub mod ScriptLemmas
 pub mod StoringLemmas
 pub mod AnswerLemmas
 pub mod MakingLemmas

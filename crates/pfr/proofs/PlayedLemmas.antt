@@ -24,10 +24,10 @@ use Rattle.pfr_story.specs.Turn.{next_item}
 use Rattle.pfr_story.specs.Run.{Did, Reached, CanRun, with_arm, with_arm_at}
 use Rattle.pfr_story.proofs.Turns.{Turn-moved}
 use Rattle.pfr_machine.specs.Worlds.{PlatformState}
-use Rattle.pfr.specs.Benches.{made_as, bank_room}
+use Rattle.pfr.specs.Benches.{KeepsLimits, made_as, bank_room}
 use Rattle.pfr.specs.Judging.{image_fits}
 use Rattle.pfr.specs.Loading.{HasSizes}
-use Rattle.pfr.specs.Played.{fresh, Plays, IsPlayedFrom, PlayedFrom, PlayedOf, IsRunOf, StoreLasts}
+use Rattle.pfr.specs.Played.{fresh, Plays, IsPlayedFrom, PlayedFrom, PlayedOf, IsRunOf}
 use Rattle.pfr.specs.declared.finished.Bench.{Bench}
 use Rattle.pfr.specs.declared.load.Loaded.{Loaded}
 use Rattle.pfr.specs.declared.playing.Played.{Played}
@@ -36,9 +36,9 @@ use Rattle.pfr.specs.declared.status.Role.TheVariants as role
 
 -- the platform is taken apart
 pub played_parts : (start : PlatformState (List Row)) (script : ScriptState) (items : List Item) (bench : Bench) (w : World) → Plays script items start w
-    → StoreLasts start.world.nv w.nv → bench.bmc.device ≡ w.bmc → bench.pch.device ≡ w.pch → bench.nv.device ≡ w.nv → bench.notes ≡ w.notes → AllText w.notes.list
+    → bench.bmc.device ≡ w.bmc → bench.pch.device ≡ w.pch → bench.nv.device ≡ w.nv → bench.notes ≡ w.notes → AllText w.notes.list
     → bench.engine ≡ start.engine → bench.script ≡ script → IsPlayedFrom start script items bench
-played_parts start script items bench w plays lasts bmc pch nv notes texts engine same = record {
+played_parts start script items bench w plays bmc pch nv notes texts engine same = record {
   plays = record {
     end = plays.end;
     reached = plays.reached;
@@ -49,7 +49,6 @@ played_parts start script items bench w plays lasts bmc pch nv notes texts engin
       notes = ap (λ (n : NotesState). n.list) notes ∙ plays.left.notes;
     };
   };
-  lasts = subst (λ (d : FlashState). StoreLasts start.world.nv d) (sym nv) lasts;
   texts = subst (λ (n : NotesState). AllText n.list) (sym notes) texts;
   judged_by = engine;
   scripted = same;
@@ -136,10 +135,10 @@ start_of d e bytes room is a = ap (λ (x : FlashState). x.start) is ∙ a.start
 room_of : (d e : FlashState) (bytes : List ℕ) (room : ℕ) → d ≡ e → Alike (new_device bytes room) e → d.room ≡ room
 room_of d e bytes room is a = ap (λ (x : FlashState). x.room) is ∙ a.room
 
-run_of : (wear : ℕ) (loaded : Loaded) (bench : Bench) (start : PlatformState (List Row)) (items : List Item) → HasSizes loaded
+run_of : (wear : ℕ) (loaded : Loaded) (bench : Bench) (start : PlatformState (List Row)) (items : List Item) → HasSizes loaded → KeepsLimits loaded.script
     → start ≡ record { world = fresh wear loaded.bmc.items loaded.pch.items loaded.nv.items; engine = loaded.engine }
     → IsPlayedFrom start loaded.script items bench → IsRunOf wear loaded bench items
-run_of wear loaded bench start items sizes is played =
+run_of wear loaded bench start items sizes limits is played =
     let w = fresh wear loaded.bmc.items loaded.pch.items loaded.nv.items in
     let end = played.plays.end in
     let left = played.plays.left in
@@ -159,8 +158,7 @@ run_of wear loaded bench start items sizes is played =
         reached = rw (made_alike bench.bmc.device _ _ bmc bmc_room, made_alike bench.pch.device _ _ pch pch_room, made_alike bench.nv.device _ _ nv nv_room) reached;
         left = left;
       };
-      grown = rw (made_alike bench.nv.device _ _ nv nv_room) (rw (ap (λ (s : PlatformState (List Row)). s.world.nv) is) at played.lasts).grows;
-      kept = rw (made_alike bench.nv.device _ _ nv nv_room) (rw (ap (λ (s : PlatformState (List Row)). s.world.nv) is) at played.lasts).keeps;
+      limits = subst KeepsLimits (sym played.scripted) limits;
       sizes = record {
         bmc = rw bmc (bank_size (length loaded.bmc.items) sizes.bmc);
         pch = rw pch (bank_size (length loaded.pch.items) sizes.pch);
@@ -179,10 +177,10 @@ run_of wear loaded bench start items sizes is played =
       script = played.scripted;
     }
 
-pub PlayedOf-from : (wear : ℕ) (loaded : Loaded) (start : PlatformState (List Row)) (played : Played) → HasSizes loaded
+pub PlayedOf-from : (wear : ℕ) (loaded : Loaded) (start : PlatformState (List Row)) (played : Played) → HasSizes loaded → KeepsLimits loaded.script
     → start ≡ record { world = fresh wear loaded.bmc.items loaded.pch.items loaded.nv.items; engine = loaded.engine }
     → PlayedFrom start loaded.script played → PlayedOf wear loaded played
-PlayedOf-from wear loaded start (Whole bench) sizes is from =
-    run_of wear loaded bench start bench.script.items sizes is (subst (λ (s : ScriptState). IsPlayedFrom start loaded.script s.items bench) (sym from.scripted) from)
-PlayedOf-from wear loaded start (Part bench) sizes is from =
-    (from.0, run_of wear loaded bench start (take from.0 bench.script.items) sizes is (subst (λ (s : ScriptState). IsPlayedFrom start loaded.script (take from.0 s.items) bench) (sym from.1.scripted) from.1))
+PlayedOf-from wear loaded start (Whole bench) sizes limits is from =
+    run_of wear loaded bench start bench.script.items sizes limits is (subst (λ (s : ScriptState). IsPlayedFrom start loaded.script s.items bench) (sym from.scripted) from)
+PlayedOf-from wear loaded start (Part bench) sizes limits is from =
+    (from.0, run_of wear loaded bench start (take from.0 bench.script.items) sizes limits is (subst (λ (s : ScriptState). IsPlayedFrom start loaded.script (take from.0 s.items) bench) (sym from.1.scripted) from.1))

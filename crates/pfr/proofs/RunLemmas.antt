@@ -47,14 +47,13 @@ part_run told before request loaded bench count found sound ran = record {
 }
 
 pub has_part : (wear : ℕ) (loaded : Loaded) (bench : Bench) (count : ℕ) → IsRunOf wear loaded bench (take count bench.script.items) → HasRun bench
-has_part wear loaded bench count ran = record { count = count; run = ran.run; grown = ran.grown; kept = ran.kept; sizes = ran.sizes; texts = ran.texts }
+has_part wear loaded bench count ran = record { count = count; run = ran.run; limits = ran.limits; sizes = ran.sizes; texts = ran.texts }
 
 pub has_whole : (wear : ℕ) (loaded : Loaded) (bench : Bench) → IsRunOf wear loaded bench bench.script.items → HasRun bench
 has_whole wear loaded bench ran = record {
   count = length bench.script.items;
   run = subst (λ (items : List Item). IsRun items bench) (sym (take-length bench.script.items)) ran.run;
-  grown = ran.grown;
-  kept = ran.kept;
+  limits = ran.limits;
   sizes = ran.sizes;
   texts = ran.texts;
 }

@@ -57,13 +57,13 @@ locks_as w item spare guards p = record { bmc = p.bmc; pch = p.pch; nv = p.nv; t
 has_counted : (bench : Bench) → HasRun bench → CountsFaults bench
 has_counted bench has =
     of_end (λ (w : World). LocksAreCounted w) bench has (locks_as has.run.end (end_of bench).item (end_of bench).notes.spare (end_of bench).guards
-    (Reached-locks_counted (acceptance bench.engine) bench.script.tears (take has.count bench.script.items) (fresh_of bench) has.run.end refl (no_fault bench) (few_taken has.count bench.script.items has.few) has.run.reached))
+    (Reached-locks_counted (acceptance bench.engine) bench.script.tears (take has.count bench.script.items) (fresh_of bench) has.run.end refl (no_fault bench) (few_taken has.count bench.script.items has.limits.few) has.run.reached))
 
 has_scripted : (bench : Bench) → HasRun bench → HasScriptsFaults bench
 has_scripted bench has =
     let items = take has.count bench.script.items in
     let reached =
-    Reached-by_script (acceptance bench.engine) bench.script.tears items (fresh_of bench) has.run.end (no_fault bench) (few_taken has.count bench.script.items has.few) has.run.reached in
+    Reached-by_script (acceptance bench.engine) bench.script.tears items (fresh_of bench) has.run.end (no_fault bench) (few_taken has.count bench.script.items has.limits.few) has.run.reached in
     record {
       count = has.count;
       end = has.run.end;
@@ -71,7 +71,7 @@ has_scripted bench has =
       left = has.run.left;
       arms = λ which.
           let all = all_arms bench which in
-          let few = arms_taken which has.count bench.script.items (has.arms which) in
+          let few = arms_taken which has.count bench.script.items (has.limits.arms which) in
           Reached-arms bench.script.tears which items (fresh_of bench) has.run.end (omega (arith, all, few)) reached ∙ all;
     }
 

@@ -2,8 +2,10 @@
 use Rattle.std.specs.Prelude.{◌≡◌, ℕ, ◌*◌, ◌/◌, List, [], Some, length, take}
 use Rattle.pfr_flash.specs.FlashState.{FlashState}
 use Rattle.pfr_flash.specs.MemFlash.{new_device}
-use Rattle.pfr_fuses.specs.Growth.{NeverGoesBack, KeepsProvision}
 use Rattle.pfr_engine.specs.Accepting.{acceptance}
+use Rattle.pfr_script.specs.Arms.{FewArms, FewItems}
+use Rattle.pfr_script.specs.ScriptState.{ScriptState}
+use Rattle.pfr_script.specs.Slots.{KnownSlots}
 use Rattle.pfr_script.specs.declared.item.Item.{Item}
 use Rattle.pfr_report.specs.Texts.{AllText}
 use Rattle.pfr_story.specs.Guards.{first_guards}
@@ -54,12 +56,17 @@ pub record IsRun (items : List Item) (bench : Bench) : Type 0 where
   pub reached : Reached (Did (acceptance bench.engine) bench.script.tears) items (fresh_of bench) end
   pub left : StandsAs end (end_of bench)
 
+-- what every script keeps: it has so few items and arms, and what it provisions are slots
+pub record KeepsLimits (script : ScriptState) : Type 0 where
+  pub few : FewItems script.items
+  pub arms : FewArms script.items
+  pub slots : KnownSlots script.items
+
 -- the first of its script's items were done, or all
 pub record HasRun (bench : Bench) : Type 0 where
   pub count : ℕ
   pub run : IsRun (take count bench.script.items) bench
-  pub grown : NeverGoesBack (fresh_of bench).nv bench.nv.device
-  pub kept : KeepsProvision (fresh_of bench).nv bench.nv.device
+  pub limits : KeepsLimits bench.script
   pub sizes : HasSizes (fresh_of bench)
   pub texts : AllText bench.notes.list
 

@@ -9,6 +9,7 @@ pub mod Faults
 pub mod Benches
 pub mod Promises
 pub mod Headline
+pub mod ScriptsFaults
 pub mod Played
 pub mod Storing
 pub mod Making

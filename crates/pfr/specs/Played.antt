@@ -1,8 +1,6 @@
 -- What was done of a script.
 use Rattle.std.specs.Prelude.{◌≡◌, ℕ, ◌≤◌, List, [], length, take}
-use Rattle.pfr_flash.specs.FlashState.{FlashState}
 use Rattle.pfr_flash.specs.MemFlash.{new_device}
-use Rattle.pfr_flash.specs.Moved.{Extends}
 use Rattle.pfr_engine.specs.Accepting.{acceptance}
 use Rattle.pfr_engine.specs.declared.row.Row.{Row}
 use Rattle.pfr_script.specs.ScriptState.{ScriptState}
@@ -15,8 +13,7 @@ use Rattle.pfr_story.specs.World.{World, state_at}
 use Rattle.pfr_story.specs.Run.{Did, Reached, takes_arm}
 use Rattle.pfr_machine.specs.Inside.{HasSizes}
 use Rattle.pfr_machine.specs.Worlds.{PlatformState}
-use Rattle.pfr_fuses.specs.Growth.{NeverGoesBack, KeepsProvision}
-use Rattle.pfr.specs.Benches.{fresh_of, end_of, StandsAs, IsRun, HasRooms, bank_room}
+use Rattle.pfr.specs.Benches.{fresh_of, end_of, StandsAs, IsRun, HasRooms, KeepsLimits, bank_room}
 use Rattle.pfr.specs.declared.finished.Bench.{Bench}
 use Rattle.pfr.specs.declared.load.Loaded.{Loaded}
 use Rattle.pfr.specs.declared.playing.Played.{Played}
@@ -44,16 +41,8 @@ pub record Plays (script : ScriptState) (items : List Item) (old : PlatformState
   pub reached : Reached (Did (acceptance old.engine) script.tears) items old.world end
   pub left : StandsAs end new
 
--- fuses were cleared in the store, and never taken back, and a slot that provisions the platform stayed
-pub record StoreLasts (old new : FlashState) : Type 0 where
-  pub start : new.start ≡ old.start
-  pub more : Extends old.ops new.ops
-  pub grows : NeverGoesBack old new
-  pub keeps : KeepsProvision old new
-
 pub record IsPlayedFrom (start : PlatformState (List Row)) (script : ScriptState) (items : List Item) (bench : Bench) : Type 0 where
   pub plays : Plays script items start (end_of bench)
-  pub lasts : StoreLasts start.world.nv bench.nv.device
   pub texts : AllText bench.notes.list
   pub judged_by : bench.engine ≡ start.engine
   pub scripted : bench.script ≡ script
@@ -65,8 +54,7 @@ PlayedFrom start script (Part bench) = (count : ℕ) × IsPlayedFrom start scrip
 -- these items were done, on a platform of what was loaded
 pub record IsRunOf (wear : ℕ) (loaded : Loaded) (bench : Bench) (items : List Item) : Type 0 where
   pub run : IsRun items bench
-  pub grown : NeverGoesBack (fresh_of bench).nv bench.nv.device
-  pub kept : KeepsProvision (fresh_of bench).nv bench.nv.device
+  pub limits : KeepsLimits bench.script
   pub sizes : HasSizes (fresh_of bench)
   pub texts : AllText bench.notes.list
   pub rooms : HasRooms wear bench

@@ -1,5 +1,5 @@
 -- What a bench promises.
-use Rattle.std.specs.Prelude.{◌≡◌, List}
+use Rattle.std.specs.Prelude.{◌≡◌, ℕ, List, take}
 use Rattle.pfr_flash.specs.declared.names.Bank.{Bank}
 use Rattle.pfr_engine.specs.Acceptance.{Acceptance}
 use Rattle.pfr_engine.specs.Accepting.{acceptance}
@@ -7,6 +7,7 @@ use Rattle.pfr_fuses.specs.Growth.{NeverGoesBack, KeepsProvision}
 use Rattle.pfr_script.specs.declared.item.Item.{Item}
 use Rattle.pfr_script.specs.declared.item.Item.TheVariants as item
 use Rattle.pfr_story.specs.EventPromises.{EventPromises}
+use Rattle.pfr_story.specs.JobPromises.{ChangesFuses}
 use Rattle.pfr_story.specs.World.{NoneFailed, World, story_of}
 use Rattle.pfr_story.specs.Run.{Did, Reached}
 use Rattle.pfr_story.specs.Spans.{ReleasedSpans}
@@ -35,6 +36,11 @@ KeepsFuses bench = NeverGoesBack (fresh_of bench).nv bench.nv.device
 abbrev pub StaysProvisioned : Bench → Type 0
 StaysProvisioned bench = KeepsProvision (fresh_of bench).nv bench.nv.device
 
+-- Behind each update of the recovery area the floor was that of its capsule at least, and each key that was cancelled stayed so, at the
+-- counts of each later note and at the end.
+abbrev pub KeepsChanges : Bench → Type 0
+KeepsChanges bench = ChangesFuses (fresh_of bench) (end_of bench)
+
 -- an item that does nothing that is noted: an arm adds no note, and no call of a device answers a fault
 pub record IsUnheard (old new : World) : Type 0 where
   pub notes : new.notes.list ≡ old.notes.list
@@ -50,6 +56,6 @@ pub record IsRunWith (Goes : Item → World → World → Type 0) (items : List 
   pub reached : Reached (λ item old new. Did (acceptance bench.engine) bench.script.tears item old new × Goes item old new) items (fresh_of bench) end
   pub left : StandsAs end (end_of bench)
 
--- Each event of the run kept all that an event promises.
+-- Each event of the run kept all that an event promises. What was done are the first items of the script.
 abbrev pub KeepsEventPromises : Bench → Type 0
-KeepsEventPromises bench = (items : List Item) → IsRun items bench → IsRunWith (KeepsPromise (acceptance bench.engine)) items bench
+KeepsEventPromises bench = (count : ℕ) → IsRun (take count bench.script.items) bench → IsRunWith (KeepsPromise (acceptance bench.engine)) (take count bench.script.items) bench

@@ -8,7 +8,7 @@ ghost use Rattle.pfr_machine.specs.Worlds.{SameButRoom};
 ghost use Rattle.pfr.specs.Benches.{bank_room};
 ghost use Rattle.pfr.specs.Judging.{image_fits};
 ghost use Rattle.pfr.specs.Loading.{HasSizes};
-ghost use Rattle.pfr.specs.Played.{CanDo, Plays, PlayedFrom, PlayedOf, StoreLasts, fresh};
+ghost use Rattle.pfr.specs.Played.{CanDo, Plays, PlayedFrom, PlayedOf, fresh};
 ghost use Rattle.pfr.specs.declared.status.Role.TheVariants as role;
 
 use crate::finished::Bench;
@@ -66,7 +66,6 @@ fn do_item(
     requires items { platform.old.world.item < 67108863 }
     requires can { CanDo (length script.now.tears) item.now platform.old.world }
     ensures ok { OnOk result (Did (acceptance platform.old.engine) script.now.tears item.now platform.old.world platform.new.world) }
-    ensures lasts { OnOk result (StoreLasts platform.old.world.nv platform.new.world.nv) }
     ensures engine { platform.new.engine ≡ platform.old.engine }
     ensures texts { AllText platform.old.world.notes.list → AllText platform.new.world.notes.list }
     ensures err { OnErr result (SameButRoom platform.old platform.new) }
@@ -86,7 +85,6 @@ fn play(platform: &mut Platform<MemFlash, ListEngine>, script: &Script) -> Resul
     requires texts { AllText platform.old.world.notes.list }
     ensures ok { OnOk result (Plays script.now script.now.items platform.old platform.new.world) }
     ensures err { OnErr result ((count : ℕ) × Plays script.now (take count script.now.items) platform.old platform.new.world) }
-    ensures lasts { StoreLasts platform.old.world.nv platform.new.world.nv }
     ensures engine { platform.new.engine ≡ platform.old.engine }
     ensures texts { AllText platform.new.world.notes.list }
 {

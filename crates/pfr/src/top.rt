@@ -7,12 +7,12 @@ ghost use Rattle.pfr.specs.Checks.{CheckAnswers};
 ghost use Rattle.pfr.specs.Faults.{IsFaultless};
 ghost use Rattle.pfr.specs.Headline.{CountsNeverFall, PowerOnsReleaseIn, RecoversThroughout, RunsWithoutJobs};
 ghost use Rattle.pfr.specs.Judging.{Keeps, Breaks, verdict};
-ghost use Rattle.pfr.specs.Promises.{HasReleasedSpans, ReleasesTrustedBanks, HasDueLocks, BringsBanksUp, KeepsFuses, StaysProvisioned, TellsOfFaults};
+ghost use Rattle.pfr.specs.Promises.{HasReleasedSpans, ReleasesTrustedBanks, LocksWithCause, KeepsEventPromises, KeepsChanges, KeepsFuses, StaysProvisioned};
 ghost use Rattle.pfr.specs.Makes.{KeepsAllBut, MakingAnswers};
 ghost use Rattle.pfr.specs.Making.{cert_names, cert_rows, cert_stores, make_names, make_rows, make_stores, provision_names, provision_rows, provision_stores};
 ghost use Rattle.pfr.specs.Request.{CertRequest, CheckRequest, MakeRequest, ProvisionRequest, RunRequest};
 ghost use Rattle.pfr.specs.Runs.{RunAnswers, outside};
-ghost use Rattle.pfr.specs.Storing.{KeepsOthers};
+ghost use Rattle.pfr.specs.ScriptsFaults.{CountsFaults, HasScriptsFaults, RunsCalm, StaysUndisturbed};
 ghost use Rattle.pfr.specs.Top.{Got, IsOrNoMemory, Output, StoresNothing, asked, rows_of, stored_names};
 ghost use Rattle.pfr.specs.Worth.{MakesWorthy};
 ghost use Rattle.pfr.specs.declared.words.Command.{Command};
@@ -116,23 +116,27 @@ pub fn pfr<S: Shelf, K: Sink>(
     ensures spans { IfSome result.bench HasReleasedSpans }
     ensures releases { IfSome result.bench ReleasesTrustedBanks }
 
-    // Each lock has its cause. At a power-on banks are locked, restored and released where they are to be; and at each
-    // event frames are filtered, updates judged and watches kept as a step promises it.
-    ensures locks { IfSome result.bench HasDueLocks }
-    ensures causes { IfSome result.bench BringsBanksUp }
-
-    // No fault of a device was passed over.
-    ensures told { IfSome result.bench TellsOfFaults }
-
-    // No floor and no cancellation goes back, and a provision stays.
-    ensures grows { IfSome result.bench KeepsFuses }
-    ensures provision { IfSome result.bench StaysProvisioned }
-
     // A bank that could be recovered at one moment could be at each later one, which the counts of the notes follow; and
     // where it was held at a power-on, that released it, unless a device failed.
-    ensures counted { IfSome result.bench CountsNeverFall }
     ensures recoverable { IfSome result.bench RecoversThroughout }
     ensures powers { IfSome result.bench PowerOnsReleaseIn }
+    ensures counted { IfSome result.bench CountsNeverFall }
+
+    // No floor and no cancellation goes back, a provision stays, and so does what was raised and cancelled.
+    ensures grows { IfSome result.bench KeepsFuses }
+    ensures provision { IfSome result.bench StaysProvisioned }
+    ensures changes { IfSome result.bench KeepsChanges }
+
+    // Each lock has its cause, and each event kept all that an event promises.
+    ensures locks { IfSome result.bench LocksWithCause }
+    ensures events { IfSome result.bench KeepsEventPromises }
+
+    // The script's failures and no other: each lock for a fault has its fault, devices fail as they are armed to, and a run
+    // in which nothing is armed and no room spent is a function of its files.
+    ensures faults { IfSome result.bench CountsFaults }
+    ensures scripted { IfSome result.bench HasScriptsFaults }
+    ensures undisturbed { IfSome result.bench StaysUndisturbed }
+    ensures calm { IfSome result.bench RunsCalm }
 
     // While a bank stands released no job of it is open.
     ensures no_job { IfSome result.bench RunsWithoutJobs }
@@ -173,8 +177,6 @@ pub fn pfr<S: Shelf, K: Sink>(
 
     // Every file but those that a command stores stays, whatever the status: of a run these are its three images. These
     // stay too, where nothing is to be stored.
-    ensures others { (request : RunRequest) → asked words.now ≡ Some (Run request) → S.tells ≡ true →
-        KeepsOthers request (S.files shelf.old) (S.files shelf.new) }
     ensures spares { (command : Command) → asked words.now ≡ Some command → S.tells ≡ true →
         KeepsAllBut (stored_names command) (S.files shelf.old) (S.files shelf.new) }
     ensures stays { StoresNothing (asked words.now) result.status → S.tells ≡ true → S.files shelf.new ≡ S.files shelf.old }

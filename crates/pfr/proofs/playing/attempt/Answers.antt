@@ -11,4 +11,5 @@ perform-requires-clause-can c =
 
 pub returns : goal.returns
 returns c =
-    PlayedOf-from c.args.wear c.args.loaded c.in_ok-platform.platform c.perform.result c.requires.sizes c.in_ok-platform.ensures c.perform.ensures
+    PlayedOf-from c.args.wear c.args.loaded c.in_ok-platform.platform c.perform.result c.requires.sizes
+    (rw (← c.script.view_is) (record { few = c.script.invariant.few; arms = c.script.invariant.arms; slots = c.script.invariant.slots })) c.in_ok-platform.ensures c.perform.ensures

@@ -3,7 +3,6 @@ use Rattle.pfr_engine.specs.Accepting.{acceptance}
 use Rattle.pfr_script.specs.declared.item.Item.{Item}
 use Rattle.pfr_story.specs.Run.{Did}
 use Rattle.pfr_story.proofs.RunLaws.{Reached-more, CanRun-more}
-use Rattle.pfr.proofs.GrowLemmas.{then_lasts}
 use Rattle.pfr.proofs.playing.play.Goals as goal
 
 pub loop-k-preserved : goal.loop-k-preserved
@@ -21,7 +20,6 @@ loop-k-preserved c =
     record {
       reached = Reached-more (Did accepts tears) items k i i c.args.platform.now.world old new inside is did c.loop-k.invariant.reached;
       can = CanRun-more accepts tears (length tears) items k i i old new inside is did c.loop-k.invariant.can;
-      lasts = then_lasts _ _ _ c.loop-k.invariant.lasts c.in_ok-do_item.ensures.lasts;
       engine = c.do_item.ensures.engine ∙ c.loop-k.invariant.engine;
       texts = c.do_item.ensures.texts c.loop-k.invariant.texts;
     }

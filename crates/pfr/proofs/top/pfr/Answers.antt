@@ -1,9 +1,10 @@
 use Rattle.pfr.specs.Runs.{outside}
 use Rattle.pfr.specs.Top.{asked}
-use Rattle.pfr.proofs.BenchLemmas.{each_spans, each_releases, each_locks, each_brings_up, each_told, each_grows, each_provision}
-use Rattle.pfr.proofs.HeadlineLemmas.{each_counted, each_recoverable, each_powers, each_jobless}
+use Rattle.pfr.proofs.BenchLemmas.{each_changes, each_events, each_grows, each_locks, each_provision, each_releases, each_spans}
+use Rattle.pfr.proofs.HeadlineLemmas.{each_counted, each_jobless, each_powers, each_recoverable}
+use Rattle.pfr.proofs.ScriptLemmas.{each_calm, each_counted_fault, each_scripted, each_undisturbed}
 use Rattle.pfr.proofs.CommandLemmas.{breach, complete}
-use Rattle.pfr.proofs.TopLemmas.{files_spare, files_stay, others_kept, output_and_line}
+use Rattle.pfr.proofs.TopLemmas.{files_spare, files_stay, output_and_line}
 use Rattle.pfr.proofs.WorthLemmas.{worth_of}
 use Rattle.pfr.proofs.top.pfr.Goals as goal
 
@@ -33,14 +34,6 @@ returns-clause-complete g c =
     let after = outside s.files s.faults s.failed k.written k.faults c.serve-finished.new.shelf c.serve-finished.new.out in
     complete s.tells before after (k.faults c.tell.new.out) (asked c.args.words.now) c.serve-finished.result.bench c.serve-finished.result.status c.tell.ensures.later
     (record { run = e.run; check = e.check; make = e.make; provision = e.furnish; cert = e.certify })
-
-pub returns-clause-others : goal.returns-clause-others
-returns-clause-others g c =
-    let s = g.S.Shelf in
-    let k = g.K.Sink in
-    λ request asks told. others_kept s.tells (outside s.files s.faults s.failed k.written k.faults c.args.shelf.now c.args.out.now)
-    (outside s.files s.faults s.failed k.written k.faults c.serve-finished.new.shelf c.serve-finished.new.out) request c.serve-finished.result.bench c.serve-finished.result.status
-    (c.serve-finished.ensures.run request asks) told
 
 pub returns-clause-spares : goal.returns-clause-spares
 returns-clause-spares g c =
@@ -77,11 +70,17 @@ returns-clause-spans g c = each_spans c.serve-finished.result.bench c.serve-fini
 pub returns-clause-releases : goal.returns-clause-releases
 returns-clause-releases g c = each_releases c.serve-finished.result.bench c.serve-finished.ensures.bench
 
-pub returns-clause-locks : goal.returns-clause-locks
-returns-clause-locks g c = each_locks c.serve-finished.result.bench c.serve-finished.ensures.bench
+pub returns-clause-recoverable : goal.returns-clause-recoverable
+returns-clause-recoverable g c = each_recoverable c.serve-finished.result.bench c.serve-finished.ensures.bench
 
-pub returns-clause-causes : goal.returns-clause-causes
-returns-clause-causes g c = each_brings_up c.serve-finished.result.bench c.serve-finished.ensures.bench
+pub returns-clause-powers : goal.returns-clause-powers
+returns-clause-powers g c = each_powers c.serve-finished.result.bench c.serve-finished.ensures.bench
+
+pub returns-clause-counted : goal.returns-clause-counted
+returns-clause-counted g c = each_counted c.serve-finished.result.bench c.serve-finished.ensures.bench
+
+pub returns-clause-no_job : goal.returns-clause-no_job
+returns-clause-no_job g c = each_jobless c.serve-finished.result.bench c.serve-finished.ensures.bench
 
 pub returns-clause-grows : goal.returns-clause-grows
 returns-clause-grows g c = each_grows c.serve-finished.result.bench c.serve-finished.ensures.bench
@@ -89,17 +88,23 @@ returns-clause-grows g c = each_grows c.serve-finished.result.bench c.serve-fini
 pub returns-clause-provision : goal.returns-clause-provision
 returns-clause-provision g c = each_provision c.serve-finished.result.bench c.serve-finished.ensures.bench
 
-pub returns-clause-told : goal.returns-clause-told
-returns-clause-told g c = each_told c.serve-finished.result.bench c.serve-finished.ensures.bench
+pub returns-clause-changes : goal.returns-clause-changes
+returns-clause-changes g c = each_changes c.serve-finished.result.bench c.serve-finished.ensures.bench
 
-pub returns-clause-counted : goal.returns-clause-counted
-returns-clause-counted g c = each_counted c.serve-finished.result.bench c.serve-finished.ensures.bench
+pub returns-clause-locks : goal.returns-clause-locks
+returns-clause-locks g c = each_locks c.serve-finished.result.bench c.serve-finished.ensures.bench
 
-pub returns-clause-recoverable : goal.returns-clause-recoverable
-returns-clause-recoverable g c = each_recoverable c.serve-finished.result.bench c.serve-finished.ensures.bench
+pub returns-clause-events : goal.returns-clause-events
+returns-clause-events g c = each_events c.serve-finished.result.bench c.serve-finished.ensures.bench
 
-pub returns-clause-powers : goal.returns-clause-powers
-returns-clause-powers g c = each_powers c.serve-finished.result.bench c.serve-finished.ensures.bench
+pub returns-clause-faults : goal.returns-clause-faults
+returns-clause-faults g c = each_counted_fault c.serve-finished.result.bench c.serve-finished.ensures.bench
 
-pub returns-clause-no_job : goal.returns-clause-no_job
-returns-clause-no_job g c = each_jobless c.serve-finished.result.bench c.serve-finished.ensures.bench
+pub returns-clause-scripted : goal.returns-clause-scripted
+returns-clause-scripted g c = each_scripted c.serve-finished.result.bench c.serve-finished.ensures.bench
+
+pub returns-clause-undisturbed : goal.returns-clause-undisturbed
+returns-clause-undisturbed g c = each_undisturbed c.serve-finished.result.bench c.serve-finished.ensures.bench
+
+pub returns-clause-calm : goal.returns-clause-calm
+returns-clause-calm g c = each_calm c.serve-finished.result.bench c.serve-finished.ensures.bench
