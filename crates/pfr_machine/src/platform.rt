@@ -197,9 +197,14 @@ impl<F: Flash, E: Engine + Drop> Platform<F, E> {
     {
         let Platform { stage, engine } = self;
         match stage {
-            Stage::Fresh(Fresh {
-                bmc, pch, board, ..
-            }) => Parts {
+            Stage::Fresh(
+                Fresh {
+                    bmc,
+                    pch,
+                    board,
+                    ..
+                },
+            ) => Parts {
                 bmc,
                 pch,
                 nv: board.nv,

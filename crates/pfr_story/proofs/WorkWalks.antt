@@ -143,9 +143,10 @@ module _ (G : Rule) (I : Story → Type 0) (accepts : Acceptance) (b : Bank) (ta
         let moves : List Move = copied_again b fuses capsule story in
         let there : Story = after moves story in
         AllSafe-append On moves (asks b there ++ by_second_pass (job_notes b).given_up (job_notes b).recovery_updated b fuses (judged_recovery accepts b fuses there) there) story
-        (again_allowed On b jobs_on fuses capsule story)
-        (inl refl,
-        by_judged there (store_sized moves story ∙ sized) (λ h. still_says fuses story there (again_stands b fuses capsule story sized).logged.fuses (known h)) (judged_recovery accepts b fuses there) refl)
+        (again_allowed On b jobs_on fuses capsule story) (
+          inl refl,
+          by_judged there (store_sized moves story ∙ sized) (λ h. still_says fuses story there (again_stands b fuses capsule story sized).logged.fuses (known h)) (judged_recovery accepts b fuses there) refl,
+        )
       where
         by_judged : (there : Story) → IsSized there → (H → SaysFuses fuses there) → (judged : Result CapsuleState CapsuleFail) → judged_recovery accepts b fuses there ≡ judged
             → AllSafe On (by_second_pass (job_notes b).given_up (job_notes b).recovery_updated b fuses judged there) there
@@ -157,9 +158,10 @@ module _ (G : Rule) (I : Story → Type 0) (accepts : Acceptance) (b : Bank) (ta
         let moves : List Move = copied_over b fuses capsule story in
         let there : Story = after moves story in
         AllSafe-append On moves (asks b there ++ by_first_pass (job_notes b).given_up (job_notes b).recovery_updated accepts b fuses capsule (judged_recovery accepts b fuses there) there) story
-        (copy_allowed On b jobs_on fuses capsule story)
-        (inl refl,
-        by_judged there (store_sized moves story ∙ sized) (λ h. still_says fuses story there (copied_stands b fuses capsule story sized).logged.fuses (known h)) (judged_recovery accepts b fuses there) refl)
+        (copy_allowed On b jobs_on fuses capsule story) (
+          inl refl,
+          by_judged there (store_sized moves story ∙ sized) (λ h. still_says fuses story there (copied_stands b fuses capsule story sized).logged.fuses (known h)) (judged_recovery accepts b fuses there) refl,
+        )
       where
         by_same : (there : Story) → IsSized there → (H → SaysFuses fuses there) → (found : CapsuleState) → found.manifest.svn ≤ 127 → (same : Bool)
             → AllSafe On (by_digest same (job_notes b).given_up (job_notes b).recovery_updated accepts b fuses capsule found there) there
@@ -175,14 +177,16 @@ module _ (G : Rule) (I : Story → Type 0) (accepts : Acceptance) (b : Bank) (ta
     resume_on : Resumes task → (same : Bool) (capsule : CapsuleState) (kind : JobKind) (story : Story) → IsSized story → (H → SaysFuses fuses story) → AllSafe On (resumed_if same (job_notes b) accepts b fuses capsule kind story) story
     resume_on r false capsule kind story sized known = abandoned_on (resumes_copies task r) story
     resume_on r true capsule (ActiveFromRecovery level) story sized known =
-        let kind : JobKind = ActiveFromRecovery level in
-        (resumes r kind,
-        done_allowed On b jobs_on kind fuses capsule (what.Restored b level) (λ there. restored level) (noted (λ _. what.Resumed b kind) story))
+        let kind : JobKind = ActiveFromRecovery level in (
+          resumes r kind,
+          done_allowed On b jobs_on kind fuses capsule (what.Restored b level) (λ there. restored level) (noted (λ _. what.Resumed b kind) story),
+        )
     resume_on r true capsule (ActiveFromStaging dynamic) story sized known =
         let kind : JobKind = ActiveFromStaging dynamic in
-        let that : What = what.Updated b dynamic capsule.manifest.svn in
-        (resumes r kind,
-        done_allowed On b jobs_on kind fuses capsule that (λ there. updated dynamic (resumes_replaces task dynamic r) capsule.manifest.svn) (noted (λ _. what.Resumed b kind) story))
+        let that : What = what.Updated b dynamic capsule.manifest.svn in (
+          resumes r kind,
+          done_allowed On b jobs_on kind fuses capsule that (λ there. updated dynamic (resumes_replaces task dynamic r) capsule.manifest.svn) (noted (λ _. what.Resumed b kind) story),
+        )
     resume_on r true capsule RecoveryFromStaging story sized known =
         let told : Story = noted (λ _. what.Resumed b RecoveryFromStaging) story in
         (resumes r RecoveryFromStaging, work_on (resumes_copies task r) capsule told sized (λ h. still_says fuses story told refl (known h)))
@@ -349,13 +353,16 @@ module _ (G : Rule) (I : Story → Type 0) (accepts : Acceptance) (b : Bank) (ta
       let at : ℕ = row_at Two type + id / 8 in
       let op : Operation = Program at (fuse_byte id ∷ []) in
       let within : IsWithin (row_at Two type) 32 op = (clearing-within (row_at Two type) 32 id (omega (arith, few))).0 in
-      let inside : at + 1 ≤ length (store story) = omega (arith, size, few, (row_in_sector type (own_signs b type own)).1) in
-      ((cleared cancels type op own (record { within = within; clears = OnlyClears-program (store story) at (fuse_byte id ∷ []) inside }),
-      λ done torn. cleared cancels type done own (record {
-        within = torn_within (row_at Two type) 32 (store story) op done torn within;
-        clears = OnlyClears-torn (store story) at (fuse_byte id ∷ []) done torn;
-      })),
-      (inr refl, tt))
+      let inside : at + 1 ≤ length (store story) = omega (arith, size, few, (row_in_sector type (own_signs b type own)).1) in (
+        (
+          cleared cancels type op own (record { within = within; clears = OnlyClears-program (store story) at (fuse_byte id ∷ []) inside }),
+          λ done torn. cleared cancels type done own (record {
+            within = torn_within (row_at Two type) 32 (store story) op done torn within;
+            clears = OnlyClears-torn (store story) at (fuse_byte id ∷ []) done torn;
+          }),
+        ),
+        (inr refl, tt),
+      )
 
   cancel_on : Cancels task → (fuses : FusesState) (cert : Cert) (story : Story) → Fit fuses story → judged_cert accepts b fuses story ≡ Ok cert → use_judged accepts b fuses cert story ≡ Ok tt
       → AllSafe G (cancelled_key cert story) story × Way (IsClosed b) (after (cancelled_key cert story) story)

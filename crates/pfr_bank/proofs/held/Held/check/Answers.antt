@@ -27,10 +27,12 @@ keep-requires g c =
 pub invariant_of-result : goal.invariant_of-result
 invariant_of-result g c =
     let old : FlashState = g.F.Flash.device c.args.self.flash in
-    rw c.keep.ensures
-    (still_spells old (g.F.Flash.device c.active.new.flash) c.in-Ok.manifest _ c.args.layout.now (ends_content c.active.ensures.ends) c.requires.layout
-    (judged_spells (now old) c.args.self.bank c.args.fuses.now _ c.in-Ok.manifest (now_bytes old (g.met.F.Flash.holds_bytes c.args.self.flash))
-    (valid_here old _ c.args.layout.now c.requires.layout c.requires.valid) c.in-Ok.ensures.exact), refl)
+    rw c.keep.ensures (
+      still_spells old (g.F.Flash.device c.active.new.flash) c.in-Ok.manifest _ c.args.layout.now (ends_content c.active.ensures.ends) c.requires.layout
+          (judged_spells (now old) c.args.self.bank c.args.fuses.now _ c.in-Ok.manifest (now_bytes old (g.met.F.Flash.holds_bytes c.args.self.flash))
+          (valid_here old _ c.args.layout.now c.requires.layout c.requires.valid) c.in-Ok.ensures.exact),
+      refl,
+    )
 
 pub returns-in-Ok-clause-ok : goal.returns-in-Ok-clause-ok
 returns-in-Ok-clause-ok g c = rw c.keep.ensures c.in-Ok.ensures.ok
