@@ -11,10 +11,14 @@ import sys
 
 TOP = os.path.dirname(os.path.dirname(os.path.abspath(__file__)))
 
-# The clauses of a text, and the most lines that it may have. Beside these belong, once they are clauses, `recoverable` and `powers`
-# with 1,500 each, and the four of the headline in one text (spans, grows, recoverable, powers) with 1,950.
+# The clauses of a text, and the most lines that it may have: the headline's, each and together, and the script's failures.
+HEADLINE = ("spans", "grows", "recoverable", "powers", "provision", "changes", "no_job", "counted")
 MOST = (
     (("spans",), 1500),
+    (("recoverable",), 1500),
+    (("powers",), 1500),
+    (HEADLINE, 1950),
+    (("scripted",), 1100),
 )
 
 
