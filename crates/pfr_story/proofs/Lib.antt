@@ -130,4 +130,5 @@ pub mod InWorkWalks
 pub mod KeptWalks
 pub mod InWorkLaws
 pub mod PowerOrderLaws
+pub mod MigratingLaws
 pub mod ScriptRunLaws
