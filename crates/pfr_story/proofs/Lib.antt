@@ -136,5 +136,6 @@ pub mod InWorkWalks
 pub mod KeptWalks
 pub mod InWorkLaws
 pub mod PowerOrderLaws
+pub mod MigratingLaws
 pub mod ScriptRunLaws
 pub mod PromiseLaws

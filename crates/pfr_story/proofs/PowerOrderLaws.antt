@@ -36,16 +36,16 @@ use Rattle.pfr_story.proofs.WorkWalks.{brought_worked}
 use Rattle.pfr_story.proofs.WorldLaws.{AllMoved-refl}
 
 -- good moves of this rule keep what it is named by
-abbrev Carrying : (Story → Type 0) → Rule
+abbrev pub Carrying : (Story → Type 0) → Rule
 Carrying J move story = J story → J (moved_by move story)
 
-carries : (J : Story → Type 0) → Keeps (Carrying J) J
+pub carries : (J : Story → Type 0) → Keeps (Carrying J) J
 carries J move story good j = good j
 
-whole_carries : (J : Story → Type 0) (moves : List Move) (story : Story) → AllSafe (Carrying J) moves story → J story → J (after moves story)
+pub whole_carries : (J : Story → Type 0) (moves : List Move) (story : Story) → AllSafe (Carrying J) moves story → J story → J (after moves story)
 whole_carries J moves story safe j = kept_by (Carrying J) J (carries J) moves story (safe_whole (Carrying J) moves story safe) j
 
-cut_carries : (J : Story → Type 0) (which : Device) (moves trace : List Move) (story : Story) → AllSafe (Carrying J) moves story → IsCut which moves story trace → J story → J (after trace story)
+pub cut_carries : (J : Story → Type 0) (which : Device) (moves trace : List Move) (story : Story) → AllSafe (Carrying J) moves story → IsCut which moves story trace → J story → J (after trace story)
 cut_carries J which moves trace story safe cut j = kept_by (Carrying J) J (carries J) trace story (safe_cut (Carrying J) which moves trace story safe cut) j
 
 -- by the notes before the event, and how much each bank's device had done

@@ -31,6 +31,7 @@ pub mod EachFault
 pub mod OneSlot
 pub mod InWork
 pub mod PowerOrder
+pub mod Migrating
 pub mod CalmRun
 pub mod JobPromises
 pub mod Contents
