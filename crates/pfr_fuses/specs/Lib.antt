@@ -4,6 +4,7 @@ pub mod Slots
 pub mod FuseMap
 pub mod FusesState
 pub mod FusesOf
+pub mod Floors
 pub mod FuseRows
 pub mod Growth
 pub mod Changes

@@ -1,5 +1,6 @@
 // The floor of a bank, of a store that is at rest.
 ghost use Rattle.std.specs.Prelude.{◌≡◌, length};
+ghost use Rattle.pfr_fuses.specs.Floors.{floor_in_store};
 ghost use Rattle.pfr_fuses.specs.FuseMap.{IsFloor, profile_of};
 ghost use Rattle.pfr_fuses.specs.FusesOf.{floor_fuses};
 
@@ -25,7 +26,8 @@ fn floor_fuses(store: &[u8], profile: Profile, bank: Bank) -> FuseRow<16>
 /// The floor of a bank that the bytes of a store say, in either profile. The store may be one without a provision.
 pub fn floor_in_store(store: &[u8], bank: Bank) -> u32
     requires { length store.now ≡ 32768 }
-    ensures { IsFloor store.now bank result }
+    ensures exact { result ≡ floor_in_store store.now bank }
+    ensures stands { IsFloor store.now bank result }
 {
     floor_of(&floor_fuses(store, Profile::of_store(store), bank))
 }

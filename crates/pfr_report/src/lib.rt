@@ -15,4 +15,4 @@ pub use lines::write_note;
 pub use note::{LockWhy, Note, ProvisionWhy, Refusal, What};
 pub use notes::Notes;
 pub use verdict::{BankVerdict, Standing};
-pub use verdict_lines::write_verdict;
+pub use verdict_lines::{write_floor, write_verdict};

@@ -68,6 +68,13 @@ fn write_number<K: Sink>(
     write_pieces(out, &[bank_word(bank), b" ", subject, number, b"\n"])
 }
 
+/// Writes the line of a bank's floor. At `Err` a prefix of it was written.
+pub fn write_floor<K: Sink>(bank: Bank, floor: u32, out: &mut K) -> Result<(), SinkFail>
+    ensures { Writes K.tells K.written K.faults out.old out.new (line bank (codes "floor ") (decimal floor)) result }
+{
+    write_number(bank, b"floor ", floor, out)
+}
+
 // The line of an active image that isn't trusted.
 fn write_untrusted<K: Sink>(bank: Bank, why: ActiveFail, out: &mut K) -> Result<(), SinkFail>
     requires { IsFound active_failure why }
@@ -169,7 +176,7 @@ fn write_judged<K: Sink>(bank: Bank, verdict: &BankVerdict, out: &mut K) -> Resu
     requires { HasCauses verdict.now }
     ensures { Writes K.tells K.written K.faults out.old out.new (judged_lines bank verdict.now) result }
 {
-    write_number(bank, b"floor ", verdict.floor, out)?;
+    write_floor(bank, verdict.floor, out)?;
     write_line(bank, b"job ", job_word(verdict.job), out)?;
     write_active(bank, verdict.active, out)?;
     write_area(bank, Area::Recovery, verdict.recovery, out)?;
