@@ -179,15 +179,15 @@ class Names(unittest.TestCase):
         """These name the bench of what `pfr` answers, and of its devices nothing but what a device is. The script's tears are
         of no matter where no item is said to be done."""
         parts = {("pfr/src/finished.rt", "Finished"): ["bench"], ("pfr_flash/specs/MemFlash.antt", "MemState"): ["device"]}
-        for clause, more in (("spans", ["items"]), ("releases", ["items"]), ("locks", ["items"]), ("causes", ["items", "tears"])):
+        for clause, more in (("spans", ["items"]), ("releases", ["items"]), ("locks", ["items"])):
             parts["pfr_script/specs/ScriptState.antt", "ScriptState"] = more
             wanted = plain_names("pfr/src/top.rt", "pfr", clause, "Finished", parts)
             self.assertEqual(tool_names("pfr/" + clause), wanted, clause)
 
     def test_clauses_of_a_step(self):
-        for clause in ("turn", "provisions", "dark"):
-            types = "Platform Result NoMemory" + (" Event" if clause in ("turn", "provisions") else "")
-            types += " Engine" if clause == "turn" else ""
+        for clause in ("turn", "promises", "dark"):
+            types = "Platform Result NoMemory" + (" Event" if clause != "dark" else "")
+            types += " Engine" if clause != "dark" else ""
             wanted = plain_names("pfr_machine/src/platform.rt", "step", clause, types)
             self.assertEqual(tool_names("pfr_machine::Platform::step/" + clause), wanted, clause)
 

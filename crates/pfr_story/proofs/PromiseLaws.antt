@@ -29,6 +29,7 @@ use Rattle.pfr_story.proofs.InWorkLaws.{Turn-in_work}
 use Rattle.pfr_story.proofs.JudgedLaws.{Turn-judges}
 use Rattle.pfr_story.proofs.KeepingLaws.{trusted_now}
 use Rattle.pfr_story.proofs.LossLaws.{Turn-losses, Turn-lost, Turn-off}
+use Rattle.pfr_story.proofs.MigratingLaws.{Turn-migrates}
 use Rattle.pfr_story.proofs.NoteLaws.{Turn-distrusts, Turn-locks, Turn-releases, Turn-restores}
 use Rattle.pfr_story.proofs.OneSlotLaws.{Turn-one_slot}
 use Rattle.pfr_story.proofs.PowerOrderLaws.{Turn-in_order}
@@ -56,6 +57,7 @@ Turn-promises accepts e old new t held bmc pch nv spans slot =
       takes_up = Turn-takes_up accepts e old new nv t held bmc pch;
       heeds = Turn-heeds accepts e old new nv t held bmc pch;
       brings_up = Turn-brings accepts e old new nv t held bmc pch;
+      migrates = Turn-migrates accepts e old new nv held t;
       in_order = Turn-in_order accepts e old new nv t;
       powers = Turn-powers accepts e old new nv t held bmc pch;
       recoverable = Turn-recoverable accepts e old new t held bmc pch nv spans;

@@ -11,6 +11,7 @@ use Rattle.pfr_story.specs.Filtering.{FiltersSo}
 use Rattle.pfr_story.specs.Guarding.{Boots, Expires, GuardsFollow}
 use Rattle.pfr_story.specs.InWork.{StoreChangesInWork}
 use Rattle.pfr_story.specs.JobPromises.{Cancels, ChangesFuses, MarksAreHeeded, RecoveryUpdates, TakesJobsUp}
+use Rattle.pfr_story.specs.Migrating.{MigratesAtPower}
 use Rattle.pfr_story.specs.OneSlot.{ProvisionsOneSlot}
 use Rattle.pfr_story.specs.PowerOrder.{PowersInOrder}
 use Rattle.pfr_story.specs.Promises.{DistrustsWithCause, JudgesAtPower, LocksHaveCauses, LossesAreNoted, LostEnds, NotesBelong, NotesOff, ProvisionsSo, ReleasesTrusted, RestoresGood, RunningHasNoJob, StaysQuiet}
@@ -37,6 +38,8 @@ pub record EventPromises (accepts : Acceptance) (e : Event) (old new : World) : 
   pub heeds : MarksAreHeeded e accepts old new
   -- A power-on brings each bank up by its contents.
   pub brings_up : BringsUpCalm e accepts old new
+  -- A store that is provisioned is of profile 2 wherever it holds a bank, unless the store fails.
+  pub migrates : MigratesAtPower e old new
   -- It holds the BMC first, where nothing was done but to the store, and then the PCH, behind the work on the BMC.
   pub in_order : PowersInOrder e old new
   -- It releases a bank that can be recovered, within 34 operations a page.
