@@ -34,7 +34,7 @@ use Rattle.pfr_story.specs.Guards.{guard_at}
 use Rattle.pfr_story.specs.JobPlans.{job_notes, recovery_job, resumed}
 use Rattle.pfr_story.specs.Plans.{mine, store, restored, by_second, checked_again, judged_active, judged_staging, judged_recovery, by_recovery, by_active, tail, ready_in, ready_of, by_fuses, checked_then, by_ready, brought_up, level_after, by_capsule, recovered_with, by_level, expired_to, expired}
 use Rattle.pfr_story.specs.Safety.{Rule, AllSafe, AllMake}
-use Rattle.pfr_story.specs.Story.{Story, Move, Says, Does, Asks, after, moved_by, noted, called, device_of}
+use Rattle.pfr_story.specs.Story.{Story, Move, Says, Does, Asks, after, moved_by, noted, device_of}
 use Rattle.pfr_story.specs.UpdatePlans.{refused_so, updated, by_staged, active_updated, has_manifest, standing_capsule, by_room, by_manifest, by_new_recovery, recovery_updated, judged_cert, cancelled_key, by_use, by_cert, key_cancelled, by_intent, updated_with, updating}
 use Rattle.pfr_story.proofs.SafetyLaws.{AllSafe-append, image_noted}
 

@@ -5,11 +5,10 @@ use Rattle.std.proofs.lemmas.List.{take_all}
 use Rattle.std.proofs.lemmas.List.Elements.{All-from_recursion, recursion_from_All}
 use Rattle.std.specs.List.{All, AllByRecursion}
 use Rattle.std.specs.Prelude.{slice_index_or}
-use Rattle.pfr_flash.specs.FlashState.{FlashState, upto, now, size_of, op_count_of}
+use Rattle.pfr_flash.specs.FlashState.{upto, size_of}
 use Rattle.pfr_flash.specs.Layout.{IsBankSize}
 use Rattle.pfr_flash.specs.Moved.{Extends}
 use Rattle.pfr_flash.specs.Operation.{Operation, play}
-use Rattle.pfr_flash.specs.declared.names.Bank.{Bank}
 use Rattle.pfr_flash.specs.declared.names.Counts.{Counts}
 use Rattle.pfr_flash.proofs.PlayLemmas.{length-play}
 use Rattle.pfr_engine.specs.Acceptance.{Acceptance}
@@ -34,7 +33,7 @@ use Rattle.pfr_story.proofs.ChangedFuses.{floor_grows}
 use Rattle.pfr_story.proofs.ChangeLaws.{StaysFrom, rest_of, Turn-changes}
 use Rattle.pfr_story.proofs.GrownSteps.{Turn-grown}
 use Rattle.pfr_story.proofs.PowerRunLaws.{rise_tail, nothing_added}
-use Rattle.pfr_story.proofs.RunLaws.{Adds, IsLater, added_is, adds_then, armed_story}
+use Rattle.pfr_story.proofs.RunLaws.{IsLater, added_is, adds_then, armed_story}
 use Rattle.pfr_story.proofs.Traces.{noted_append, noted_right, upto_begins}
 use Rattle.pfr_story.proofs.TrustedRunLaws.{IsUnderway}
 use Rattle.pfr_story.proofs.WholeLaws.{sized_later, Reached-along, Recovers, recovers_refl, recovers_then, did_recovers, R, moments_append, rise_last, early}

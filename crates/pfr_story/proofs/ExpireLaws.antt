@@ -22,10 +22,10 @@ use Rattle.pfr_report.specs.declared.note.Note.{Note}
 use Rattle.pfr_report.specs.declared.note.What.{What}
 use Rattle.pfr_report.specs.declared.note.What.TheVariants as what
 use Rattle.pfr_story.specs.Guards.{guard_at}
-use Rattle.pfr_story.specs.Story.{Past, Story, Move, Says, after, counts_of, image_of, other_bank}
+use Rattle.pfr_story.specs.Story.{Past, Story, Says, after, counts_of, image_of, other_bank}
 use Rattle.pfr_story.specs.World.{World, story_of, AllMoved, added}
 use Rattle.pfr_story.specs.Course.{Stretch, Steps, lost, Follows}
-use Rattle.pfr_story.specs.Plans.{mine, store, level_after}
+use Rattle.pfr_story.specs.Plans.{level_after}
 use Rattle.pfr_story.specs.Standing.{Standing, Off, Held, Running, Locked, standing_of, is_running}
 use Rattle.pfr_story.specs.Turn.{expiry_stretch, is_due, stretch_if, stage_at, pass_note, is_idle, tick_course, boot_course, taken, begun, Turn}
 use Rattle.pfr_story.specs.Promises.{IsExpiring, Runs, RunningHasNoJob}

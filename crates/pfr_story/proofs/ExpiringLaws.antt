@@ -1,6 +1,6 @@
 -- What comes in a step of an expired watch of one bank.
 use Rattle.std.proofs.Common.{◌≡◌, ◌∙◌, ◌<◌, ◌≤◌, refl, sym, ap, subst, arith, ℕ, true, false, List, ◌∷◌, ◌++◌, length, ◌⊎◌, inl, inr, Result, Ok, Err}
-use Rattle.std.specs.Prelude.{nat_lt, not}
+use Rattle.std.specs.Prelude.{nat_lt}
 use Rattle.pfr_flash.specs.Bytes.{AreBytes}
 use Rattle.pfr_flash.specs.Layout.{IsBankSize}
 use Rattle.pfr_flash.specs.declared.layout.Layout.{Layout}
@@ -28,7 +28,6 @@ use Rattle.pfr_jobs.specs.declared.job.OpenJob.TheVariants as job
 use Rattle.pfr_recoverable.specs.Recoverable.{HasGoodRecovery}
 use Rattle.pfr_recoverable.proofs.StaysLaw.{fuses_one}
 use Rattle.pfr_script.specs.declared.event.Event.{Event}
-use Rattle.pfr_watch.specs.Watching.{expires}
 use Rattle.pfr_watch.specs.declared.watch.Watch.{Watch}
 use Rattle.pfr_report.specs.Texts.{IsNoted}
 use Rattle.pfr_report.specs.declared.note.LockWhy.TheVariants as why
@@ -38,15 +37,13 @@ use Rattle.pfr_report.specs.declared.note.What.TheVariants as what
 use Rattle.pfr_story.specs.Guards.{guard_at}
 use Rattle.pfr_story.specs.Story.{Story, Move, after, counts_of, device_of}
 use Rattle.pfr_story.specs.World.{World, story_of, AllMoved, added}
-use Rattle.pfr_story.specs.Course.{lost}
 use Rattle.pfr_story.specs.Plans.{mine, store, judged_recovery, restored, level_after, expired_to, expired}
-use Rattle.pfr_story.specs.Standing.{Held, Locked}
 use Rattle.pfr_story.specs.Turn.{begun}
 use Rattle.pfr_story.specs.Causes.{HasBadRecovery}
 use Rattle.pfr_story.specs.Promises.{AtCounts, IsExpiring}
 use Rattle.pfr_story.specs.Bringing.{IsOver, IsCalm, IsNotedBehind}
 use Rattle.pfr_story.specs.Making.{IsMadeFrom}
-use Rattle.pfr_story.specs.Guarding.{IsReached, IsReleasedAt, ExpiresAt, ExpiresBy, Expires}
+use Rattle.pfr_story.specs.Guarding.{IsReached, IsReleasedAt, ExpiresAt, ExpiresBy}
 use Rattle.pfr_story.proofs.WorldLaws.{AllMoved-trans}
 use Rattle.pfr_story.proofs.RestoreLaws.{stand_for, found_good}
 use Rattle.pfr_story.proofs.BringAllowed.{IsSized}

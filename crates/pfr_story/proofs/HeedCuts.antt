@@ -2,7 +2,6 @@
 use Rattle.std.proofs.Common.{◌≡◌, ◌≢◌, ◌∙◌, refl, sym, ap, subst, ℕ, Bool, List, [], ◌∷◌, ◌++◌, append_assoc, ◌⊎◌, inl, inr, Result}
 use Rattle.std.proofs.lemmas.List.{append-nil}
 use Rattle.pfr_flash.specs.Operation.{Operation}
-use Rattle.pfr_flash.specs.declared.layout.Layout.{Layout}
 use Rattle.pfr_flash.specs.declared.names.Bank.{Bank}
 use Rattle.pfr_flash.specs.declared.names.Counts.{Counts}
 use Rattle.pfr_flash.specs.declared.names.Device.{Device}
@@ -12,7 +11,6 @@ use Rattle.pfr_fuses.specs.FusesState.{FusesState}
 use Rattle.pfr_fuses.specs.RootSlot.{layout_of}
 use Rattle.pfr_capsule.specs.CapsuleState.{CapsuleState}
 use Rattle.pfr_capsule.specs.declared.fail.CapsuleFail.{CapsuleFail}
-use Rattle.pfr_jobs.specs.Log.{open_job}
 use Rattle.pfr_jobs.specs.declared.job.JobKind.{JobKind}
 use Rattle.pfr_jobs.specs.declared.job.JobKind.TheVariants.{ActiveFromRecovery, ActiveFromStaging, RecoveryFromStaging}
 use Rattle.pfr_jobs.specs.declared.job.OpenJob.{OpenJob}
@@ -26,9 +24,9 @@ use Rattle.pfr_report.specs.declared.note.What.{What}
 use Rattle.pfr_report.specs.declared.note.What.TheVariants as what
 use Rattle.pfr_story.specs.Causes.{IsResumable}
 use Rattle.pfr_story.specs.Deeds.{deed_moves}
-use Rattle.pfr_story.specs.JobPlans.{job_notes, same_digest, judged_source, work_of, resumed_if, by_source, by_open}
+use Rattle.pfr_story.specs.JobPlans.{job_notes, work_of, resumed_if, by_source, by_open}
 use Rattle.pfr_story.specs.JobPromises.{left_strokes, IsFailure, IsCutBehind}
-use Rattle.pfr_story.specs.Plans.{mine, store, ready_of, brought_up, checked_then}
+use Rattle.pfr_story.specs.Plans.{mine, store, brought_up, checked_then}
 use Rattle.pfr_story.specs.Safety.{AllMake}
 use Rattle.pfr_story.specs.Story.{Past, Story, Move, Says, Does, Asks, after, noted, operated, past_at, device_of}
 use Rattle.pfr_story.specs.Turn.{fault_of}

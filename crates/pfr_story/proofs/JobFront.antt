@@ -9,7 +9,6 @@ use Rattle.pfr_capsule.specs.CapsuleState.{CapsuleState}
 use Rattle.pfr_jobs.specs.LogPlans.{begin_plan}
 use Rattle.pfr_jobs.specs.LogState.{is_spent}
 use Rattle.pfr_jobs.specs.declared.job.JobKind.{JobKind}
-use Rattle.pfr_report.specs.declared.note.Note.{Note}
 use Rattle.pfr_report.specs.declared.note.What.{What}
 use Rattle.pfr_story.specs.JobPlans.{begun_job, finished_job, worked, written_over, by_log, with_job}
 use Rattle.pfr_story.specs.Plans.{store, asks_store}

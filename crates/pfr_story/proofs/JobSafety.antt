@@ -1,6 +1,6 @@
 -- What work on a bank's jobs goes by, and calls of the store in a bank's log: what they keep of it, and that they leave it one that
 -- can be recovered.
-use Rattle.std.proofs.Common.{◌≡◌, ◌∙◌, refl, sym, ap, subst, arith, ℕ, ◌+◌, ◌*◌, ◌<◌, List, [], ◌∷◌, length, ◌⊎◌, inl, inr, Option, Ok}
+use Rattle.std.proofs.Common.{◌≡◌, ◌∙◌, refl, sym, ap, subst, arith, ℕ, ◌+◌, ◌*◌, List, [], ◌∷◌, length, inl, inr, Option, Ok}
 use Rattle.pfr_flash.specs.Bytes.{AreBytes}
 use Rattle.pfr_flash.specs.Layout.{IsBankSize, IsValidLayout}
 use Rattle.pfr_flash.specs.Operation.{Operation, Program, IsTorn, applied, play}
@@ -27,11 +27,11 @@ use Rattle.pfr_jobs.proofs.LogLaws.{LastOf, nothing, found, last_of, page_inside
 use Rattle.pfr_jobs.proofs.BeginLaw.{log_low, log_high}
 use Rattle.pfr_jobs.proofs.CutLaws.{NoneBefore}
 use Rattle.pfr_jobs.proofs.FinishLaw.{finish_done}
-use Rattle.pfr_recoverable.specs.Recoverable.{HasGoodRecovery, HasRecoveryJob, IsRecoverable}
+use Rattle.pfr_recoverable.specs.Recoverable.{HasGoodRecovery, IsRecoverable}
 use Rattle.pfr_recoverable.proofs.CutLaw.{IsInLogs, recovery_logged, good_with}
 use Rattle.pfr_report.specs.declared.note.What.{What}
-use Rattle.pfr_story.specs.Story.{Story, Move, Says, Does, Asks, after, noted, operated, called, device_of}
-use Rattle.pfr_story.specs.Safety.{Rule, Both, IsSafe, AllGood, AllSafe}
+use Rattle.pfr_story.specs.Story.{Story, Move, Does, after, noted, operated, called, device_of}
+use Rattle.pfr_story.specs.Safety.{IsSafe, AllSafe}
 use Rattle.pfr_story.specs.Plans.{mine, store}
 use Rattle.pfr_story.specs.JobPlans.{finished_job}
 use Rattle.pfr_story.specs.Recovery.{HoldsIn, KeepsRecoverable}

@@ -1,12 +1,12 @@
 -- The cancellation of a key of a bank that isn't one of its recovery area leaves both banks ones that can be recovered.
-use Rattle.std.proofs.Common.{◌≡◌, ◌∙◌, refl, sym, ap, subst, arith, ℕ, ◌+◌, ◌/◌, ◌≤◌, ◌<◌, ◌≢◌, List, [], ◌∷◌, length, ◌⊎◌, inl, inr, Result, Ok, Err}
+use Rattle.std.proofs.Common.{◌≡◌, ◌∙◌, refl, sym, ap, subst, arith, ℕ, ◌+◌, ◌/◌, ◌<◌, ◌≢◌, List, [], ◌∷◌, length, ◌⊎◌, inl, inr, Result, Ok, Err}
 use Rattle.pfr_flash.specs.Bytes.{AreBytes}
 use Rattle.pfr_flash.specs.FuseRow.{fuse_byte, with_cleared}
 use Rattle.pfr_flash.specs.Layout.{IsBankSize, IsValidLayout}
 use Rattle.pfr_flash.specs.Names.{capsule_type, manifest_type}
 use Rattle.pfr_flash.specs.Operation.{Operation, Program, applied, play}
 use Rattle.pfr_flash.specs.Plan.{IsPart}
-use Rattle.pfr_flash.specs.Range.{AllWithin, SameOutside}
+use Rattle.pfr_flash.specs.Range.{SameOutside}
 use Rattle.pfr_flash.specs.declared.names.Bank.{Bank}
 use Rattle.pfr_flash.specs.declared.names.Bank.TheVariants as bank
 use Rattle.pfr_flash.specs.declared.names.ContentType.{ContentType}
@@ -33,15 +33,15 @@ use Rattle.pfr_jobs.specs.Log.{open_job}
 use Rattle.pfr_recoverable.specs.Recoverable.{HasGoodRecovery, IsRecoverable}
 use Rattle.pfr_recoverable.proofs.OtherLaw.{fuse_keeps, cancel_other, recovery_cancelled}
 use Rattle.pfr_recoverable.proofs.StaysLaw.{fuses_one}
-use Rattle.pfr_story.specs.Story.{Story, Plan, after, operated, called, other_bank}
+use Rattle.pfr_story.specs.Story.{Story, Plan, after, called, other_bank}
 use Rattle.pfr_story.specs.Safety.{AllSafe, Leads}
 use Rattle.pfr_story.specs.Plans.{mine, store, judged_recovery}
 use Rattle.pfr_story.specs.Recovery.{KeepsRecoverable}
 use Rattle.pfr_story.proofs.SafetyLaws.{image_called}
-use Rattle.pfr_story.proofs.JobSafety.{HoldsJobs, IsJobless, mine_called, nv_there, none_replacing, CanBe, IsGoodIn, calm_good}
+use Rattle.pfr_story.proofs.JobSafety.{HoldsJobs, IsJobless, mine_called, nv_there, none_replacing, CanBe, calm_good}
 use Rattle.pfr_story.proofs.JobSafetyOther.{KeepsBoth, safe_both}
 use Rattle.pfr_story.proofs.JobSafetyActive.{LeadsAt, leads_from}
-use Rattle.pfr_story.proofs.JobSafetyRecovery.{good_found, found_ok, one_capsule}
+use Rattle.pfr_story.proofs.JobSafetyRecovery.{good_found, found_ok}
 
 -- ---- the types of a bank
 -- it is one of the bank's own

@@ -1,7 +1,7 @@
 -- What else leaves a bank one that can be recovered: a migration of the fuses, and calls of its device while no job is open.
 use Rattle.std.proofs.Common.{◌≡◌, ◌∙◌, refl, sym, ap, subst, arith, ℕ, ◌+◌, ◌≤◌, List, [], ◌∷◌, length, ◌⊎◌, inl, inr, Result, Ok, Err}
 use Rattle.pfr_flash.specs.Bytes.{AreBytes}
-use Rattle.pfr_flash.specs.Operation.{Operation, applied, play, IsTorn}
+use Rattle.pfr_flash.specs.Operation.{Operation, applied, play}
 use Rattle.pfr_flash.specs.Plan.{IsPart}
 use Rattle.pfr_flash.specs.Range.{place_of, len_of}
 use Rattle.pfr_flash.specs.declared.names.Bank.{Bank}
@@ -21,11 +21,11 @@ use Rattle.pfr_capsule.specs.Good.{StandForBank}
 use Rattle.pfr_jobs.specs.Log.{log_at, open_job}
 use Rattle.pfr_jobs.proofs.BeginLaw.{log_low, log_high}
 use Rattle.pfr_jobs.proofs.CutLaws.{outside_keeps}
-use Rattle.pfr_recoverable.specs.Recoverable.{HasRecoveryJob, IsRecoverable}
+use Rattle.pfr_recoverable.specs.Recoverable.{HasRecoveryJob}
 use Rattle.pfr_recoverable.proofs.OtherLaw.{job_served}
 use Rattle.pfr_recoverable.proofs.StaysLaw.{fuses_one}
-use Rattle.pfr_story.specs.Story.{Story, Does, operated, device_of, all_do, after, called}
-use Rattle.pfr_story.specs.Safety.{IsSafe, AllSafe}
+use Rattle.pfr_story.specs.Story.{Story, Does, operated, device_of, called}
+use Rattle.pfr_story.specs.Safety.{AllSafe}
 use Rattle.pfr_story.specs.Plans.{mine, store, migration_by, migration_in}
 use Rattle.pfr_story.specs.Recovery.{LeavesTrue, KeepsRecoverable}
 use Rattle.pfr_story.proofs.SafetyLaws.{image_did, mine_operated, store_operated, called_safe}

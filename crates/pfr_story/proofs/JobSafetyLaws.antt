@@ -1,6 +1,5 @@
 -- Work on a bank's jobs leaves each bank one that can be recovered, at every cut, whatever it tore; and what it leads to.
-use Rattle.std.proofs.Common.{◌≡◌, refl, sym, ap, subst, ℕ, false, List, ◌++◌, Ok}
-use Rattle.pfr_flash.specs.declared.layout.Layout.{Layout}
+use Rattle.std.proofs.Common.{◌≡◌, refl, sym, subst, ℕ, false, Ok}
 use Rattle.pfr_flash.specs.declared.names.Bank.{Bank}
 use Rattle.pfr_flash.specs.declared.names.ContentType.{ContentType}
 use Rattle.pfr_engine.specs.Acceptance.{Acceptance}
@@ -24,7 +23,7 @@ use Rattle.pfr_story.specs.JobPlans.{JobNotes, judged_source, begun_job, with_jo
 use Rattle.pfr_story.specs.Recovery.{KeepsRecoverable}
 use Rattle.pfr_story.proofs.Sequence.{after-append}
 use Rattle.pfr_story.proofs.RestoreLaws.{found_good, found_staged}
-use Rattle.pfr_story.proofs.JobSafety.{HoldsJobs, IsJobless, CanBe, IsGoodIn}
+use Rattle.pfr_story.proofs.JobSafety.{HoldsJobs, IsJobless, IsGoodIn}
 use Rattle.pfr_story.proofs.JobSafetyActive.{IsActiveNext, regions_good, with_job_leads, leads_at}
 use Rattle.pfr_story.proofs.JobSafetyRecovery.{IsStaged, IsStagedNext, IsReplaced, staged_from, staged_can, begun_staged, recovery_work_leads, recovery_job_leads}
 use Rattle.pfr_story.proofs.JobSafetyResumed.{safe_for, good_behind, resumed_leads}

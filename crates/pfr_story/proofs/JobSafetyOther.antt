@@ -1,8 +1,8 @@
 -- What work on a bank's jobs does leaves the other bank one that can be recovered.
-use Rattle.std.proofs.Common.{◌≡◌, refl, sym, ap, subst, arith, ℕ, ◌+◌, ◌-◌, ◌/◌, ◌≤◌, ◌<◌, ◌≢◌, nat_le, Bool, true, false, if◌then◌else◌, List, [], ◌∷◌, length, ◌⊎◌, inl, inr}
+use Rattle.std.proofs.Common.{◌≡◌, refl, sym, subst, arith, ℕ, ◌+◌, ◌-◌, ◌/◌, ◌≤◌, ◌<◌, ◌≢◌, nat_le, Bool, true, false, if◌then◌else◌, List, [], ◌∷◌, length, ◌⊎◌, inl, inr}
 use Rattle.std.proofs.lemmas.Bool.Decides.{nat_tests}
 use Rattle.pfr_flash.specs.FuseRow.{clearing, fuse_byte}
-use Rattle.pfr_flash.specs.Operation.{Operation, Program, applied, play}
+use Rattle.pfr_flash.specs.Operation.{Operation, Program, applied}
 use Rattle.pfr_flash.specs.Plan.{IsPart}
 use Rattle.pfr_flash.specs.Range.{place_of, len_of, IsWithin, AllWithin}
 use Rattle.pfr_flash.specs.declared.names.Bank.{Bank}
@@ -18,7 +18,7 @@ use Rattle.pfr_jobs.specs.Log.{log_at, current_at}
 use Rattle.pfr_jobs.proofs.CutLaws.{outside_keeps}
 use Rattle.pfr_strokes.specs.Deeds.{Deed, Asks, Does}
 use Rattle.pfr_strokes.specs.declared.side.Side.TheVariants as side
-use Rattle.pfr_recoverable.specs.Recoverable.{HasGoodRecovery, HasRecoveryJob, IsRecoverable}
+use Rattle.pfr_recoverable.specs.Recoverable.{IsRecoverable}
 use Rattle.pfr_recoverable.proofs.CutLaw.{recovery_logged, job_logged}
 use Rattle.pfr_recoverable.proofs.OtherLaw.{raise_other}
 use Rattle.pfr_story.specs.Story.{Story, Move, Says as SaysMove, Does as DoesMove, Asks as AsksMove, moved_by, operated, device_of, other_bank, called}

@@ -1,6 +1,5 @@
 -- The pass of a job, as moves: what it keeps, and that it leaves the bank one that can be recovered, at every cut, whatever it tore.
-use Rattle.std.proofs.Common.{◌≡◌, ◌∙◌, refl, sym, ap, subst, arith, ℕ, zero, suc, ◌+◌, ◌*◌, ◌/◌, ◌%◌, ◌≤◌, ◌<◌, max, Bool, true, false, if◌then◌else◌, not, nat_le, nat_lt, List, [], ◌∷◌, ◌++◌, length, filter, All, ◌⊎◌, inl, inr, Option, Ok}
-use Rattle.std.proofs.lemmas.Bool.{cases_lt}
+use Rattle.std.proofs.Common.{◌≡◌, ◌∙◌, refl, sym, ap, subst, arith, ℕ, zero, suc, ◌+◌, ◌*◌, ◌/◌, ◌%◌, ◌≤◌, ◌<◌, max, Bool, true, false, if◌then◌else◌, not, List, [], ◌∷◌, ◌++◌, length, filter, All, ◌⊎◌, inl, inr, Option, Ok}
 use Rattle.std.proofs.lemmas.Bool.Decides.{nat_tests}
 use Rattle.std.proofs.Math.Nat.{div-lt_iff_lt-mul}
 use Rattle.pfr_flash.specs.Bytes.{AreBytes, bytes_at, and_bytes}
@@ -34,18 +33,18 @@ use Rattle.pfr_strokes.proofs.ReplacedLaws.{IsOneOf, pages_are}
 use Rattle.pfr_rebuilt.specs.ActiveCopying.{is_active_page, active_page, active_pages}
 use Rattle.pfr_rebuilt.specs.Copying.{holds_text, recovery_page, recovery_pages}
 use Rattle.pfr_rebuilt.specs.Passing.{group_pages, left_pages, active_heeding, active_ignoring, recovery_heeding, recovery_ignoring}
-use Rattle.pfr_recoverable.specs.Recoverable.{HasGoodRecovery, IsRecoverable}
+use Rattle.pfr_recoverable.specs.Recoverable.{HasGoodRecovery}
 use Rattle.pfr_recoverable.proofs.PassLaw.{IsMarkAt}
 use Rattle.pfr_recoverable.proofs.StaysLaw.{recovery_left}
-use Rattle.pfr_recoverable.proofs.CutLaw.{IsAtWork, IsJobDeed, work_kept}
-use Rattle.pfr_story.specs.Story.{Story, Says as SaysMove, Does as DoesMove, after, moved_by, operated, device_of}
+use Rattle.pfr_recoverable.proofs.CutLaw.{IsAtWork, work_kept}
+use Rattle.pfr_story.specs.Story.{Story, Does as DoesMove, after, moved_by, operated, device_of}
 use Rattle.pfr_story.specs.Deeds.{deed_move, deed_moves}
 use Rattle.pfr_story.specs.Safety.{IsSafe, AllSafe}
 use Rattle.pfr_story.specs.Plans.{mine, store}
 use Rattle.pfr_story.specs.Recovery.{KeepsRecoverable}
 use Rattle.pfr_story.proofs.SafetyLaws.{image_operated, mine_operated, store_operated}
 use Rattle.pfr_story.proofs.KeepLaws.{strokes_in, page_beside}
-use Rattle.pfr_story.proofs.JobSafety.{HoldsJobs, IsKept, kept_refl, kept_trans, kept_logged, nv_there, bank_there, own_logs, NoReplacing, calm_good, logged_safe}
+use Rattle.pfr_story.proofs.JobSafety.{IsKept, kept_refl, kept_trans, kept_logged, nv_there, bank_there, own_logs, NoReplacing, calm_good, logged_safe}
 
 -- ---- deeds of a pass
 -- it isn't one that was torn

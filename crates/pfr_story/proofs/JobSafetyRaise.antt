@@ -1,7 +1,6 @@
 -- The end of a recovery job, from a good recovery area on: the floor is raised and the job finished, and both banks stay ones that can
 -- be recovered.
 use Rattle.std.proofs.Common.{◌≡◌, ◌∙◌, refl, sym, ap, subst, arith, ℕ, ◌+◌, ◌-◌, ◌/◌, ◌≤◌, ◌<◌, nat_le, Bool, true, false, if◌then◌else◌, List, [], ◌∷◌, length, inl, inr, Ok}
-use Rattle.std.proofs.lemmas.Bool.Decides.{nat_tests}
 use Rattle.pfr_flash.specs.Bytes.{AreBytes}
 use Rattle.pfr_flash.specs.FuseRow.{clearing, fuse_byte, with_cleared}
 use Rattle.pfr_flash.specs.Layout.{IsBankSize, IsValidLayout}
@@ -40,7 +39,7 @@ use Rattle.pfr_story.specs.Plans.{mine, store}
 use Rattle.pfr_story.specs.JobPlans.{finished_job, raised_to, concluded}
 use Rattle.pfr_story.specs.Recovery.{HoldsIn, KeepsRecoverable}
 use Rattle.pfr_story.proofs.SafetyLaws.{image_called, Leads-then}
-use Rattle.pfr_story.proofs.JobSafety.{HoldsJobs, IsJobless, mine_called, nv_there, nv_called, IsGoodIn}
+use Rattle.pfr_story.proofs.JobSafety.{HoldsJobs, IsJobless, mine_called, nv_there, nv_called}
 use Rattle.pfr_story.proofs.JobSafetyOther.{KeepsBoth, safe_both, other_raised, raise_plan_cases}
 use Rattle.pfr_story.proofs.JobSafetyActive.{LeadsAt, leads_from, IsFinishing, closed_leads}
 

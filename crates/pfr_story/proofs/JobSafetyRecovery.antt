@@ -1,5 +1,5 @@
 -- A job that replaces a bank's recovery area leaves both banks ones that can be recovered, and the area good.
-use Rattle.std.proofs.Common.{◌≡◌, ◌∙◌, refl, sym, ap, subst, arith, ℕ, ◌+◌, ◌*◌, ◌/◌, ◌≤◌, ◌%◌, Bool, true, false, List, [], ◌∷◌, length, inl, inr, Result, Ok, Err}
+use Rattle.std.proofs.Common.{◌≡◌, ◌∙◌, refl, sym, ap, subst, arith, ℕ, ◌≤◌, Bool, true, false, List, length, inr, Result, Ok, Err}
 use Rattle.pfr_flash.specs.Bytes.{bytes_at}
 use Rattle.pfr_flash.specs.Operation.{play}
 use Rattle.pfr_flash.specs.declared.layout.Layout.{Layout}
@@ -30,13 +30,12 @@ use Rattle.pfr_strokes.proofs.PassLaws.{pass_strokes}
 use Rattle.pfr_rebuilt.specs.Copying.{recovery_pages, recovery_page, recovery_rebuilt}
 use Rattle.pfr_rebuilt.specs.Passing.{group_pages, recovery_heeding, recovery_ignoring}
 use Rattle.pfr_rebuilt.proofs.CopiedLaw.{copied_good, copied_played}
-use Rattle.pfr_recoverable.specs.Recoverable.{IsRecoverable}
 use Rattle.pfr_recoverable.proofs.CutLaw.{IsAtWork, good_with}
 use Rattle.pfr_recoverable.proofs.StaysLaw.{fuses_one}
 use Rattle.pfr_report.specs.declared.note.What.{What}
-use Rattle.pfr_story.specs.Story.{Story, Plan, then, after, other_bank}
+use Rattle.pfr_story.specs.Story.{Story, after, other_bank}
 use Rattle.pfr_story.specs.Deeds.{deed_moves}
-use Rattle.pfr_story.specs.Safety.{AllSafe, Leads}
+use Rattle.pfr_story.specs.Safety.{Leads}
 use Rattle.pfr_story.specs.Plans.{mine, store, asks, judged_staging, judged_recovery}
 use Rattle.pfr_story.specs.JobPlans.{begun_job, copied_over, copied_again, concluded, by_second_pass, second_pass, same_digest, by_digest, by_first_pass, recovery_work, recovery_job}
 use Rattle.pfr_story.specs.Recovery.{KeepsRecoverable}
@@ -46,7 +45,7 @@ use Rattle.pfr_story.proofs.RestoreLaws.{found_good, found_staged}
 use Rattle.pfr_story.proofs.JobSafety.{HoldsJobs, IsJobless, holds_kept, CanBe}
 use Rattle.pfr_story.proofs.JobSafetyPasses.{AllWork, IsPassed, all_passed, recovery_work as heeding_work, recovery_over, staged_safe}
 use Rattle.pfr_story.proofs.JobSafetyOther.{KeepsBoth, safe_both, other_deeds}
-use Rattle.pfr_story.proofs.JobSafetyActive.{LeadsAt, leads_from, leads_at, IsBegun, begun_at}
+use Rattle.pfr_story.proofs.JobSafetyActive.{LeadsAt, leads_from, leads_at, begun_at}
 use Rattle.pfr_story.proofs.JobSafetyRaise.{IsRecovered, concluded_leads}
 
 abbrev pub found_ok : CapsuleState → Result CapsuleState CapsuleFail

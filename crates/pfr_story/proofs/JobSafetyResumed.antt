@@ -1,6 +1,6 @@
 -- At a power-on the open job of a bank is resumed or given up: both banks stay ones that can be recovered, no job is open behind it, and
 -- where the bank could be recovered its recovery area is good.
-use Rattle.std.proofs.Common.{◌≡◌, ◌∙◌, refl, sym, ap, subst, ℕ, Bool, true, false, List, [], ◌∷◌, ◌++◌, length, inl, inr, Result, Ok, Err}
+use Rattle.std.proofs.Common.{◌≡◌, ◌∙◌, refl, sym, ap, ℕ, Bool, true, false, List, inl, inr, Result, Ok, Err}
 use Rattle.std.specs.Cmp.Lexicographic.{same_text, other_text}
 use Rattle.pfr_flash.specs.declared.layout.Layout.{Layout}
 use Rattle.pfr_flash.specs.declared.names.Bank.{Bank}

@@ -1,5 +1,5 @@
 -- While a job on a bank is done the other bank stays trusted, by the same manifest.
-use Rattle.std.proofs.Common.{◌≡◌, ◌∙◌, refl, sym, ap, subst, arith, ℕ, List, [], ◌∷◌, All}
+use Rattle.std.proofs.Common.{◌∙◌, refl, sym, ap, subst, arith, ℕ, List, [], ◌∷◌, All}
 use Rattle.std.proofs.lemmas.List.Elements.{All-push}
 use Rattle.pfr_flash.specs.Operation.{Operation, applied}
 use Rattle.pfr_flash.specs.declared.layout.Layout.{Layout}

@@ -1,5 +1,5 @@
 -- A provision writes nothing but the slot that it takes.
-use Rattle.std.proofs.Common.{◌≡◌, ◌∙◌, sym, ap, subst, arith, ℕ, ◌+◌, ◌-◌, ◌*◌, ◌≤◌, suc, zero, List, [], ◌∷◌, ◌++◌, length, take, inl, inr, Result, Ok, Err}
+use Rattle.std.proofs.Common.{◌≡◌, ◌∙◌, sym, ap, subst, arith, ℕ, ◌-◌, ◌*◌, ◌≤◌, suc, zero, List, [], ◌∷◌, ◌++◌, length, take, inl, inr, Result, Ok, Err}
 use Rattle.std.proofs.lemmas.Bool.{false≢true}
 use Rattle.std.proofs.lemmas.List.{append-nil}
 use Rattle.std.proofs.Math.Seq.{take-append-add}

@@ -1,6 +1,6 @@
 -- An update of the recovery area leaves the image trusted: it writes nothing that the trust reads but the floor, and that is raised to the
 -- version of the image's own manifest.
-use Rattle.std.proofs.Common.{◌≡◌, ◌∙◌, refl, sym, ap, subst, arith, ℕ, ◌+◌, ◌-◌, ◌≤◌, ◌<◌, Bool, true, false, List, length, All, ◌⊎◌, inl, inr, Result, Ok}
+use Rattle.std.proofs.Common.{◌≡◌, ◌∙◌, refl, sym, ap, subst, arith, ℕ, ◌+◌, ◌-◌, ◌≤◌, ◌<◌, true, false, List, length, All, ◌⊎◌, inl, inr, Result, Ok}
 use Rattle.std.proofs.lemmas.List.Elements.{All-filter, All-weaker}
 use Rattle.pfr_flash.specs.Bytes.{bytes_at}
 use Rattle.pfr_flash.specs.Layout.{AreApart, IsValidLayout}
@@ -19,7 +19,6 @@ use Rattle.pfr_fuses.specs.FusesOf.{fuses_of}
 use Rattle.pfr_fuses.specs.RootSlot.{layout_of}
 use Rattle.pfr_fuses.specs.declared.root_slot.RootSlot.{RootSlot}
 use Rattle.pfr_fuses.proofs.ClearingLemmas.{raised_cases}
-use Rattle.pfr_manifest.specs.Access.{static_regions}
 use Rattle.pfr_manifest.specs.Manifest.{IsManifestOf}
 use Rattle.pfr_manifest.specs.Regions.{IsRegion, is_static}
 use Rattle.pfr_manifest.specs.Spelling.{manifest_bytes}

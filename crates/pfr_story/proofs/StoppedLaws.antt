@@ -3,8 +3,6 @@ use Rattle.std.proofs.Common.{◌≡◌, ◌∙◌, refl, sym, ap, subst, ℕ, �
 use Rattle.pfr_flash.specs.Operation.{Operation}
 use Rattle.pfr_flash.specs.declared.names.Bank.{Bank}
 use Rattle.pfr_flash.specs.declared.names.Bank.TheVariants as bank
-use Rattle.pfr_flash.specs.declared.names.Counts.{Counts}
-use Rattle.pfr_flash.specs.declared.names.Device.{Device}
 use Rattle.pfr_flash.specs.declared.names.Device.TheVariants as device
 use Rattle.pfr_flash.proofs.RangeLemmas.{IsTorn-within}
 use Rattle.pfr_engine.specs.Acceptance.{Acceptance}
@@ -26,13 +24,12 @@ use Rattle.pfr_strokes.specs.Deeds.{Deed, Asks as AsksSide, Does as DoesSide, si
 use Rattle.pfr_strokes.specs.declared.side.Side.TheVariants as side
 use Rattle.pfr_report.specs.declared.note.What.{What}
 use Rattle.pfr_story.specs.Deeds.{deed_moves}
-use Rattle.pfr_story.specs.JobContents.{active_resumed}
 use Rattle.pfr_story.specs.JobPlans.{begun_job, finished_job, worked}
 use Rattle.pfr_story.specs.Plans.{mine, store}
 use Rattle.pfr_story.specs.Safety.{Rule, AllSafe, Keeps}
 use Rattle.pfr_story.specs.Stopping.{IsOpenOrMade}
 use Rattle.pfr_story.specs.World.{World, story_of}
-use Rattle.pfr_story.specs.Story.{Story, Move, Says, Does, Asks, after, moved_by, noted, counts_of, operated, called, past_at, image_of, device_of, IsCut}
+use Rattle.pfr_story.specs.Story.{Story, Move, Does, Asks, after, moved_by, counts_of, operated, called, past_at, image_of, device_of}
 use Rattle.pfr_story.proofs.AnewLaws.{MadeFrom}
 use Rattle.pfr_story.proofs.Endings.{IsBroken, Ending, ended_trace, ended_is, ended_good, ends_parts}
 use Rattle.pfr_story.proofs.Fronts.{told_past}
@@ -46,7 +43,7 @@ use Rattle.pfr_story.proofs.JobRestores.{made_digest}
 use Rattle.pfr_story.proofs.JobSafetyPasses.{mark_torn}
 use Rattle.pfr_story.proofs.JobSteps.{StandsSo, begun_stands, active_marks}
 use Rattle.pfr_story.proofs.JobWalks.{store_sized}
-use Rattle.pfr_story.proofs.SafetyLaws.{safe_cut, kept_by, image_called, image_operated, store_operated}
+use Rattle.pfr_story.proofs.SafetyLaws.{kept_by, image_called, image_operated, store_operated}
 
 module _ (b : Bank) where
   -- ---- moves that leave the device of the bank

@@ -2,7 +2,6 @@
 use Rattle.std.proofs.Common.{◌≡◌, arith, ◌∙◌, refl, sym, subst, ℕ, List, [], ◌∷◌, length, inl, inr}
 use Rattle.pfr_flash.specs.FlashState.{size_of}
 use Rattle.pfr_flash.specs.Operation.{Operation, applied}
-use Rattle.pfr_flash.specs.declared.flash.FlashFail.TheVariants.{Fault}
 use Rattle.pfr_flash.specs.declared.names.Bank.{Bank}
 use Rattle.pfr_flash.specs.declared.names.Bank.TheVariants as bank
 use Rattle.pfr_flash.specs.declared.names.Device.{Device}

@@ -1,7 +1,6 @@
 -- What each step promises of jobs, of updates of the recovery area and of cancelled keys.
-use Rattle.std.specs.Prelude.{◌≡◌, ◌≢◌, ◌⊎◌, ℕ, ◌+◌, ◌/◌, ◌≤◌, Bool, true, false, List, [], ◌∷◌, ◌++◌, length, All, Result, Ok, Err}
+use Rattle.std.specs.Prelude.{◌≡◌, ◌⊎◌, ℕ, ◌≤◌, Bool, true, false, List, ◌∷◌, ◌++◌, length, All, Result, Ok, Err}
 use Rattle.pfr_flash.specs.FlashState.{now, upto}
-use Rattle.pfr_flash.specs.Layout.{IsValidLayout}
 use Rattle.pfr_flash.specs.Operation.{Operation}
 use Rattle.pfr_flash.specs.Plan.{IsPart}
 use Rattle.pfr_flash.specs.declared.names.Bank.{Bank}
@@ -12,7 +11,6 @@ use Rattle.pfr_fuses.specs.FuseMap.{IsFloor, IsCancelled}
 use Rattle.pfr_fuses.specs.FusesState.{FusesState}
 use Rattle.pfr_fuses.specs.FusesOf.{fuses_of}
 use Rattle.pfr_fuses.specs.RootSlot.{layout_of}
-use Rattle.pfr_capsule.specs.Good.{IsGood}
 use Rattle.pfr_auth.specs.Areas.{judge_area}
 use Rattle.pfr_auth.specs.Judge.{judge_active}
 use Rattle.pfr_auth.specs.declared.areas.Area.TheVariants as Area
@@ -20,11 +18,9 @@ use Rattle.pfr_cert.specs.Applying.{judge_apply}
 use Rattle.pfr_cert.specs.Judge.{judge_cert}
 use Rattle.pfr_cert.specs.declared.cert.Cert.{Cert}
 use Rattle.pfr_cert.specs.declared.fail.CertFail.{CertFail}
-use Rattle.pfr_jobs.specs.Log.{open_job}
 use Rattle.pfr_jobs.specs.LogState.{is_marked, is_spent}
 use Rattle.pfr_jobs.specs.declared.job.JobKind.{JobKind}
 use Rattle.pfr_jobs.specs.declared.job.JobKind.TheVariants.{ActiveFromRecovery, ActiveFromStaging, RecoveryFromStaging}
-use Rattle.pfr_jobs.specs.declared.job.OpenJob.TheVariants as job
 use Rattle.pfr_rebuilt.specs.ActiveCopying.{active_page, active_pages}
 use Rattle.pfr_rebuilt.specs.Copying.{recovery_page, recovery_pages, recovery_rebuilt}
 use Rattle.pfr_rebuilt.specs.Passing.{group_pages, left_pages}

@@ -1,5 +1,5 @@
 -- What a plan looks at: the bytes of a bank and of the store, and what is judged of them.
-use Rattle.std.specs.Prelude.{ℕ, List, [], length, Result, Ok, Err}
+use Rattle.std.specs.Prelude.{ℕ, List, [], length, Result, Ok}
 use Rattle.pfr_flash.specs.Judging.{◌>>=◌, ◌>>◌, told_as}
 use Rattle.pfr_flash.specs.Layout.{judge_layout}
 use Rattle.pfr_flash.specs.declared.names.Bank.{Bank}
