@@ -12,7 +12,7 @@ use Rattle.pfr_jobs.specs.declared.job.OpenJob.TheVariants as job
 use Rattle.pfr_story.specs.Course.{Follows}
 use Rattle.pfr_story.specs.Keeping.{HasTrustedSpans, IsSettled}
 use Rattle.pfr_story.specs.Promises.{Runs}
-use Rattle.pfr_story.specs.Standing.{standing_of, standing_by, Running}
+use Rattle.pfr_story.specs.Standing.{standing_of, standing_by}
 use Rattle.pfr_story.specs.Story.{device_of}
 use Rattle.pfr_story.specs.Turn.{course, next_item, Turn}
 use Rattle.pfr_story.specs.World.{World, AreDevices, state_at, story_of}

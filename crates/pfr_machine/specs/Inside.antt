@@ -1,5 +1,5 @@
 -- What is true of a platform between two events, and while a bank is in work.
-use Rattle.std.specs.Prelude.{◌≡◌, ◌≢◌, ℕ, ◌*◌, ◌≤◌, List, [], length, true, false, Option, Some, None, Ok}
+use Rattle.std.specs.Prelude.{◌≡◌, ◌≢◌, ℕ, ◌*◌, ◌≤◌, List, [], length, true, false, Some, None, Ok}
 use Rattle.pfr_flash.specs.FlashState.{FlashState, now, size_of}
 use Rattle.pfr_flash.specs.Layout.{IsBankSize}
 use Rattle.pfr_flash.specs.declared.layout.Layout.{Layout}

@@ -1,6 +1,6 @@
 use Rattle.pfr_flash.proofs.RangeLemmas.{length-now}
 use Rattle.pfr_flash.proofs.EndsLemmas.{ends_content, then_ends}
-use Rattle.std.proofs.Common.{◌∙◌, ap, refl, inl, inr}
+use Rattle.std.proofs.Common.{◌∙◌, refl, inl, inr}
 use Rattle.std.proofs.lemmas.Result.{err_from_is_err_and}
 use Rattle.pfr_machine.proofs.VerdictLaw.{floor_told, job_by, told_is, told_means}
 use Rattle.pfr_machine.proofs.verdicts.verdict.Goals as goal

@@ -1,7 +1,6 @@
-use Rattle.std.proofs.Common.{ap, refl, sym, Bool, []}
+use Rattle.std.proofs.Common.{refl, []}
 use Rattle.pfr_story.specs.Course.{Stretch}
 use Rattle.pfr_story.specs.Turn.{update_stretch}
-use Rattle.pfr_story.specs.World.{story_of}
 use Rattle.pfr_story.proofs.Sequence.{Ran-refl}
 use Rattle.pfr_machine.specs.Working.{work_stretch}
 use Rattle.pfr_machine.specs.declared.working.Work.TheVariants.{Update}

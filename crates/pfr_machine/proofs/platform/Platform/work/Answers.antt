@@ -1,8 +1,5 @@
-use Rattle.std.proofs.Common.{subst, sym}
-use Rattle.pfr_story.specs.World.{World}
-use Rattle.pfr_machine.specs.Inside.{IsSound}
 use Rattle.pfr_machine.specs.Stages.{world_in}
-use Rattle.pfr_machine.proofs.SoundLemmas.{begun_rests, room_sound, sound_there, still_sound, ready_here, there_here, there_sound}
+use Rattle.pfr_machine.proofs.SoundLemmas.{begun_rests, sound_there, still_sound, ready_here, there_here, there_sound}
 use Rattle.pfr_machine.proofs.TurnLemmas.{turned}
 use Rattle.pfr_machine.proofs.platform.Platform.work.Goals as goal
 
