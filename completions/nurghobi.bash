@@ -23,13 +23,12 @@ _nurghobi() {
   local word=${COMP_WORDS[COMP_CWORD]}
   COMPREPLY=()
   if [ "$COMP_CWORD" -eq 1 ]; then
-    _nurghobi_words "$word" run check make provision cert demo
+    _nurghobi_words "$word" run check make provision cert
     return
   fi
   case ${COMP_WORDS[1]}:$COMP_CWORD in
     run:[2-6] | check:[2-5] | make:[23] | provision:[23] | cert:[25]) _nurghobi_files "$word" ;;
     run:7) _nurghobi_words "$word" {1..16} ;;
-    demo:3) _nurghobi_words "$word" 128 256 512 1024 2048 4096 8192 16384 ;;
     cert:3) _nurghobi_words "$word" bmc-manifest bmc-capsule pch-manifest pch-capsule ;;
     *) ;;
   esac
