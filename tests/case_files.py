@@ -8,7 +8,6 @@ import re
 
 import checker
 import day_scripts
-import demo
 import foreseer
 import frame_scripts
 import job_scripts
@@ -195,13 +194,6 @@ class Files:
         data = self.get(source)
         self.held[name] += data[int(begin, 0) : int(end, 0) if end else len(data)].hex().encode()
 
-    def demo(self, number, sectors):
-        """demo NUMBER SECTORS: the files of the platform of a number, and what `demo` writes, which leaves them as they are."""
-        found = demo.demo_files(int(number), int(sectors))
-        self.held.update(found)
-        self.held["@demo.report"] = demo.demo_text(found)
-        self.held.update({f"@demo.{name}": found[name] for name in ("bmc", "pch", "nv")})
-
     def drawn(self, number):
         """drawn N: the files of a platform and a script of frames, drawn from the number."""
         self.held.update(frame_scripts.drawn_files(int(number)))
@@ -252,7 +244,7 @@ class Files:
 
 LINES = (
     "platform source copy text script fill zeros folder seal turn put number into append keep change repeat"
-    " restored updated cut_restore frames certificate slot digits demo drawn drawn_day drawn_jobs sweep foresee verdicts".split()
+    " restored updated cut_restore frames certificate slot digits drawn drawn_day drawn_jobs sweep foresee verdicts".split()
 )
 
 
