@@ -11,16 +11,16 @@ definition.
 
 What is taken is each name in scope that a definition writes, so it may be more than is needed, as where a variable has the name
 of a definition. A struct that has a model is shown with the value that contracts see of it, and its fields aren't followed: how
-they stand for that value is a matter of the crate's proofs. What belongs to the kit is named at the end, and not printed. A call is shown
-by the first line of its comment, its signature, its conditions and the clause.
+they stand for that value is a matter of the crate's proofs. A call is shown by the first line of its comment, its signature, its
+conditions and the clause. What belongs to the kit is named at the end, and not printed.
 
 A struct that stands in the call's signature, one in a field of such a struct, and a record that is the value of such a one is
 followed only in those fields that the clause or a definition that it rests on names. The others may be left out, as no meaning
 depends on them: values of such a type are only handed on, to a definition that takes one, or asked for a field. Where one is
 used in another way, as compared, built, taken apart by its shape or ranged over, the type is followed whole, with the types of
-its fields; and so it is wherever this tool can't tell. A field that is left out may be a premise that each value of the type
-keeps, as that a device holds bytes: without it the clause reads no stronger. A type that is followed in part is printed with
-those fields alone, marked `in part`, and named at the end.
+its fields; and so it is wherever this tool can't tell. A field that is left out may say what each value of the type keeps, as
+that a device holds bytes: each value of a program keeps it, so the clause speaks of the same values without it. A type that is
+followed in part is printed with those fields alone, marked `in part`, and named at the end.
 
 Lines are counted that are neither blank nor the name of a file.
 """

@@ -31,7 +31,7 @@ both_rows_parse desc a b is =
     four_rows_front 1 desc Bmc a (rows_of desc Pch b) (bank_said desc Pch b) (omega arith) is.root is.bmc.manifest_key.key is.bmc.capsule_key.key last
 
 -- an engine that has a bank's four rows
-has_bank : (desc : Description) (bank : Bank) (active : List ℕ) (rows : List Row) → IsValue desc →
+pub has_bank : (desc : Description) (bank : Bank) (active : List ℕ) (rows : List Row) → IsValue desc →
     ((row : Row) → Contains (bank_said desc bank active) row → Contains rows row) → AcceptsText (acceptance rows) (rows_of desc bank active)
 has_bank desc bank active rows is within = rows_accepted rows (rows_of desc bank active) (λ spelled e.
     let value = bank_value desc bank is in

@@ -13,6 +13,11 @@ pub mod CertMade
 pub mod BlockSignedMade
 pub mod ByteLaws
 pub mod ChainMade
+pub mod DemoEngine
+pub mod DemoJudged
+pub mod DemoPayload
+pub mod DemoPlaced
+pub mod DemoSound
 pub mod EngineBoth
 pub mod EngineMade
 pub mod Form1Made

@@ -33,7 +33,7 @@ digest_short hashes.None h = omega arith
 digest_short (hashes.Sha256 digest) h = omega arith
 digest_short (hashes.Sha384 digest) h = omega arith
 
-region_short : (active : List ℕ) (region : RegionDescription) → length (region_bytes (region_of active region)) ≤ 64
+pub region_short : (active : List ℕ) (region : RegionDescription) → length (region_bytes (region_of active region)) ≤ 64
 unfolding region_of region_bytes zeros
 region_short active region =
     let hash : RegionHash = hash_of region.hash (bytes_between active region.start region.end) in

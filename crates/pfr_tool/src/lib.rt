@@ -5,7 +5,6 @@ mod bank_image;
 mod block;
 mod capsule;
 mod certificate;
-mod demo;
 mod engine_rows;
 mod form1;
 mod form2;
@@ -20,7 +19,6 @@ mod writing;
 
 pub use bank_image::{Made, make_bank};
 pub use certificate::{MadeCert, make_cert};
-pub use demo::{DemoFiles, demo};
 pub use pfr_description::{
     BankDescription, DescFail, DescWhy, Description, Field, FitPart, Form, HashKind,
     KeyDescription, PageUse, PublicKey, RegionDescription, SmbusDescription, read_description,
